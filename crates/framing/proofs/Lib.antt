@@ -1,0 +1,2 @@
+-- The claim over every list of offers.
+pub mod Chunks

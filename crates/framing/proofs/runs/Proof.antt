@@ -1,0 +1,110 @@
+-- The invariant: the call has come to byte i with no event.
+use Prim.Native.Nat.{ℕ, _-_}
+use mathlib.Core.Bool.{false}
+use mathlib.Core.List.{List, [], _∷_}
+use mathlib.Core.Logic.{⊎-elim}
+use mathlib.Core.Path.{_≡_, refl, sym, _∙_}
+use native.Mathlib.Omega.{arith}
+use borrow.Author.Needs.{needs}
+use types.Run.{OneOf}
+use denote.Enum.Declared.{tagOf}
+use lib.Dec.{eqb}
+use lib.ListN.{length}
+use Rattle.framing.specs.declared.Event.{Event}
+use Rattle.framing.specs.declared.Event.the-variants.{More, Setup, Piece, Message, Request, Response, Refused}
+use Rattle.framing.specs.Session.{saidBy}
+use Rattle.framing.specs.Laws.{legal-true, number-not-zero, turn-legal, turn-event, turn-end, Reaches, reaches-here, reaches-on, reaches-more}
+use Rattle.framing.proofs.Event as event
+use Rattle.framing.proofs.runs.Statement.{statement}
+use Rattle.framing.proofs.runs.Tie as tie
+
+-- the second arm of the `if let`: an event that has a number
+loud : (e : Event) (t : List ℕ) → OneOf (1 ∷ 2 ∷ 3 ∷ 4 ∷ 5 ∷ 6 ∷ []) (tagOf event.the-type e) → eqb (saidBy e t .number) 0 ≡ false
+loud More t h = absurd (⊎-elim (λ (q : 0 ≡ 1). omega arith) (⊎-elim (λ (q : 0 ≡ 2). omega arith) (⊎-elim (λ (q : 0 ≡ 3). omega arith) (⊎-elim (λ (q : 0 ≡ 4). omega arith) (⊎-elim (λ (q : 0 ≡ 5). omega arith) (λ (q : 0 ≡ 6). omega arith))))) h)
+loud Setup t h = refl
+loud (Piece d) t h = refl
+loud (Message n d) t h = refl
+loud Request t h = refl
+loud Response t h = refl
+loud (Refused f d) t h = number-not-zero f
+
+abbrev Inv-loop : tie.InvT-loop
+Inv-loop store₀ chunk s₀ i₀ store s i = Reaches chunk 0 s₀ store₀ i s store
+
+abbrev μ-loop : tie.MeasureT-loop
+μ-loop store₀ chunk s₀ i₀ store s i = length chunk - i
+
+loop-holds : tie.Need-loop-holds Inv-loop μ-loop
+loop-holds c = let a = c .before .before .args in reaches-here (a .chunk .now) 0 (a .session) (a .store .now) (legal-true (a .session) (a .store .now) (c .before .before .pre)) (omega arith)
+
+shared-slice-read-step : tie.Need-shared-slice-read-step Inv-loop μ-loop
+shared-slice-read-step c = omega arith
+
+step-requires : tie.Need-step-requires Inv-loop μ-loop
+step-requires c κs = let l = c .before .before .before .loop .inv .legal in (l .room, (l .frame, l .message))
+
+add-i : tie.Need-add-i Inv-loop μ-loop
+add-i c = omega arith
+
+enum-told : tie.Need-enum-told Inv-loop μ-loop
+enum-told c = search needs
+
+same-length : tie.Need-same-length Inv-loop μ-loop
+same-length c =
+    let l = c .before .before .before .before .before .before .before .before .loop in
+    let s = c .before .before .before .before .step in
+    let chunk = c .before .before .before .before .before .before .before .before .before .before .before .args .chunk .now in
+    let a = c .before .before .before .before .before .before .before .before .before .before .before .args in
+    turn-legal chunk (l .i) (l .s) (l .store) (s .result) (s .last .1 .1 .0) (l .inv .legal) (c .before .before .before .before .before .before .before .loop-test .taken) (s .ensures) .room ∙ sym (legal-true (a .session) (a .store .now) (c .before .before .before .before .before .before .before .before .before .before .before .pre) .room)
+
+returns : tie.Need-returns Inv-loop μ-loop
+returns c =
+    let l = c .before .before .before .before .before .before .before .before .loop in
+    let s = c .before .before .before .before .step in
+    let chunk = c .before .before .before .before .before .before .before .before .before .before .before .args .chunk .now in
+    l .inv .rest ∙ turn-event chunk (l .i) (l .s) (l .store) (s .result) (s .last .1 .1 .0) (l .inv .legal) (c .before .before .before .before .before .before .before .loop-test .taken) (s .ensures) (loud (s .result .event) (s .last .1 .1 .0) (c .match .keys2))
+
+ordinary-requires : tie.Need-ordinary-requires Inv-loop μ-loop
+ordinary-requires c κs =
+    let l = c .before .before .before .before .before .before .before .before .before .before .loop in
+    let s = c .before .before .before .before .before .before .step in
+    let chunk = c .before .before .before .before .before .before .before .before .before .before .before .before .before .args .chunk .now in
+    let m = reaches-more chunk (l .i) (l .s) (l .store) (s .result) (s .last .1 .1 .0) (l .inv .legal) (c .before .before .before .before .before .before .before .before .before .loop-test .taken) (s .ensures) (c .before .enum-told .given .1) in
+    (m .legal, m .inside)
+
+loop-less : tie.Need-loop-less Inv-loop μ-loop
+loop-less c = omega (arith, c .before .before .before .ordinary .ensures .forward, c .before .before .before .ordinary .ensures .inside)
+
+loop-again : tie.Need-loop-again Inv-loop μ-loop
+loop-again c =
+    let l = c .before .before .before .before .before .before .before .before .before .before .before .before .before .before .loop in
+    let s = c .before .before .before .before .before .before .before .before .before .before .step in
+    let chunk = c .before .before .before .before .before .before .before .before .before .before .before .before .before .before .before .before .before .args .chunk .now in
+    reaches-on (l .inv) (reaches-on (reaches-more chunk (l .i) (l .s) (l .store) (s .result) (s .last .1 .1 .0) (l .inv .legal) (c .before .before .before .before .before .before .before .before .before .before .before .before .before .loop-test .taken) (s .ensures) (c .before .before .before .before .before .enum-told .given .1)) (c .before .before .before .ordinary .ensures))
+
+same-length-2 : tie.Need-same-length-2 Inv-loop μ-loop
+same-length-2 c = let a = c .before .before .before .before .args in c .before .loop .inv .legal .room ∙ sym (legal-true (a .session) (a .store .now) (c .before .before .before .before .pre) .room)
+
+returns-2 : tie.Need-returns-2 Inv-loop μ-loop
+returns-2 c =
+    let l = c .before .loop in
+    l .inv .rest ∙ turn-end (c .before .before .before .before .args .chunk .now) (l .i) (l .s) (l .store) (l .inv .legal) (c .loop-test .left)
+
+pub runs-spec : {M : Type 1} → statement M
+runs-spec =
+    tie.close
+    (tie.spec
+    Inv-loop
+    μ-loop
+    loop-holds
+    shared-slice-read-step
+    step-requires
+    add-i
+    enum-told
+    same-length
+    returns
+    ordinary-requires
+    loop-less
+    loop-again
+    same-length-2
+    returns-2)

@@ -1,0 +1,188 @@
+use borrow.Author.Tests.{lt-ltb, le-ltb, eq-eqb, ne-eqb, le-leb, lt-leb}
+use mathlib.Core.Path.{_≡_, sym, ap, _∙_}
+use native.Mathlib.Omega.{arith}
+use Rattle.framing.specs.Laws.{gives-same, keeps-goes, keeps-refuses, keeps-faulted}
+use mathlib.Core.Path.{refl}
+use Rattle.framing.specs.declared.Frame.{Frame}
+use Rattle.framing.specs.declared.Frame.the-variants.{Outside, Inside, Escaped, BadByte, TooLong}
+use Rattle.framing.specs.declared.Fault.{Fault}
+use Rattle.framing.specs.declared.Fault.the-variants.{Byte, Long}
+use Rattle.framing.specs.Rules.{inPlace, step}
+use Rattle.framing.specs.Session.{frameLength, placeOf, messageOf, keeps}
+use Rattle.framing.specs.Steps.{going, pastFault}
+use borrow.Author.Needs.{needs}
+use Rattle.framing.proofs.step.step.Statement.{statement}
+use Rattle.framing.proofs.step.step.Tie as tie
+
+enum-told : tie.Need-enum-told
+enum-told c = search needs
+
+goes-requires : tie.Need-goes-requires
+goes-requires c κs = search needs
+
+returns : tie.Need-returns
+unfolding step inPlace
+returns c =
+    let a = c .before .before .before .before .before .args in
+    let p = c .before .before .before .before .before .pre in
+    let t = a .store .now in
+    let m = a .session .message in
+    let e : a .session .frame ≡ Outside = c .before .before .enum-told .given .1 in
+    ap (λ (f : Frame). keeps (inPlace (placeOf f t) (messageOf m t) (a .b)) t) e
+    ∙ simp (eq-eqb (a .b) 0xfe (c .before .if1 .taken)) (keeps-goes t (p .0) (Inside 0) m (omega arith) (p .1 .1) ∙ gives-same (sym (c .goes .ensures)) refl)
+
+refuses-requires : tie.Need-refuses-requires
+refuses-requires c κs = search needs
+
+enum-told-2 : tie.Need-enum-told-2
+enum-told-2 c = search needs
+
+goes-requires-2 : tie.Need-goes-requires-2
+goes-requires-2 c κs = search needs
+
+returns-2 : tie.Need-returns-2
+unfolding step inPlace
+returns-2 c =
+    let a = c .before .before .before .before .before .args in
+    let p = c .before .before .before .before .before .pre in
+    let t = a .store .now in
+    let m = a .session .message in
+    let e : a .session .frame ≡ Frame.Stray = c .before .before .enum-told2 .given .1 in
+    ap (λ (f : Frame). keeps (inPlace (placeOf f t) (messageOf m t) (a .b)) t) e
+    ∙ simp (eq-eqb (a .b) 0xfe (c .before .if2 .taken)) (keeps-goes t (p .0) (Inside 0) m (omega arith) (p .1 .1) ∙ gives-same (sym (c .goes2 .ensures)) refl)
+
+goes-requires-3 : tie.Need-goes-requires-3
+goes-requires-3 c κs = search needs
+
+enum-known-frame : tie.Need-enum-known-frame
+enum-known-frame c = search needs
+
+inside-requires : tie.Need-inside-requires
+inside-requires c κs =
+    let p = c .before .before .before .before .before .pre in
+    let e = ap frameLength (c .before .before .frame .given .1) in
+    (p .0, (omega (arith, e, p .1 .0), p .1 .1))
+
+enum-known-frame-2 : tie.Need-enum-known-frame-2
+enum-known-frame-2 c = search needs
+
+escaped-requires : tie.Need-escaped-requires
+escaped-requires c κs =
+    let p = c .before .before .before .before .before .pre in
+    let e = ap frameLength (c .before .before .frame2 .given .1) in
+    (p .0, (omega (arith, e, p .1 .0), p .1 .1))
+
+enum-told-3 : tie.Need-enum-told-3
+enum-told-3 c = search needs
+
+faulted-requires : tie.Need-faulted-requires
+faulted-requires c κs = search needs
+
+enum-told-4 : tie.Need-enum-told-4
+enum-told-4 c = search needs
+
+faulted-requires-2 : tie.Need-faulted-requires-2
+faulted-requires-2 c κs = search needs
+
+returns-3 : tie.Need-returns-3
+unfolding step inPlace
+returns-3 c =
+    let a = c .before .before .before .before .before .args in
+    let p = c .before .before .before .before .before .pre in
+    let t = a .store .now in
+    let m = a .session .message in
+    let e : a .session .frame ≡ Outside = c .before .before .enum-told .given .1 in
+    ap (λ (f : Frame). keeps (inPlace (placeOf f t) (messageOf m t) (a .b)) t) e
+    ∙ simp (ne-eqb (a .b) 0xfe (c .before .if1 .left)) (keeps-refuses t (p .0) Frame.Stray m (omega arith) (p .1 .1) Fault.Stray ∙ gives-same (sym (c .refuses .ensures)) refl)
+
+returns-4 : tie.Need-returns-4
+unfolding step inPlace
+returns-4 c =
+    let a = c .before .before .before .before .before .args in
+    let p = c .before .before .before .before .before .pre in
+    let t = a .store .now in
+    let m = a .session .message in
+    let e : a .session .frame ≡ Frame.Stray = c .before .before .enum-told2 .given .1 in
+    ap (λ (f : Frame). keeps (inPlace (placeOf f t) (messageOf m t) (a .b)) t) e
+    ∙ simp (ne-eqb (a .b) 0xfe (c .before .if2 .left)) (keeps-goes t (p .0) Frame.Stray m (omega arith) (p .1 .1) ∙ gives-same (sym (c .goes3 .ensures ∙ ap (λ (f : Frame). going f m) e)) refl)
+
+same-length : tie.Need-same-length
+same-length c = search needs
+
+returns-5 : tie.Need-returns-5
+unfolding step inPlace
+returns-5 c =
+    let a = c .before .before .before .before .before .before .before .before .args in
+    let p = c .before .before .before .before .before .before .before .before .pre in
+    let t = a .store .now in
+    let m = a .session .message in
+    let e : a .session .frame ≡ Inside (c .before .before .before .before .before .frame .given .0 .0) = c .before .before .before .before .before .frame .given .1 in
+    ap (λ (f : Frame). keeps (inPlace (placeOf f t) (messageOf m t) (a .b)) t) e
+    ∙ c .before .before .inside .ensures
+
+same-length-2 : tie.Need-same-length-2
+same-length-2 c = search needs
+
+returns-6 : tie.Need-returns-6
+unfolding step inPlace
+returns-6 c =
+    let a = c .before .before .before .before .before .before .before .before .args in
+    let p = c .before .before .before .before .before .before .before .before .pre in
+    let t = a .store .now in
+    let m = a .session .message in
+    let e : a .session .frame ≡ Escaped (c .before .before .before .before .before .frame2 .given .0 .0) = c .before .before .before .before .before .frame2 .given .1 in
+    ap (λ (f : Frame). keeps (inPlace (placeOf f t) (messageOf m t) (a .b)) t) e
+    ∙ c .before .before .escaped .ensures
+
+returns-7 : tie.Need-returns-7
+unfolding step inPlace
+returns-7 c =
+    let a = c .before .before .before .before .args in
+    let p = c .before .before .before .before .pre in
+    let t = a .store .now in
+    let m = a .session .message in
+    let e : a .session .frame ≡ BadByte (c .before .enum-told3 .given .0 .0) = c .before .enum-told3 .given .1 in
+    ap (λ (f : Frame). keeps (inPlace (placeOf f t) (messageOf m t) (a .b)) t) e
+    ∙ keeps-faulted t (p .0) Byte (BadByte (c .before .enum-told3 .given .0 .0)) (a .b) m (omega (arith, ap frameLength e, p .1 .0)) (p .1 .1)
+    ∙ gives-same (sym (c .faulted .ensures ∙ ap (λ (f : Frame). pastFault Byte f (a .b) m) e)) refl
+
+returns-8 : tie.Need-returns-8
+unfolding step inPlace
+returns-8 c =
+    let a = c .before .before .before .before .args in
+    let p = c .before .before .before .before .pre in
+    let t = a .store .now in
+    let m = a .session .message in
+    let e : a .session .frame ≡ TooLong (c .before .enum-told4 .given .0 .0) = c .before .enum-told4 .given .1 in
+    ap (λ (f : Frame). keeps (inPlace (placeOf f t) (messageOf m t) (a .b)) t) e
+    ∙ keeps-faulted t (p .0) Long (TooLong (c .before .enum-told4 .given .0 .0)) (a .b) m (omega (arith, ap frameLength e, p .1 .0)) (p .1 .1)
+    ∙ gives-same (sym (c .faulted2 .ensures ∙ ap (λ (f : Frame). pastFault Long f (a .b) m) e)) refl
+
+pub step-spec : {M : Type 1} → statement M
+step-spec =
+    tie.close
+    (tie.spec
+    enum-told
+    goes-requires
+    returns
+    refuses-requires
+    enum-told-2
+    goes-requires-2
+    returns-2
+    goes-requires-3
+    enum-known-frame
+    inside-requires
+    enum-known-frame-2
+    escaped-requires
+    enum-told-3
+    faulted-requires
+    enum-told-4
+    faulted-requires-2
+    returns-3
+    returns-4
+    same-length
+    returns-5
+    same-length-2
+    returns-6
+    returns-7
+    returns-8)

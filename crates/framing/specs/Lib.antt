@@ -1,0 +1,9 @@
+pub mod Lists
+pub mod Numbers
+pub mod Checksum
+pub mod Content
+pub mod Rules
+pub mod Session
+pub mod Steps
+pub mod Laws
+pub mod Stream

@@ -1,0 +1,50 @@
+-- The bytes, limits and numbers of document 01, "Framing" and "Numbers answered", each named once.
+use Prim.Native.Nat.{ℕ}
+use mathlib.Core.Bool.{Bool, true, false}
+use Rattle.framing.specs.declared.Fault.{Fault}
+use Rattle.framing.specs.declared.Fault.the-variants.{Stray, Cut, Byte, Long, Escape, Short, Crc, Header, Flags, Dtd, Orphan, Big}
+
+-- "BOF is FE, EOF is FF, CE is FD."
+abbrev pub BOF : ℕ
+BOF = 0xfe
+
+abbrev pub EOF : ℕ
+EOF = 0xff
+
+abbrev pub CE : ℕ
+CE = 0xfd
+
+-- "Its content is the unescaped bytes, CRC included, at most 1,024 (house)."
+abbrev pub contentLimit : ℕ
+contentLimit = 1024
+
+-- "A message holds at most 16,384 bytes."
+abbrev pub messageLimit : ℕ
+messageLimit = 16384
+
+-- "The lent store is exactly 17,408 bytes: message bytes from 0, frame content from 16,384."
+abbrev pub storeLength : ℕ
+storeLength = 17408
+
+abbrev pub contentStart : ℕ
+contentStart = 16384
+
+-- "Numbers answered": 10 to 24, and 46 for the writer.
+abbrev pub number : Fault → ℕ
+number Stray = 10
+number Cut = 11
+number Byte = 12
+number Long = 13
+number Escape = 14
+number Short = 15
+number Crc = 16
+number Header = 20
+number Flags = 21
+number Dtd = 22
+number Orphan = 23
+number Big = 24
+
+-- A choice by a test.
+abbrev pub pick : {A : Type 0} → Bool → A → A → A
+pick true a b = a
+pick false a b = b

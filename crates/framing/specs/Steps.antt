@@ -1,0 +1,35 @@
+-- The answers of the private functions of a step.
+use Prim.Native.Nat.{ℕ}
+use mathlib.Core.Bool.{Bool, true, false}
+use mathlib.Core.List.{List}
+use lib.Dec.{eqb}
+use Rattle.framing.specs.declared.Event.the-variants as ev
+use Rattle.framing.specs.declared.Fault.{Fault}
+use Rattle.framing.specs.declared.Frame.{Frame}
+use Rattle.framing.specs.declared.Frame.the-variants.{Outside, Inside}
+use Rattle.framing.specs.declared.Pending.{Pending}
+use Rattle.framing.specs.declared.Pending.the-variants.{Nothing, Part}
+use Rattle.framing.specs.declared.step.Stepped.{Stepped}
+use Rattle.framing.specs.Numbers.{BOF, EOF, pick}
+use Rattle.framing.specs.Session.{Kept, saidBy}
+
+-- what an answer says beside the store that it leaves
+abbrev pub gives : Stepped → List ℕ → Kept
+gives r t = record { said = saidBy (r .event) t; session = r .session; store = t }
+
+abbrev pub isPart : Pending → Bool
+isPart Nothing = false
+isPart (Part n) = true
+
+abbrev pub going : Frame → Pending → Stepped
+going f m = record { event = ev.More; session = record { frame = f; message = m } }
+
+abbrev pub refusing : Fault → Frame → Pending → Stepped
+refusing x f m = record { event = ev.Refused x (isPart m); session = record { frame = f; message = Nothing } }
+
+abbrev pub joining : Bool → Bool → ℕ → Stepped
+joining true d n = record { event = ev.Message n d; session = record { frame = Outside; message = Nothing } }
+joining false d n = record { event = ev.Piece d; session = record { frame = Outside; message = Part n } }
+
+unfoldable pub pastFault : Fault → Frame → ℕ → Pending → Stepped
+pastFault x f b m = pick (eqb b BOF) (refusing x (Inside 0) m) (pick (eqb b EOF) (refusing x Outside m) (going f m))

@@ -1,0 +1,99 @@
+-- Laws of a whole stream: what happens over bytes that are joined, and what a call over a chunk makes of it.
+use Prim.Native.Nat.{ℕ, zero, suc, _+_, _≤_}
+use mathlib.Core.Bool.{Bool, true, false}
+use mathlib.Core.Path.{_≡_, refl, sym, ap, subst, _∙_}
+use mathlib.Core.List.{List, [], _∷_, _++_}
+use native.Mathlib.Omega.{arith}
+use lib.Dec.{eqb}
+use lib.ListN.{length, take}
+use Rattle.framing.specs.declared.Session.{Session}
+use Rattle.framing.specs.Numbers.{storeLength, pick}
+use Rattle.framing.specs.Rules.{State, Said, Step, step, Happening, noted, happens, after, quiet}
+use Rattle.framing.specs.Session.{stateOf, sessionOf, kept, Whole, whole, run}
+use Rattle.framing.specs.Laws.{Bounded, Within, Legal, within-step, bounded-next, frame-bound, message-bound, legal-next, kept-state, kept-length}
+
+pub noted-append : (e : Said) (n : ℕ) (hs ks : List Happening) → noted e n (hs ++ ks) ≡ noted e n hs ++ ks
+noted-append e n hs ks = go (eqb (e .number) 0)
+  where
+    go : (u : Bool) → pick u (hs ++ ks) (record { offset = n; said = e } ∷ hs ++ ks) ≡ pick u hs (record { offset = n; said = e } ∷ hs) ++ ks
+    go true = refl
+    go false = refl
+
+pub happens-append : (xs ys : List ℕ) (s : State) (n : ℕ) → happens s n (xs ++ ys) ≡ happens s n xs ++ happens (after s xs) (n + length xs) ys
+unfolding happens after
+happens-append [] ys s n = ap (λ (k : ℕ). happens s k ys) (omega arith)
+happens-append (x ∷ xs) ys s n =
+    let o = step s x in
+    ap (λ (hs : List Happening). noted (o .said) (n + 1) hs)
+    (happens-append xs ys (o .next) (n + 1) ∙ ap (λ (k : ℕ). happens (o .next) (n + 1) xs ++ happens (after (o .next) xs) k ys) (omega arith))
+    ∙ noted-append (o .said) (n + 1) (happens (o .next) (n + 1) xs) (happens (after (o .next) xs) (n + suc (length xs)) ys)
+
+pub after-append : (xs ys : List ℕ) (s : State) → after s (xs ++ ys) ≡ after (after s xs) ys
+unfolding after
+after-append [] ys s = refl
+after-append (x ∷ xs) ys s = after-append xs ys (step s x .next)
+
+-- What a run over c, from the state s with i bytes consumed before, gives: it consumes d bytes, all of them or up to one event.
+pub record Ran (c : List ℕ) (s : State) (i : ℕ) (w : Whole) : Type 0 where
+  pub d : ℕ
+  pub counted : w .consumed ≡ i + d
+  pub offered : d ≤ length c
+  pub all : eqb (w .said .number) 0 ≡ true → d ≡ length c
+  pub told : (n : ℕ) → happens s n (take d c) ≡ noted (w .said) (n + d) []
+  pub legal : Legal (w .session) (w .store)
+  pub held : stateOf (w .session) (w .store) ≡ after s (take d c)
+
+-- a byte that makes no event, and one that makes one
+module _ (x : ℕ) (xs : List ℕ) (s : State) (t : List ℕ) (i : ℕ) where
+  abbrev o : Step
+  o = step s x
+
+  ran-more : eqb (o .said .number) 0 ≡ true → Ran xs (o .next) (i + 1) (run xs (o .next) (kept o t) (i + 1)) → Ran (x ∷ xs) s i (run xs (o .next) (kept o t) (i + 1))
+  unfolding happens after
+  ran-more e r =
+      record {
+        d = suc (r .d);
+        counted = omega (arith, r .counted);
+        offered = omega (arith, r .offered);
+        all = λ q. ap suc (r .all q);
+        told = λ n. rw e (r .told (n + 1) ∙ ap (λ (k : ℕ). noted (run xs (o .next) (kept o t) (i + 1) .said) k []) (omega arith));
+        legal = r .legal;
+        held = r .held;
+      }
+
+  ran-event : length t ≡ storeLength → Within o → eqb (o .said .number) 0 ≡ false → Ran (x ∷ xs) s i (whole (o .said) (i + 1) (o .next) (kept o t))
+  unfolding happens after
+  ran-event room w e =
+      record {
+        d = 1;
+        counted = refl;
+        offered = omega arith;
+        all = λ q. let z : _≡_ {A = ℕ} 0 1 = cc in absurd (omega arith);
+        told = λ n. refl;
+        legal = legal-next o t room w;
+        held = kept-state o t room w;
+      }
+
+pub ran : (c : List ℕ) (s : State) (t : List ℕ) (i : ℕ) → length t ≡ storeLength → Bounded s → stateOf (sessionOf s) t ≡ s → Ran c s i (run c s t i)
+unfolding run happens after
+ran [] s t i room b h =
+    record {
+      d = 0;
+      counted = omega arith;
+      offered = omega arith;
+      all = λ e. refl;
+      told = λ n. refl;
+      legal = subst (λ (x : List ℕ). Legal (sessionOf s) x) refl (record { room = room; frame = frame-bound s b; message = message-bound s b });
+      held = h;
+    }
+ran (x ∷ xs) s t i room b h =
+    let w = within-step s x b in
+    go (eqb (step s x .said .number) 0) refl
+    (ran xs (step s x .next) (kept (step s x) t) (i + 1) (kept-length (step s x) t room w) (bounded-next (step s x) w) (kept-state (step s x) t room w))
+    w
+  where
+    go : (u : Bool) → eqb (step s x .said .number) 0 ≡ u
+        → Ran xs (step s x .next) (i + 1) (run xs (step s x .next) (kept (step s x) t) (i + 1)) → Within (step s x)
+        → Ran (x ∷ xs) s i (pick u (run xs (step s x .next) (kept (step s x) t) (i + 1)) (whole (step s x .said) (i + 1) (step s x .next) (kept (step s x) t)))
+    go true e r w = ran-more x xs s t i e r
+    go false e r w = ran-event x xs s t i room w e

@@ -1,0 +1,168 @@
+// S101 framing, alone: the session that reads a stream in chunks, and the writer of frames and messages.
+
+pub mod checksum;
+mod judge;
+mod step;
+
+ghost use mathlib.Core.Path.{_≡_};
+ghost use mathlib.Core.Bool.{true};
+ghost use lib.ListN.{length};
+ghost use Rattle.framing.specs.Rules.{begin};
+ghost use Rattle.framing.specs.Session.{frameLength, messageLength, legal, saidBy, sessionOf, stateOf, run, feeds};
+
+// Why a frame or a run of bytes is refused; specs/Numbers.antt gives each its number, 10 to 24.
+pub enum Fault {
+    Stray,
+    Cut,
+    Byte,
+    Long,
+    Escape,
+    Short,
+    Crc,
+    Header,
+    Flags,
+    Dtd,
+    Orphan,
+    Big,
+}
+
+// What a frame's content is.
+pub enum Content {
+    Refused { fault: Fault },
+    Request,
+    Response,
+    Piece { first: bool, last: bool },
+}
+
+// What a call has to tell; specs/Session.antt gives each case its number and values. Of a message
+// the bytes are the store's first `length`.
+pub enum Event {
+    More,
+    Setup,
+    Piece { discarded: bool },
+    Message { length: usize, discarded: bool },
+    Request,
+    Response,
+    Refused { fault: Fault, discarded: bool },
+}
+
+// Where the stream stands: of an open frame, how many content bytes the store holds.
+pub enum Frame {
+    Outside,
+    Stray,
+    Inside { length: usize },
+    Escaped { length: usize },
+    BadByte { length: usize },
+    TooLong { length: usize },
+}
+
+// The unfinished message: how many bytes of it the store holds.
+pub enum Pending {
+    Nothing,
+    Part { length: usize },
+}
+
+pub struct Session {
+    pub frame: Frame,
+    pub message: Pending,
+}
+
+// What a call answers: the event, the count of bytes consumed, and the next session.
+pub struct Fed {
+    pub event: Event,
+    pub consumed: usize,
+    pub session: Session,
+}
+
+// A fresh session: outside frames, no message open.
+pub fn start() -> Session
+    ensures { λ r. ⌜ r ≡ sessionOf begin ⌝ }
+{
+    Session {
+        frame: Frame::Outside,
+        message: Pending::Nothing,
+    }
+}
+
+fn frame_length(frame: Frame) -> usize
+    ensures { λ r. ⌜ r ≡ frameLength frame ⌝ }
+{
+    match frame {
+        Frame::Outside => 0,
+        Frame::Stray => 0,
+        Frame::Inside { length } => length,
+        Frame::Escaped { length } => length,
+        Frame::BadByte { length } => length,
+        Frame::TooLong { length } => length,
+    }
+}
+
+fn message_length(message: Pending) -> usize
+    ensures { λ r. ⌜ r ≡ messageLength message ⌝ }
+{
+    match message {
+        Pending::Nothing => 0,
+        Pending::Part { length } => length,
+    }
+}
+
+// 1 SETUP is answered where this is false.
+fn is_legal(session: Session, n: usize) -> bool
+    ensures { λ r. ⌜ r ≡ legal session n ⌝ }
+{
+    if n != 17408 {
+        return false;
+    }
+    let frame = session.frame;
+    let message = session.message;
+    if 1024 < frame_length(frame) {
+        return false;
+    }
+    message_length(message) <= 16384
+}
+
+// Takes bytes of the chunk up to an event, or all of them.
+fn runs(session: Session, store: &mut [u8], chunk: &[u8]) -> Fed
+    requires { ⌜ legal session (length (now store)) ≡ true ⌝ }
+    ensures { λ r. ⌜ run (now (chunk .entry)) (stateOf session (now (store .entry))) (now (store .entry)) 0 ≡ record { said = saidBy (r .event) (now (store .exit)); consumed = r .consumed; session = r .session; store = now (store .exit) } ⌝ }
+{
+    let mut s = session;
+    let mut i = 0;
+    while i < chunk.len() {
+        let t = step::step(s, chunk[i], store);
+        i += 1;
+        let event = t.event;
+        let next = t.session;
+        if let Event::More = event {} else {
+            return Fed {
+                event,
+                consumed: i,
+                session: next,
+            };
+        }
+        let p = step::ordinary(next, i, store, chunk);
+        let onward = p.session;
+        s = onward;
+        i = p.at;
+    }
+    Fed {
+        event: Event::More,
+        consumed: i,
+        session: s,
+    }
+}
+
+// Offers a chunk to a session and its store.
+pub fn feed(session: Session, store: &mut [u8], chunk: &[u8]) -> Fed
+    ensures { λ r. ⌜ feeds session (now (store .entry)) (now (chunk .entry)) ≡ record { said = saidBy (r .event) (now (store .exit)); consumed = r .consumed; session = r .session; store = now (store .exit) } ⌝ }
+{
+    let n = store.len();
+    if is_legal(session, n) {
+        return runs(session, store, chunk);
+    }
+    Fed {
+        event: Event::Setup,
+        consumed: 0,
+        session,
+    }
+}

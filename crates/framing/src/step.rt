@@ -1,0 +1,293 @@
+// What one byte does to a session and its store.
+use crate::Content;
+use crate::Event;
+use crate::Fault;
+use crate::Frame;
+use crate::Pending;
+use crate::Session;
+use crate::judge;
+ghost use mathlib.Core.Path.{_≡_};
+ghost use Prim.Native.Nat.{_+_, _≤_};
+ghost use lib.ListN.{length, take, drop};
+ghost use lib.Seq.{sets};
+ghost use Rattle.framing.specs.Numbers.{contentLimit, messageLimit, storeLength, contentStart};
+ghost use Rattle.framing.specs.Steps.{gives, isPart, going, refusing, joining, pastFault};
+ghost use Rattle.framing.specs.Rules.{adds as ruleAdds, pieces as rulePieces, ends as ruleEnds, inPlace, step as ruleStep, inside as insidePlace, escaped as escapedPlace};
+ghost use Rattle.framing.specs.Laws.{Legal, Reaches};
+ghost use Rattle.framing.specs.Session.{frameLength, messageLength, contentIn, messageOf, stateOf, keeps};
+
+pub struct Stepped {
+    pub event: Event,
+    pub session: Session,
+}
+
+fn is_part(message: Pending) -> bool
+    ensures { λ r. ⌜ r ≡ isPart message ⌝ }
+{
+    match message {
+        Pending::Nothing => false,
+        Pending::Part { length: _ } => true,
+    }
+}
+
+// No event.
+fn goes(frame: Frame, message: Pending) -> Stepped
+    ensures { λ r. ⌜ r ≡ going frame message ⌝ }
+{
+    Stepped {
+        event: Event::More,
+        session: Session { frame, message },
+    }
+}
+
+// A refusal throws the unfinished message away.
+fn refuses(fault: Fault, frame: Frame, message: Pending) -> Stepped
+    ensures { λ r. ⌜ r ≡ refusing fault frame message ⌝ }
+{
+    let discarded = is_part(message);
+    Stepped {
+        event: Event::Refused { fault, discarded },
+        session: Session {
+            frame,
+            message: Pending::Nothing,
+        },
+    }
+}
+
+// A byte of content.
+fn adds(length: usize, x: u8, message: Pending, store: &mut [u8]) -> Stepped
+    requires { ⌜ (lib.ListN.length (now store) ≡ storeLength) × ((length ≤ contentLimit) × (messageLength message ≤ messageLimit)) ⌝ }
+    ensures { λ r. ⌜ keeps (ruleAdds (contentIn length (now (store .entry))) x (messageOf message (now (store .entry)))) (now (store .entry)) ≡ gives r (now (store .exit)) ⌝ }
+{
+    if length < 1024 {
+        let at = 16384 + length;
+        store[at] = x;
+        let next = length + 1;
+        return goes(Frame::Inside { length: next }, message);
+    }
+    goes(Frame::TooLong { length }, message)
+}
+
+// The n payload bytes of the frame content, copied to the message area.
+fn copies(store: &mut [u8], at: usize, n: usize)
+    requires { ⌜ (at + n ≤ contentStart) × (contentStart + 9 + n ≤ length (now store)) ⌝ }
+    ensures { λ _. ⌜ now (store .exit) ≡ sets (now (store .entry)) at (take n (drop (contentStart + 9) (now (store .entry)))) ⌝ }
+{
+    let mut i = 0;
+    while i < n {
+        let to = at + i;
+        let from = 16393 + i;
+        store[to] = store[from];
+        i += 1;
+    }
+}
+
+// A message of so many bytes, as far as it has come.
+fn joins(last: bool, discarded: bool, length: usize) -> Stepped
+    ensures { λ r. ⌜ r ≡ joining last discarded length ⌝ }
+{
+    if last {
+        return Stepped {
+            event: Event::Message { length, discarded },
+            session: Session {
+                frame: Frame::Outside,
+                message: Pending::Nothing,
+            },
+        };
+    }
+    Stepped {
+        event: Event::Piece { discarded },
+        session: Session {
+            frame: Frame::Outside,
+            message: Pending::Part { length },
+        },
+    }
+}
+
+// A piece whose payload is the n bytes after the header.
+fn pieces(first: bool, last: bool, n: usize, message: Pending, store: &mut [u8]) -> Stepped
+    requires { ⌜ (lib.ListN.length (now store) ≡ storeLength) × ((n + 11 ≤ contentLimit) × (messageLength message ≤ messageLimit)) ⌝ }
+    ensures { λ r. ⌜ keeps (rulePieces first last (take n (drop (contentStart + 9) (now (store .entry)))) (messageOf message (now (store .entry)))) (now (store .entry)) ≡ gives r (now (store .exit)) ⌝ }
+{
+    if first {
+        let discarded = is_part(message);
+        copies(store, 0, n);
+        return joins(last, discarded, n);
+    }
+    match message {
+        Pending::Nothing => refuses(Fault::Orphan, Frame::Outside, message),
+        Pending::Part { length } => {
+            let all = length + n;
+            if 16384 < all {
+                return refuses(Fault::Big, Frame::Outside, message);
+            }
+            copies(store, length, n);
+            joins(last, false, all)
+        }
+    }
+}
+
+// EOF in a frame that has no fault.
+fn ends(length: usize, message: Pending, store: &mut [u8]) -> Stepped
+    requires { ⌜ (lib.ListN.length (now store) ≡ storeLength) × ((length ≤ contentLimit) × (messageLength message ≤ messageLimit)) ⌝ }
+    ensures { λ r. ⌜ keeps (ruleEnds (contentIn length (now (store .entry))) (messageOf message (now (store .entry)))) (now (store .entry)) ≡ gives r (now (store .exit)) ⌝ }
+{
+    let end = 16384 + length;
+    let content = judge::content_of(&store[16384..end]);
+    match content {
+        Content::Refused { fault } => refuses(fault, Frame::Outside, message),
+        Content::Request => Stepped {
+            event: Event::Request,
+            session: Session {
+                frame: Frame::Outside,
+                message,
+            },
+        },
+        Content::Response => Stepped {
+            event: Event::Response,
+            session: Session {
+                frame: Frame::Outside,
+                message,
+            },
+        },
+        Content::Piece { first, last } => {
+            let n = length - 11;
+            pieces(first, last, n, message, store)
+        }
+    }
+}
+
+// In a frame, no escape begun, no fault.
+fn inside(length: usize, b: u8, message: Pending, store: &mut [u8]) -> Stepped
+    requires { ⌜ (lib.ListN.length (now store) ≡ storeLength) × ((length ≤ contentLimit) × (messageLength message ≤ messageLimit)) ⌝ }
+    ensures { λ r. ⌜ keeps (inPlace (insidePlace (contentIn length (now (store .entry)))) (messageOf message (now (store .entry))) b) (now (store .entry)) ≡ gives r (now (store .exit)) ⌝ }
+{
+    if b < 0xf8 {
+        return adds(length, b, message, store);
+    }
+    if b == 0xfd {
+        return goes(Frame::Escaped { length }, message);
+    }
+    if b == 0xff {
+        return ends(length, message, store);
+    }
+    if b == 0xfe {
+        if length == 0 {
+            return goes(Frame::Inside { length: 0 }, message);
+        }
+        return refuses(Fault::Cut, Frame::Inside { length: 0 }, message);
+    }
+    goes(Frame::BadByte { length }, message)
+}
+
+// In a frame, after CE.
+fn escaped(length: usize, b: u8, message: Pending, store: &mut [u8]) -> Stepped
+    requires { ⌜ (lib.ListN.length (now store) ≡ storeLength) × ((length ≤ contentLimit) × (messageLength message ≤ messageLimit)) ⌝ }
+    ensures { λ r. ⌜ keeps (inPlace (escapedPlace (contentIn length (now (store .entry)))) (messageOf message (now (store .entry))) b) (now (store .entry)) ≡ gives r (now (store .exit)) ⌝ }
+{
+    if b == 0xfe {
+        return refuses(Fault::Cut, Frame::Inside { length: 0 }, message);
+    }
+    if b == 0xff {
+        return refuses(Fault::Escape, Frame::Outside, message);
+    }
+    if b < 0xd8 {
+        return goes(Frame::BadByte { length }, message);
+    }
+    if 0xdf < b {
+        return goes(Frame::BadByte { length }, message);
+    }
+    adds(length, b ^ 0x20, message, store)
+}
+
+pub(crate) fn step(session: Session, b: u8, store: &mut [u8]) -> Stepped
+    requires { ⌜ (length (now store) ≡ storeLength) × ((frameLength (session .frame) ≤ contentLimit) × (messageLength (session .message) ≤ messageLimit)) ⌝ }
+    ensures { λ r. ⌜ keeps (ruleStep (stateOf session (now (store .entry))) b) (now (store .entry)) ≡ gives r (now (store .exit)) ⌝ }
+{
+    let frame = session.frame;
+    let message = session.message;
+    match frame {
+        Frame::Outside => {
+            if b == 0xfe {
+                return goes(Frame::Inside { length: 0 }, message);
+            }
+            refuses(Fault::Stray, Frame::Stray, message)
+        }
+        Frame::Stray => {
+            if b == 0xfe {
+                return goes(Frame::Inside { length: 0 }, message);
+            }
+            goes(frame, message)
+        }
+        Frame::Inside { length } => inside(length, b, message, store),
+        Frame::Escaped { length } => escaped(length, b, message, store),
+        Frame::BadByte { length: _ } => faulted(Fault::Byte, frame, b, message),
+        Frame::TooLong { length: _ } => faulted(Fault::Long, frame, b, message),
+    }
+}
+
+// Past the first fault of a frame.
+fn faulted(fault: Fault, frame: Frame, b: u8, message: Pending) -> Stepped
+    ensures { λ r. ⌜ r ≡ pastFault fault frame b message ⌝ }
+{
+    if b == 0xfe {
+        return refuses(fault, Frame::Inside { length: 0 }, message);
+    }
+    if b == 0xff {
+        return refuses(fault, Frame::Outside, message);
+    }
+    goes(frame, message)
+}
+
+// How far a call has come in its chunk.
+pub struct Progress {
+    pub session: Session,
+    pub at: usize,
+}
+
+// Takes the ordinary bytes of an open frame, all at once: up to one that is F8 or above, the
+// content's limit or the chunk's end.
+pub(crate) fn ordinary(session: Session, from: usize, store: &mut [u8], chunk: &[u8]) -> Progress
+    requires { ⌜ Legal session (now store) × (from ≤ length (now chunk)) ⌝ }
+    ensures { λ r. ⌜ Reaches (now (chunk .entry)) from session (now (store .entry)) (r .at) (r .session) (now (store .exit)) ⌝ }
+{
+    let frame = session.frame;
+    let message = session.message;
+    let Frame::Inside { length } = frame else {
+        return Progress { session, at: from };
+    };
+    let mut n = length;
+    let mut i = from;
+    while i < chunk.len() {
+        let b = chunk[i];
+        if 0xf8 <= b {
+            return Progress {
+                session: Session {
+                    frame: Frame::Inside { length: n },
+                    message,
+                },
+                at: i,
+            };
+        }
+        if 1024 <= n {
+            return Progress {
+                session: Session {
+                    frame: Frame::Inside { length: n },
+                    message,
+                },
+                at: i,
+            };
+        }
+        let to = 16384 + n;
+        store[to] = b;
+        n += 1;
+        i += 1;
+    }
+    Progress {
+        session: Session {
+            frame: Frame::Inside { length: n },
+            message,
+        },
+        at: i,
+    }
+}
