@@ -3,6 +3,7 @@ use Prim.Native.Nat.{ℕ}
 use mathlib.Core.Bool.{Bool, true, false}
 use mathlib.Core.List.{List}
 use lib.Dec.{eqb}
+use Rattle.framing.specs.declared.Event.{Event}
 use Rattle.framing.specs.declared.Event.the-variants as ev
 use Rattle.framing.specs.declared.Fault.{Fault}
 use Rattle.framing.specs.declared.Frame.{Frame}
@@ -23,6 +24,9 @@ isPart (Part n) = true
 
 abbrev pub going : Frame → Pending → Stepped
 going f m = record { event = ev.More; session = record { frame = f; message = m } }
+
+abbrev pub staying : Event → Pending → Stepped
+staying e m = record { event = e; session = record { frame = Outside; message = m } }
 
 abbrev pub refusing : Fault → Frame → Pending → Stepped
 refusing x f m = record { event = ev.Refused x (isPart m); session = record { frame = f; message = Nothing } }

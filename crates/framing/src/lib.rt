@@ -10,6 +10,23 @@ ghost use lib.ListN.{length};
 ghost use Rattle.framing.specs.Rules.{begin};
 ghost use Rattle.framing.specs.Session.{frameLength, messageLength, legal, saidBy, sessionOf, stateOf, run, feeds};
 
+pub const BOF: u8 = 0xfe;
+
+pub const EOF: u8 = 0xff;
+
+pub const CE: u8 = 0xfd;
+
+// The lent store: message bytes from 0, frame content from 16,384.
+pub const MESSAGE_LIMIT: usize = 16384;
+
+pub const CONTENT_START: usize = 16384;
+
+pub const CONTENT_LIMIT: usize = 1024;
+// Past the nine bytes of a piece's header.
+pub const PAYLOAD_START: usize = 16393;
+
+pub const STORE_LENGTH: usize = 17408;
+
 // Why a frame or a run of bytes is refused; specs/Numbers.antt gives each its number, 10 to 24.
 pub enum Fault {
     Stray,
@@ -110,15 +127,15 @@ fn message_length(message: Pending) -> usize
 fn is_legal(session: Session, n: usize) -> bool
     ensures { λ r. ⌜ r ≡ legal session n ⌝ }
 {
-    if n != 17408 {
+    if n != STORE_LENGTH {
         return false;
     }
     let frame = session.frame;
     let message = session.message;
-    if 1024 < frame_length(frame) {
+    if CONTENT_LIMIT < frame_length(frame) {
         return false;
     }
-    message_length(message) <= 16384
+    message_length(message) <= MESSAGE_LIMIT
 }
 
 // Takes bytes of the chunk up to an event, or all of them.

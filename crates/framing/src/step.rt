@@ -1,8 +1,15 @@
 // What one byte does to a session and its store.
+use crate::BOF;
+use crate::CE;
+use crate::CONTENT_LIMIT;
+use crate::CONTENT_START;
 use crate::Content;
+use crate::EOF;
 use crate::Event;
 use crate::Fault;
 use crate::Frame;
+use crate::MESSAGE_LIMIT;
+use crate::PAYLOAD_START;
 use crate::Pending;
 use crate::Session;
 use crate::judge;
@@ -11,7 +18,7 @@ ghost use Prim.Native.Nat.{_+_, _≤_};
 ghost use lib.ListN.{length, take, drop};
 ghost use lib.Seq.{sets};
 ghost use Rattle.framing.specs.Numbers.{contentLimit, messageLimit, storeLength, contentStart};
-ghost use Rattle.framing.specs.Steps.{gives, isPart, going, refusing, joining, pastFault};
+ghost use Rattle.framing.specs.Steps.{gives, isPart, going, staying, refusing, joining, pastFault};
 ghost use Rattle.framing.specs.Rules.{adds as ruleAdds, pieces as rulePieces, ends as ruleEnds, inPlace, step as ruleStep, inside as insidePlace, escaped as escapedPlace};
 ghost use Rattle.framing.specs.Laws.{Legal, Reaches};
 ghost use Rattle.framing.specs.Session.{frameLength, messageLength, contentIn, messageOf, stateOf, keeps};
@@ -54,13 +61,26 @@ fn refuses(fault: Fault, frame: Frame, message: Pending) -> Stepped
     }
 }
 
+// A keep-alive disturbs nothing.
+fn keep_alive(event: Event, message: Pending) -> Stepped
+    ensures { λ r. ⌜ r ≡ staying event message ⌝ }
+{
+    Stepped {
+        event,
+        session: Session {
+            frame: Frame::Outside,
+            message,
+        },
+    }
+}
+
 // A byte of content.
 fn adds(length: usize, x: u8, message: Pending, store: &mut [u8]) -> Stepped
     requires { ⌜ (lib.ListN.length (now store) ≡ storeLength) × ((length ≤ contentLimit) × (messageLength message ≤ messageLimit)) ⌝ }
     ensures { λ r. ⌜ keeps (ruleAdds (contentIn length (now (store .entry))) x (messageOf message (now (store .entry)))) (now (store .entry)) ≡ gives r (now (store .exit)) ⌝ }
 {
-    if length < 1024 {
-        let at = 16384 + length;
+    if length < CONTENT_LIMIT {
+        let at = CONTENT_START + length;
         store[at] = x;
         let next = length + 1;
         return goes(Frame::Inside { length: next }, message);
@@ -76,7 +96,7 @@ fn copies(store: &mut [u8], at: usize, n: usize)
     let mut i = 0;
     while i < n {
         let to = at + i;
-        let from = 16393 + i;
+        let from = PAYLOAD_START + i;
         store[to] = store[from];
         i += 1;
     }
@@ -118,7 +138,7 @@ fn pieces(first: bool, last: bool, n: usize, message: Pending, store: &mut [u8])
         Pending::Nothing => refuses(Fault::Orphan, Frame::Outside, message),
         Pending::Part { length } => {
             let all = length + n;
-            if 16384 < all {
+            if MESSAGE_LIMIT < all {
                 return refuses(Fault::Big, Frame::Outside, message);
             }
             copies(store, length, n);
@@ -132,24 +152,12 @@ fn ends(length: usize, message: Pending, store: &mut [u8]) -> Stepped
     requires { ⌜ (lib.ListN.length (now store) ≡ storeLength) × ((length ≤ contentLimit) × (messageLength message ≤ messageLimit)) ⌝ }
     ensures { λ r. ⌜ keeps (ruleEnds (contentIn length (now (store .entry))) (messageOf message (now (store .entry)))) (now (store .entry)) ≡ gives r (now (store .exit)) ⌝ }
 {
-    let end = 16384 + length;
-    let content = judge::content_of(&store[16384..end]);
+    let end = CONTENT_START + length;
+    let content = judge::content_of(&store[CONTENT_START..end]);
     match content {
         Content::Refused { fault } => refuses(fault, Frame::Outside, message),
-        Content::Request => Stepped {
-            event: Event::Request,
-            session: Session {
-                frame: Frame::Outside,
-                message,
-            },
-        },
-        Content::Response => Stepped {
-            event: Event::Response,
-            session: Session {
-                frame: Frame::Outside,
-                message,
-            },
-        },
+        Content::Request => keep_alive(Event::Request, message),
+        Content::Response => keep_alive(Event::Response, message),
         Content::Piece { first, last } => {
             let n = length - 11;
             pieces(first, last, n, message, store)
@@ -165,13 +173,13 @@ fn inside(length: usize, b: u8, message: Pending, store: &mut [u8]) -> Stepped
     if b < 0xf8 {
         return adds(length, b, message, store);
     }
-    if b == 0xfd {
+    if b == CE {
         return goes(Frame::Escaped { length }, message);
     }
-    if b == 0xff {
+    if b == EOF {
         return ends(length, message, store);
     }
-    if b == 0xfe {
+    if b == BOF {
         if length == 0 {
             return goes(Frame::Inside { length: 0 }, message);
         }
@@ -185,19 +193,19 @@ fn escaped(length: usize, b: u8, message: Pending, store: &mut [u8]) -> Stepped
     requires { ⌜ (lib.ListN.length (now store) ≡ storeLength) × ((length ≤ contentLimit) × (messageLength message ≤ messageLimit)) ⌝ }
     ensures { λ r. ⌜ keeps (inPlace (escapedPlace (contentIn length (now (store .entry)))) (messageOf message (now (store .entry))) b) (now (store .entry)) ≡ gives r (now (store .exit)) ⌝ }
 {
-    if b == 0xfe {
-        return refuses(Fault::Cut, Frame::Inside { length: 0 }, message);
-    }
-    if b == 0xff {
-        return refuses(Fault::Escape, Frame::Outside, message);
-    }
     if b < 0xd8 {
         return goes(Frame::BadByte { length }, message);
     }
-    if 0xdf < b {
-        return goes(Frame::BadByte { length }, message);
+    if b <= 0xdf {
+        return adds(length, b ^ 0x20, message, store);
     }
-    adds(length, b ^ 0x20, message, store)
+    if b == BOF {
+        return refuses(Fault::Cut, Frame::Inside { length: 0 }, message);
+    }
+    if b == EOF {
+        return refuses(Fault::Escape, Frame::Outside, message);
+    }
+    goes(Frame::BadByte { length }, message)
 }
 
 pub(crate) fn step(session: Session, b: u8, store: &mut [u8]) -> Stepped
@@ -208,13 +216,13 @@ pub(crate) fn step(session: Session, b: u8, store: &mut [u8]) -> Stepped
     let message = session.message;
     match frame {
         Frame::Outside => {
-            if b == 0xfe {
+            if b == BOF {
                 return goes(Frame::Inside { length: 0 }, message);
             }
             refuses(Fault::Stray, Frame::Stray, message)
         }
         Frame::Stray => {
-            if b == 0xfe {
+            if b == BOF {
                 return goes(Frame::Inside { length: 0 }, message);
             }
             goes(frame, message)
@@ -230,10 +238,10 @@ pub(crate) fn step(session: Session, b: u8, store: &mut [u8]) -> Stepped
 fn faulted(fault: Fault, frame: Frame, b: u8, message: Pending) -> Stepped
     ensures { λ r. ⌜ r ≡ pastFault fault frame b message ⌝ }
 {
-    if b == 0xfe {
+    if b == BOF {
         return refuses(fault, Frame::Inside { length: 0 }, message);
     }
-    if b == 0xff {
+    if b == EOF {
         return refuses(fault, Frame::Outside, message);
     }
     goes(frame, message)
@@ -269,7 +277,7 @@ pub(crate) fn ordinary(session: Session, from: usize, store: &mut [u8], chunk: &
                 at: i,
             };
         }
-        if 1024 <= n {
+        if CONTENT_LIMIT <= n {
             return Progress {
                 session: Session {
                     frame: Frame::Inside { length: n },
@@ -278,7 +286,7 @@ pub(crate) fn ordinary(session: Session, from: usize, store: &mut [u8], chunk: &
                 at: i,
             };
         }
-        let to = 16384 + n;
+        let to = CONTENT_START + n;
         store[to] = b;
         n += 1;
         i += 1;

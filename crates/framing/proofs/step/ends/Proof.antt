@@ -1,17 +1,13 @@
 use Prim.Native.Nat.{ℕ, _+_, _-_}
-use mathlib.Core.Path.{refl}
+use mathlib.Core.Path.{_≡_, refl, sym, ap, _∙_}
+use native.Mathlib.Omega.{arith}
 use lib.ListN.{take, drop}
 use Rattle.framing.specs.declared.Frame.the-variants.{Outside}
+use Rattle.framing.specs.Numbers.{contentStart}
 use Rattle.framing.specs.Content.{contentOf}
-use Rattle.framing.specs.Session.{contentIn}
-use Rattle.framing.specs.Laws.{content-length}
-use borrow.Author.Tests.{lt-ltb, le-ltb, eq-eqb, ne-eqb, le-leb, lt-leb}
-use mathlib.Core.Path.{_≡_, sym, ap, _∙_}
-use native.Mathlib.Omega.{arith}
-use Rattle.framing.specs.Steps.{gives}
-use Rattle.framing.specs.declared.step.Stepped.{Stepped}
-use Rattle.framing.specs.Laws.{gives-same, keeps-same, keeps-refuses, payload-in, piece-long}
 use Rattle.framing.specs.Rules.{ends}
+use Rattle.framing.specs.Session.{contentIn}
+use Rattle.framing.specs.Laws.{gives-same, content-length, keeps-same, keeps-refuses, payload-in, piece-long}
 use borrow.Author.Needs.{needs}
 use Rattle.framing.proofs.step.ends.Statement.{statement}
 use Rattle.framing.proofs.step.ends.Tie as tie
@@ -40,8 +36,14 @@ refuses-requires c κs = search needs
 enum-told : tie.Need-enum-told
 enum-told c = search needs
 
+keep-alive-requires : tie.Need-keep-alive-requires
+keep-alive-requires c κs = search needs
+
 enum-told-2 : tie.Need-enum-told-2
 enum-told-2 c = search needs
+
+keep-alive-requires-2 : tie.Need-keep-alive-requires-2
+keep-alive-requires-2 c κs = search needs
 
 enum-known-content-2 : tie.Need-enum-known-content-2
 enum-known-content-2 c = search needs
@@ -51,8 +53,8 @@ sub-n c =
     let a = c .before .before .before .before .before .before .before .args in
     let p = c .before .before .before .before .before .before .before .pre in
     let t = a .store .now in
-    let i : a .length ≡ 16384 + a .length - 16384 = omega arith in
-    let k : contentOf (contentIn (a .length) t) ≡ _ = ap (λ (i : ℕ). contentOf (take i (drop 16384 t))) i ∙ sym (c .before .before .before .content-of .ensures) ∙ c .before .content2 .given .1 in
+    let i : a .length ≡ contentStart + a .length - contentStart = omega arith in
+    let k : contentOf (contentIn (a .length) t) ≡ _ = ap (λ (i : ℕ). contentOf (take i (drop contentStart t))) i ∙ sym (c .before .before .before .content-of .ensures) ∙ c .before .content2 .given .1 in
     omega (arith, piece-long _ _ _ k, content-length t (p .0) (a .length) (p .1 .0))
 
 pieces-requires : tie.Need-pieces-requires
@@ -67,8 +69,8 @@ returns c =
     let a = c .before .before .before .before .before .before .before .before .args in
     let p = c .before .before .before .before .before .before .before .before .pre in
     let t = a .store .now in
-    let i : a .length ≡ 16384 + a .length - 16384 = omega arith in
-    let k : contentOf (contentIn (a .length) t) ≡ _ = ap (λ (i : ℕ). contentOf (take i (drop 16384 t))) i ∙ sym (c .before .before .before .before .content-of .ensures) ∙ c .before .before .content .given .1 in
+    let i : a .length ≡ contentStart + a .length - contentStart = omega arith in
+    let k : contentOf (contentIn (a .length) t) ≡ _ = ap (λ (i : ℕ). contentOf (take i (drop contentStart t))) i ∙ sym (c .before .before .before .before .content-of .ensures) ∙ c .before .before .content .given .1 in
     rw k (keeps-refuses t (p .0) Outside (a .message) (omega arith) (p .1 .1) (c .before .before .content .given .0 .0) ∙ gives-same (sym (c .refuses .ensures)) refl)
 
 same-length-2 : tie.Need-same-length-2
@@ -77,12 +79,12 @@ same-length-2 c = search needs
 returns-2 : tie.Need-returns-2
 unfolding ends
 returns-2 c =
-    let a = c .before .before .before .before .before .before .args in
-    let p = c .before .before .before .before .before .before .pre in
+    let a = c .before .before .before .before .before .before .before .args in
+    let p = c .before .before .before .before .before .before .before .pre in
     let t = a .store .now in
-    let i : a .length ≡ 16384 + a .length - 16384 = omega arith in
-    let k : contentOf (contentIn (a .length) t) ≡ _ = ap (λ (i : ℕ). contentOf (take i (drop 16384 t))) i ∙ sym (c .before .before .content-of .ensures) ∙ c .enum-told .given .1 in
-    rw k (keeps-same t (p .0) Outside (a .message) (omega arith) (p .1 .1) 4)
+    let i : a .length ≡ contentStart + a .length - contentStart = omega arith in
+    let k : contentOf (contentIn (a .length) t) ≡ _ = ap (λ (i : ℕ). contentOf (take i (drop contentStart t))) i ∙ sym (c .before .before .before .content-of .ensures) ∙ c .before .enum-told .given .1 in
+    rw k (keeps-same t (p .0) Outside (a .message) (omega arith) (p .1 .1) 4 ∙ gives-same (sym (c .keep-alive .ensures)) refl)
 
 same-length-3 : tie.Need-same-length-3
 same-length-3 c = search needs
@@ -90,12 +92,12 @@ same-length-3 c = search needs
 returns-3 : tie.Need-returns-3
 unfolding ends
 returns-3 c =
-    let a = c .before .before .before .before .before .before .args in
-    let p = c .before .before .before .before .before .before .pre in
+    let a = c .before .before .before .before .before .before .before .args in
+    let p = c .before .before .before .before .before .before .before .pre in
     let t = a .store .now in
-    let i : a .length ≡ 16384 + a .length - 16384 = omega arith in
-    let k : contentOf (contentIn (a .length) t) ≡ _ = ap (λ (i : ℕ). contentOf (take i (drop 16384 t))) i ∙ sym (c .before .before .content-of .ensures) ∙ c .enum-told2 .given .1 in
-    rw k (keeps-same t (p .0) Outside (a .message) (omega arith) (p .1 .1) 5)
+    let i : a .length ≡ contentStart + a .length - contentStart = omega arith in
+    let k : contentOf (contentIn (a .length) t) ≡ _ = ap (λ (i : ℕ). contentOf (take i (drop contentStart t))) i ∙ sym (c .before .before .before .content-of .ensures) ∙ c .before .enum-told2 .given .1 in
+    rw k (keeps-same t (p .0) Outside (a .message) (omega arith) (p .1 .1) 5 ∙ gives-same (sym (c .keep-alive2 .ensures)) refl)
 
 same-length-4 : tie.Need-same-length-4
 same-length-4 c = search needs
@@ -106,8 +108,8 @@ returns-4 c =
     let a = c .before .before .before .before .before .before .before .before .before .before .before .args in
     let p = c .before .before .before .before .before .before .before .before .before .before .before .pre in
     let t = a .store .now in
-    let i : a .length ≡ 16384 + a .length - 16384 = omega arith in
-    let k : contentOf (contentIn (a .length) t) ≡ _ = ap (λ (i : ℕ). contentOf (take i (drop 16384 t))) i ∙ sym (c .before .before .before .before .before .before .before .content-of .ensures) ∙ c .before .before .before .before .before .content2 .given .1 in
+    let i : a .length ≡ contentStart + a .length - contentStart = omega arith in
+    let k : contentOf (contentIn (a .length) t) ≡ _ = ap (λ (i : ℕ). contentOf (take i (drop contentStart t))) i ∙ sym (c .before .before .before .before .before .before .before .content-of .ensures) ∙ c .before .before .before .before .before .content2 .given .1 in
     rw (k, payload-in t (p .0) (a .length) (p .1 .0) (omega (arith, piece-long _ _ _ k, content-length t (p .0) (a .length) (p .1 .0)))) (c .before .before .pieces .ensures)
 
 pub ends-spec : {M : Type 1} → statement M
@@ -122,7 +124,9 @@ ends-spec =
     enum-known-content
     refuses-requires
     enum-told
+    keep-alive-requires
     enum-told-2
+    keep-alive-requires-2
     enum-known-content-2
     sub-n
     pieces-requires

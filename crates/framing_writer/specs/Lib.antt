@@ -1,0 +1,5 @@
+pub mod Written
+pub mod Stores
+pub mod Laws
+pub mod Read
+pub mod Vectors
