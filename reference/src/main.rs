@@ -1,0 +1,70 @@
+//! The command `reference`: an independent reading of document 01.
+
+mod compare;
+mod desk;
+mod framing;
+mod gen;
+mod lines;
+mod listing;
+mod programs;
+mod sheet;
+mod store;
+mod tree;
+mod tree_writer;
+mod values;
+
+use std::io::{Read, Write};
+use std::process::exit;
+
+const USAGE: &str = "usage:
+  reference frames|octets|listing|tree|desk|sheet < input
+  reference generate frames|octets|listing|messages|desk SEED COUNT
+  reference generate sheet SEED DAMAGES
+  reference store [--check] [ROOT]
+  reference compare ROOT NAME... [--seed S] [--count N] [--seconds T] [--program PATH]
+";
+
+fn main() {
+    let words: Vec<String> = std::env::args().skip(1).collect();
+    let words: Vec<&str> = words.iter().map(String::as_str).collect();
+    match words.as_slice() {
+        ["frames"] => print(programs::frames(&input()).as_bytes()),
+        ["listing"] => print(listing::listing(&input()).as_bytes()),
+        ["octets"] => print(programs::octets(&input()).as_bytes()),
+        ["tree"] => print(programs::trees(&input()).as_bytes()),
+        ["desk"] => print(programs::desks(&input()).as_bytes()),
+        ["sheet"] => print(programs::sheets(&input()).as_bytes()),
+        ["generate", kind, seed, count] => {
+            let seed = seed.parse().unwrap_or_else(|_| usage());
+            let count = count.parse().unwrap_or_else(|_| usage());
+            match *kind {
+                "frames" => print(&gen::frames::input(seed, count).0),
+                "octets" => print(&gen::octets::input(seed, count).0),
+                "listing" => print(&gen::tree::listing_input(seed, count).0),
+                "messages" => print(&gen::tree::messages(seed, count)),
+                "desk" => print(&gen::desk::script(seed, count)),
+                "sheet" => print(&gen::desk::sheet_text(seed, count)),
+                _ => usage(),
+            }
+        }
+        ["compare", rest @ ..] => exit(compare::command(rest)),
+        ["store", rest @ ..] => exit(store::command(rest)),
+        _ => usage(),
+    }
+}
+
+fn input() -> Vec<u8> {
+    let mut bytes = Vec::new();
+    std::io::stdin().read_to_end(&mut bytes).expect("standard input");
+    bytes
+}
+
+fn print(bytes: &[u8]) {
+    // A reader that closes early is no fault of ours.
+    let _ = std::io::stdout().write_all(bytes);
+}
+
+fn usage() -> ! {
+    eprint!("{USAGE}");
+    exit(2)
+}

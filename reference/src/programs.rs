@@ -1,0 +1,332 @@
+//! The programs `frames` and `octets`, and our own `tree`, `desk` and `sheet`, from standard input's bytes to
+//! standard output's text.
+
+use crate::desk::{self, Desk, Figures};
+use crate::framing::{self, Session, STORE_LENGTH};
+use crate::lines::{hex, hex_line, lines};
+use crate::tree::{self, Answer, TABLE_MAX};
+use crate::values::{self, Oid};
+use crate::{sheet, tree_writer};
+
+/// Program `frames`: each line is one chunk, offered until it is consumed.
+pub fn frames(input: &[u8]) -> String {
+    let mut session = Session::start();
+    let mut store = vec![0; STORE_LENGTH];
+    let mut offset = 0;
+    let mut out = String::new();
+    for line in lines(input) {
+        let (chunk, bad) = hex_line(line);
+        for (at, event) in framing::run(&mut session, &mut store, &chunk, &mut offset) {
+            out += &format!("{} {} {}", at, event.number, u8::from(event.discarded));
+            if let Some(message) = &event.message {
+                out += " ";
+                out += &hex(message);
+            }
+            out += "\n";
+        }
+        if bad {
+            out += "bad line\n";
+            return out;
+        }
+    }
+    let frame = if session.in_frame() { session.frame_length.to_string() } else { "-".to_string() };
+    let message = session.message.map_or("-".to_string(), |length| length.to_string());
+    out += &format!("end {offset} {frame} {message}\n");
+    out
+}
+
+/// Program `octets`: one request a line, one answer a line.
+pub fn octets(input: &[u8]) -> String {
+    let mut out = String::new();
+    for line in lines(input) {
+        out += &answer(line).unwrap_or("bad line".to_string());
+        out += "\n";
+    }
+    out
+}
+
+/// The answer to one request; None for a bad line. Words stand one space apart.
+pub fn answer(line: &[u8]) -> Option<String> {
+    let words: Vec<&[u8]> = line.split(|&byte| byte == b' ').collect();
+    match words.as_slice() {
+        [b"read", b"int", word] => Some(shown(values::read_int(&octets_of(word)?).map(|value| value.to_string()))),
+        [b"read", b"real", word] => {
+            Some(shown(values::read_real(&octets_of(word)?).map(|value| format!("{:016X}", value.to_bits()))))
+        }
+        [b"read", b"bool", word] => Some(shown(values::read_bool(&octets_of(word)?).map(|value| value.to_string()))),
+        [b"read", b"tag", word] => Some(read_tag(&octets_of(word)?)),
+        [b"read", b"oid", word] => Some(read_oid(&octets_of(word)?)),
+        [b"write", b"int", word] => Some(match integer(word)? {
+            Some(value) => hex(&values::write_int(value)),
+            None => "46".to_string(),
+        }),
+        [b"write", b"real", word] => Some(written(values::write_real(f64::from_bits(bits(word)?)))),
+        [b"write", b"bool", b"true"] => Some(hex(&values::write_bool(true))),
+        [b"write", b"bool", b"false"] => Some(hex(&values::write_bool(false))),
+        [b"write", b"tag", class, constructed, number] => {
+            let (class, constructed, number) = (natural(class)?, natural(constructed)?, natural(number)?);
+            if class > 3 || constructed > 1 {
+                return None;
+            }
+            Some(written(values::write_identifier(class as u8, constructed == 1, number)))
+        }
+        [b"write", b"length", number] => Some(written(values::write_length(natural(number)?))),
+        [b"write", b"oid", b"-"] => Some("-".to_string()),
+        [b"write", b"oid", word] => {
+            let numbers: Option<Vec<u64>> = word.split(|&byte| byte == b'.').map(natural).collect();
+            Some(written(values::write_oid(&numbers?)))
+        }
+        _ => None,
+    }
+}
+
+fn read_tag(octets: &[u8]) -> String {
+    match values::read_tag(octets, 0, None) {
+        Err(refusal) => refusal.number.to_string(),
+        Ok(tag) => {
+            let length = tag.length.map_or("indefinite".to_string(), |length| length.to_string());
+            format!("{} {} {} {} {}", tag.class, u8::from(tag.constructed), tag.number, length, tag.content)
+        }
+    }
+}
+
+fn read_oid(octets: &[u8]) -> String {
+    match values::read_oid(octets) {
+        Oid::Bad => values::BER.to_string(),
+        Oid::Numbers(numbers) if numbers.contains(&None) => "range".to_string(),
+        Oid::Numbers(numbers) if numbers.is_empty() => "-".to_string(),
+        Oid::Numbers(numbers) => {
+            let shown: Vec<String> = numbers.iter().flatten().map(|number| number.to_string()).collect();
+            shown.join(".")
+        }
+    }
+}
+
+fn shown(result: Result<String, u8>) -> String {
+    result.unwrap_or_else(|number| number.to_string())
+}
+
+fn written(result: Result<Vec<u8>, u8>) -> String {
+    shown(result.map(|octets| hex(&octets)))
+}
+
+/// `-` is no octets; otherwise one or more pairs.
+fn octets_of(word: &[u8]) -> Option<Vec<u8>> {
+    if word == b"-" {
+        return Some(Vec::new());
+    }
+    match hex_line(word) {
+        (octets, false) => Some(octets),
+        _ => None,
+    }
+}
+
+/// Exactly 16 hexadecimal digits.
+fn bits(word: &[u8]) -> Option<u64> {
+    let octets: [u8; 8] = octets_of(word)?.try_into().ok()?;
+    Some(u64::from_be_bytes(octets))
+}
+
+/// One or more decimal digits, leading zeros allowed. Over 64 bits it stays at the top, out of every range.
+fn natural(word: &[u8]) -> Option<u64> {
+    if word.is_empty() {
+        return None;
+    }
+    let mut value: u64 = 0;
+    for &byte in word {
+        if !byte.is_ascii_digit() {
+            return None;
+        }
+        value = value.saturating_mul(10).saturating_add(u64::from(byte - b'0'));
+    }
+    Some(value)
+}
+
+/// An optional `-` and digits. None: malformed; Some(None): no i64.
+fn integer(word: &[u8]) -> Option<Option<i64>> {
+    let (negative, digits) = match word {
+        [b'-', digits @ ..] => (true, digits),
+        digits => (false, digits),
+    };
+    let size = i128::from(natural(digits)?);
+    Some(i64::try_from(if negative { -size } else { size }).ok())
+}
+
+/// Each line is one message (`-`: of no bytes), read with a table of 256. Printed: `0 COUNT HEX`, the entries'
+/// count and the tree as our writer writes it; `NUMBER PLACE`; `38 COUNT`; or `1`.
+pub fn trees(input: &[u8]) -> String {
+    let mut out = String::new();
+    for line in lines(input) {
+        let answer = octets_of(line).map(|message| tree::read(&message, TABLE_MAX));
+        out += &match answer {
+            None => "bad line".to_string(),
+            Some(Answer::Setup) => "1".to_string(),
+            Some(Answer::Room(count)) => format!("38 {count}"),
+            Some(Answer::Refused(refusal)) => format!("{} {}", refusal.number, refusal.place),
+            Some(Answer::Tree(tree)) => format!("0 {} {}", tree.entries.len(), written(tree_writer::write(&tree))),
+        };
+        out += "\n";
+    }
+    out
+}
+
+/// `open TYPE MODE TARGETS SOURCES TOTAL PER_TARGET PATH` (`-`: not given) opens a desk and prints 0 or 45, which leaves
+/// none. `message HEX` prints the tree's number and, after 0, the desk's answers and its rows.
+pub fn desks(input: &[u8]) -> String {
+    let mut out = String::new();
+    let mut desk: Option<Desk> = None;
+    for line in lines(input) {
+        out += &desk_line(&mut desk, line).unwrap_or("bad line".to_string());
+        out += "\n";
+    }
+    out
+}
+
+fn desk_line(desk: &mut Option<Desk>, line: &[u8]) -> Option<String> {
+    let words: Vec<&[u8]> = line.split(|&byte| byte == b' ').collect();
+    match words.as_slice() {
+        [b"open", numbers @ .., path] if numbers.len() == 6 => {
+            let mut given = [None; 6];
+            for (word, number) in numbers.iter().zip(&mut given) {
+                *number = if *word == b"-" { None } else { Some(integer(word)?.unwrap_or(i64::MAX)) };
+            }
+            let [kind, mode, targets, sources, total_limit, target_limit] = given;
+            let path: Option<Vec<u64>> = path.split(|&byte| byte == b'.').map(natural).collect();
+            let figures = Figures { path: path?, kind, mode, targets, sources, total_limit, target_limit };
+            let (number, opened) = match desk::open(&figures) {
+                Ok(opened) => (0, Some(opened)),
+                Err(number) => (number, None),
+            };
+            *desk = opened;
+            Some(number.to_string())
+        }
+        [b"message", word] => {
+            let message = octets_of(word)?;
+            let desk = desk.as_mut()?;
+            let tree = match tree::read(&message, TABLE_MAX) {
+                Answer::Tree(tree) => tree,
+                other => return Some(other.number().to_string()),
+            };
+            let answers = match desk.call(&tree) {
+                Ok(answers) if answers.is_empty() => "-".to_string(),
+                Ok(answers) => joined(answers.iter(), ","),
+                Err(number) => return Some(format!("0 {number}")),
+            };
+            let rows: Vec<String> = desk.rows.iter().map(|row| joined(row.iter(), ".")).collect();
+            Some(format!("0 {answers} {}", rows.join(";")))
+        }
+        _ => None,
+    }
+}
+
+fn joined<T: ToString>(list: impl Iterator<Item = T>, between: &str) -> String {
+    list.map(|item| item.to_string()).collect::<Vec<String>>().join(between)
+}
+
+/// The input is one route sheet. Printed: its number and, after 0, the sheet as we write it.
+pub fn sheets(input: &[u8]) -> String {
+    match sheet::read(input) {
+        Ok(desk) => format!("0\n{}", sheet::write(&desk).unwrap()),
+        Err(number) => format!("{number}\n"),
+    }
+}
+
+#[cfg(test)]
+mod tests {
+    use super::*;
+
+    #[test]
+    fn frames_of_the_listing_sample() {
+        let input = b"FE000E010194E4FF\nFE000E0201FDDCCEFF\nFEFF\n00\n";
+        assert_eq!(frames(input), "8 4 0\n17 5 0\n19 15 0\n20 10 0\nend 20 - -\n");
+    }
+
+    #[test]
+    fn frames_end_and_bad_lines() {
+        assert_eq!(frames(b""), "end 0 - -\n");
+        assert_eq!(frames(b"FE"), "end 1 0 -\n");
+        assert_eq!(frames(b"fe00fd"), "end 3 1 -\n");
+        assert_eq!(frames(b"FE0000F9000000"), "end 7 2 -\n");
+        assert_eq!(frames(b"FEFF\n\nFE"), "2 15 0\nbad line\n");
+        assert_eq!(frames(b"FEFF0\n"), "2 15 0\nbad line\n");
+        assert_eq!(frames(b"FEFF\r\n"), "2 15 0\nbad line\n");
+        let first = framing::write_frame(&framing::packet(0x80, 0x14, &[1, 2])).unwrap();
+        let last = framing::write_frame(&framing::packet(0x40, 0x14, &[0xAB])).unwrap();
+        let text = format!("{}\n{}\n{}", hex(&first), hex(&last), hex(&first));
+        let n = first.len();
+        let all = n + last.len();
+        assert_eq!(frames(text.as_bytes()), format!("{n} 2 0\n{all} 3 0 0102AB\n{} 2 0\nend {} - 2\n", all + n, all + n));
+    }
+
+    #[test]
+    fn own_formats() {
+        assert_eq!(trees(b"600B6B09A0076205A003020120\n-\n60\nx"), "0 1 600B6B09A0076205A003020120\n30 0\n30 1\nbad line\n");
+        let message = "message 60176B15A0137111A0030D0101A50A3008A0067004A00202";
+        assert_eq!(
+            desks(format!("open 2 - 2 3 - - 1\n{message}\nopen 3 - 2 3 - - 1\n{message}\n").as_bytes()),
+            "0\n30\n45\nbad line\n"
+        );
+        let filled = "message 601E6B1CA01A7118A0030D0101A511300FA00D700BA003020101A1040D020002";
+        let emptied = "message 60186B16A0147112A0030D0101A50B3009A0077005A003020101";
+        assert_eq!(desks(format!("open 2 - 2 3 - - 1\n{filled}\n{emptied}").as_bytes()), "0\n0 0 ;0.2\n0 0 ;\n");
+        assert_eq!(sheets(b""), "33\n");
+    }
+
+    #[test]
+    fn requests() {
+        for (line, expected) in [
+            ("read int 00FF", "255"),
+            ("read int -", "30"),
+            ("read int 8000000000000000", "-9223372036854775808"),
+            ("read real -", "0000000000000000"),
+            ("read real 800001", "3FF0000000000000"),
+            ("read real 41", "FFF0000000000000"),
+            ("read real 80", "35"),
+            ("read bool 02", "true"),
+            ("read bool 0000", "30"),
+            ("read tag 600b", "1 1 0 11 2"),
+            ("read tag 6080FF", "1 1 0 indefinite 2"),
+            ("read tag 4080", "30"),
+            ("read tag -", "30"),
+            ("read oid -", "-"),
+            ("read oid 018100", "1.128"),
+            ("read oid 8880808000", "range"),
+            ("read oid 888080800080", "30"),
+            ("write int -128", "80"),
+            ("write int 9223372036854775807", "7FFFFFFFFFFFFFFF"),
+            ("write int 9223372036854775808", "46"),
+            ("write int -9223372036854775808", "8000000000000000"),
+            ("write int -9223372036854775809", "46"),
+            ("write int 00000000000000000000000000000001", "01"),
+            ("write int 99999999999999999999999999999999999999999999999999", "46"),
+            ("write int -0", "00"),
+            ("write int +1", "bad line"),
+            ("write int -", "bad line"),
+            ("write real 0000000000000000", "-"),
+            ("write real 8000000000000000", "46"),
+            ("write real 3ff0000000000000", "800001"),
+            ("write real 3ff000000000000", "bad line"),
+            ("write bool true", "FF"),
+            ("write bool false", "00"),
+            ("write bool 1", "bad line"),
+            ("write tag 2 1 31", "BF1F"),
+            ("write tag 2 1 268435456", "46"),
+            ("write tag 4 1 1", "bad line"),
+            ("write tag 3 2 1", "bad line"),
+            ("write length 128", "8180"),
+            ("write length 4294967296", "46"),
+            ("write oid 1.128", "018100"),
+            ("write oid -", "-"),
+            ("write oid 2147483648", "46"),
+            ("write oid 1..2", "bad line"),
+            ("", "bad line"),
+            ("read  int 01", "bad line"),
+            ("read int 01 ", "bad line"),
+            ("read int 0", "bad line"),
+            ("read int 01\r", "bad line"),
+        ] {
+            assert_eq!(octets(line.as_bytes()), if line.is_empty() { String::new() } else { format!("{expected}\n") }, "{line}");
+        }
+        assert_eq!(octets(b"\nread int 01"), "bad line\n1\n");
+    }
+}

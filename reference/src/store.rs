@@ -1,0 +1,58 @@
+//! The programs' stored inputs and expected outputs.
+
+use crate::{gen, programs};
+use std::path::{Path, PathBuf};
+
+/// Every stored file, from the repository's root, with what it must hold.
+fn files() -> Vec<(&'static str, Vec<u8>)> {
+    let frames = gen::frames::stored();
+    let octets = gen::octets::stored();
+    vec![
+        ("crates/frames/stdout", programs::frames(&frames).into_bytes()),
+        ("crates/frames/stdin", frames),
+        ("crates/octets/stdout", programs::octets(&octets).into_bytes()),
+        ("crates/octets/stdin", octets),
+    ]
+}
+
+/// The nearest folder at or above this one that has `crates.txt` or `crates`.
+fn root() -> Option<PathBuf> {
+    let here = std::env::current_dir().ok()?;
+    here.ancestors().find(|folder| folder.join("crates.txt").exists() || folder.join("crates").is_dir()).map(Path::to_path_buf)
+}
+
+/// `store [--check] [ROOT]`: writes the files that differ, or only names them. The exit code: 0, or 1 if any
+/// differs under --check, or 2.
+pub fn command(words: &[&str]) -> i32 {
+    let check = words.contains(&"--check");
+    let folders: Vec<&&str> = words.iter().filter(|word| **word != "--check").collect();
+    let root = match folders.as_slice() {
+        [] => root(),
+        [folder] => Some(PathBuf::from(folder)),
+        _ => None,
+    };
+    let Some(root) = root else {
+        eprintln!("store: name the repository's root");
+        return 2;
+    };
+    let mut changed = 0;
+    for (name, bytes) in files() {
+        let path = root.join(name);
+        if std::fs::read(&path).is_ok_and(|old| old == bytes) {
+            println!("same     {name} ({} bytes)", bytes.len());
+            continue;
+        }
+        changed += 1;
+        if check {
+            println!("differs  {name}");
+            continue;
+        }
+        let written = std::fs::create_dir_all(path.parent().unwrap()).and_then(|()| std::fs::write(&path, &bytes));
+        if let Err(error) = written {
+            eprintln!("store: {name}: {error}");
+            return 2;
+        }
+        println!("written  {name} ({} bytes)", bytes.len());
+    }
+    i32::from(check && changed > 0)
+}
