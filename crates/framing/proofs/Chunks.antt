@@ -18,12 +18,11 @@ use Rattle.framing.proofs.feed.Reads as feed-reads
 use Rattle.framing.proofs.start
 use Rattle.framing.proofs.start.Kinds as start-kinds
 use Rattle.framing.proofs.start.Reads as start-reads
-use Rattle.framing.specs.declared.Event.{Event}
 use Rattle.framing.specs.declared.Fed.{Fed}
 use Rattle.framing.specs.declared.Session.{Session}
 use Rattle.framing.specs.Numbers.{storeLength}
 use Rattle.framing.specs.Rules.{State, Said, begin, Happening, noted, happens, after}
-use Rattle.framing.specs.Session.{saidBy, stateOf, sessionOf, Whole, run, feeds, legal}
+use Rattle.framing.specs.Session.{saidBy, stateOf, sessionOf, Whole, answers, run, feeds}
 use Rattle.framing.specs.Laws.{Legal, true-legal, bounded-state, session-back}
 use Rattle.framing.specs.Stream.{Ran, ran, noted-append, happens-append, after-append}
 
@@ -49,7 +48,7 @@ begins : {s : Session} → Started s → s ≡ sessionOf begin
 begins k = k .ensured
 
 says : {s : Session} {t c : List ℕ} {r : Fed} {t′ : List ℕ} → Call s t c r t′
-    → feeds s t c ≡ record { said = saidBy (r .event) t′; consumed = r .consumed; session = r .session; store = t′ }
+    → feeds s t c ≡ answers r t′
 says k = cc (k .ensured)
 
 -- One call: what was offered, what it gave, and the store as it left it.
@@ -92,17 +91,17 @@ pub record Free (s : State) (n : ℕ) (ts : List Turn) (s″ : Session) (t″ by
 
 -- the run that a call with a legal session makes
 call-ran : {s : Session} {t c : List ℕ} {r : Fed} {t′ : List ℕ} → Call s t c r t′ → Legal s t
-    → Ran c (stateOf s t) 0 (record { said = saidBy (r .event) t′; consumed = r .consumed; session = r .session; store = t′ })
+    → Ran c (stateOf s t) 0 (answers r t′)
 unfolding feeds
 call-ran {s} {t} {c} {r} {t′} k l =
-    let e : run c (stateOf s t) t 0 ≡ record { said = saidBy (r .event) t′; consumed = r .consumed; session = r .session; store = t′ } =
+    let e : run c (stateOf s t) t 0 ≡ answers r t′ =
     rw (true-legal s t l) at (says k) in
     subst (λ (w : Whole). Ran c (stateOf s t) 0 w) e
     (ran c (stateOf s t) t 0 (l .room) (bounded-state s t (l .room) (l .frame) (l .message)) (ap (λ (x : Session). stateOf x t) (session-back s t l)))
 
 -- a turn before other turns
 module _ (c later : List ℕ) (r : Fed) (t′ : List ℕ) (s : State) (n : ℕ)
-    (k : Ran c s 0 (record { said = saidBy (r .event) t′; consumed = r .consumed; session = r .session; store = t′ })) where
+    (k : Ran c s 0 (answers r t′)) where
   abbrev x : List ℕ
   x = take (r .consumed) c
 

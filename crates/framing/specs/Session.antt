@@ -7,6 +7,7 @@ use lib.ListN.{length, take, drop}
 use lib.Seq.{sets}
 use Rattle.framing.specs.declared.Event.{Event}
 use Rattle.framing.specs.declared.Event.the-variants as ev
+use Rattle.framing.specs.declared.Fed.{Fed}
 use Rattle.framing.specs.declared.Frame.{Frame}
 use Rattle.framing.specs.declared.Frame.the-variants.{Outside, Stray, Inside, Escaped, BadByte, TooLong}
 use Rattle.framing.specs.declared.Pending.{Pending}
@@ -113,6 +114,10 @@ pub record Whole : Type 0 where
 
 abbrev pub whole : Said → ℕ → State → List ℕ → Whole
 whole e n s t = record { said = e; consumed = n; session = sessionOf s; store = t }
+
+-- What a call answers beside the store that it leaves.
+abbrev pub answers : Fed → List ℕ → Whole
+answers r t = record { said = saidBy (r .event) t; consumed = r .consumed; session = r .session; store = t }
 
 -- "A call consumes bytes up to and including the one that makes an event, or all of them."
 unfoldable pub run : List ℕ → State → List ℕ → ℕ → Whole

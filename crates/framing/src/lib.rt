@@ -1,4 +1,4 @@
-// S101 framing, alone: the session that reads a stream in chunks, and the writer of frames and messages.
+// S101 framing, alone: the checksum, what a frame's content is, and the session that reads a stream in chunks.
 
 pub mod checksum;
 mod judge;
@@ -8,7 +8,7 @@ ghost use mathlib.Core.Path.{_≡_};
 ghost use mathlib.Core.Bool.{true};
 ghost use lib.ListN.{length};
 ghost use Rattle.framing.specs.Rules.{begin};
-ghost use Rattle.framing.specs.Session.{frameLength, messageLength, legal, saidBy, sessionOf, stateOf, run, feeds};
+ghost use Rattle.framing.specs.Session.{frameLength, messageLength, legal, answers, sessionOf, stateOf, run, feeds};
 
 pub const BOF: u8 = 0xfe;
 
@@ -17,15 +17,16 @@ pub const EOF: u8 = 0xff;
 pub const CE: u8 = 0xfd;
 
 // The lent store: message bytes from 0, frame content from 16,384.
+pub const STORE_LENGTH: usize = 17408;
+
 pub const MESSAGE_LIMIT: usize = 16384;
 
 pub const CONTENT_START: usize = 16384;
 
 pub const CONTENT_LIMIT: usize = 1024;
-// Past the nine bytes of a piece's header.
-pub const PAYLOAD_START: usize = 16393;
 
-pub const STORE_LENGTH: usize = 17408;
+// The payload of a piece: past the nine bytes of its header.
+pub const PAYLOAD_START: usize = 16393;
 
 // Why a frame or a run of bytes is refused; specs/Numbers.antt gives each its number, 10 to 24.
 pub enum Fault {
@@ -141,7 +142,7 @@ fn is_legal(session: Session, n: usize) -> bool
 // Takes bytes of the chunk up to an event, or all of them.
 fn runs(session: Session, store: &mut [u8], chunk: &[u8]) -> Fed
     requires { ⌜ legal session (length (now store)) ≡ true ⌝ }
-    ensures { λ r. ⌜ run (now (chunk .entry)) (stateOf session (now (store .entry))) (now (store .entry)) 0 ≡ record { said = saidBy (r .event) (now (store .exit)); consumed = r .consumed; session = r .session; store = now (store .exit) } ⌝ }
+    ensures { λ r. ⌜ run (now (chunk .entry)) (stateOf session (now (store .entry))) (now (store .entry)) 0 ≡ answers r (now (store .exit)) ⌝ }
 {
     let mut s = session;
     let mut i = 0;
@@ -171,7 +172,7 @@ fn runs(session: Session, store: &mut [u8], chunk: &[u8]) -> Fed
 
 // Offers a chunk to a session and its store.
 pub fn feed(session: Session, store: &mut [u8], chunk: &[u8]) -> Fed
-    ensures { λ r. ⌜ feeds session (now (store .entry)) (now (chunk .entry)) ≡ record { said = saidBy (r .event) (now (store .exit)); consumed = r .consumed; session = r .session; store = now (store .exit) } ⌝ }
+    ensures { λ r. ⌜ feeds session (now (store .entry)) (now (chunk .entry)) ≡ answers r (now (store .exit)) ⌝ }
 {
     let n = store.len();
     if is_legal(session, n) {
