@@ -1,6 +1,5 @@
 -- Freedom from chunks: whatever is offered, call by call, the events and the bytes consumed are those of the rules. It rests on the contracts of `start` and `feed`.
 use Prim.Native.Nat.{ℕ, _+_, _≤_}
-use mathlib.Core.Bool.{true}
 use mathlib.Core.Path.{_≡_, refl, sym, ap, subst, _∙_}
 use mathlib.Core.List.{List, [], _∷_, _++_, append-assoc}
 use native.Mathlib.Omega.{arith}
@@ -9,7 +8,6 @@ use denote.Ref.{now}
 use denote.Triple.Clauses as Clauses
 use borrow.Fn.World as World
 use borrow.Fn.Kinds as K
-use lib.Dec.{eqb}
 use lib.ListN.{length, take, drop, take-append-drop}
 use lib.Seq.{length-take-le, drop-append-le}
 use Rattle.framing.proofs.feed
@@ -22,8 +20,9 @@ use Rattle.framing.specs.declared.Fed.{Fed}
 use Rattle.framing.specs.declared.Session.{Session}
 use Rattle.framing.specs.Numbers.{storeLength}
 use Rattle.framing.specs.Rules.{State, Said, begin, Happening, noted, happens, after}
-use Rattle.framing.specs.Session.{saidBy, stateOf, sessionOf, Whole, answers, run, feeds}
-use Rattle.framing.specs.Laws.{Legal, true-legal, bounded-state, session-back}
+use Rattle.framing.specs.Session.{saidBy, stateOf, sessionOf, Legal, Whole, answers, run, feeds}
+use Rattle.framing.specs.Offers.{Turn, eaten, told, AsRules}
+use Rattle.framing.specs.Laws.{true-legal, bounded-state, session-back}
 use Rattle.framing.specs.Stream.{Ran, ran, noted-append, happens-append, after-append}
 
 -- `start` gave s: what its contract has it ensure.
@@ -44,18 +43,12 @@ pub record Call (s : Session) (t c : List ℕ) (r : Fed) (t′ : List ℕ) : Typ
   pub left-is : now (exits .1 .0) ≡ t′
   pub ensured : feed-reads.Post κs args r exits
 
-begins : {s : Session} → Started s → s ≡ sessionOf begin
+pub begins : {s : Session} → Started s → s ≡ sessionOf begin
 begins k = k .ensured
 
 says : {s : Session} {t c : List ℕ} {r : Fed} {t′ : List ℕ} → Call s t c r t′
     → feeds s t c ≡ answers r t′
 says k = cc (k .ensured)
-
--- One call: what was offered, what it gave, and the store as it left it.
-pub record Turn : Type 0 where
-  pub offered : List ℕ
-  pub fed : Fed
-  pub store : List ℕ
 
 -- A list of turns from the session s and the store t, with the bytes rest yet to come. Each offers 0 or more of the bytes not yet consumed.
 pub data Turns : Session → List ℕ → List ℕ → List Turn → Session → List ℕ → List ℕ → Type 0 where
@@ -63,31 +56,6 @@ pub data Turns : Session → List ℕ → List ℕ → List Turn → Session →
   turn : {s s″ : Session} {t t′ t″ rest″ : List ℕ} {ts : List Turn} (c later : List ℕ) (r : Fed)
       → Call s t c r t′ → Turns (r .session) t′ (drop (r .consumed) (c ++ later)) ts s″ t″ rest″
       → Turns s t (c ++ later) (record { offered = c; fed = r; store = t′ } ∷ ts) s″ t″ rest″
-
--- The bytes that the calls consumed.
-abbrev pub eaten : List Turn → List ℕ
-eaten [] = []
-eaten (x ∷ xs) = take (x .fed .consumed) (x .offered) ++ eaten xs
-
--- The events that the calls gave, in order, with the number of bytes consumed by then and all that they say: a message is the store's own bytes.
-abbrev pub told : List Turn → ℕ → List Happening
-told [] n = []
-told (x ∷ xs) n = noted (saidBy (x .fed .event) (x .store)) (n + x .fed .consumed) (told xs (n + x .fed .consumed))
-
--- Each call consumed no more than it was offered, and all of it where it gave no event.
-abbrev pub Honest : List Turn → Type 0
-Honest [] = Unit {0}
-Honest (x ∷ xs) =
-    ((x .fed .consumed ≤ length (x .offered)) × (eqb (saidBy (x .fed .event) (x .store) .number) 0 ≡ true → x .fed .consumed ≡ length (x .offered)))
-    × Honest xs
-
--- What holds of a list of turns from a state: the rules' events, the rules' state, and the bytes.
-pub record Free (s : State) (n : ℕ) (ts : List Turn) (s″ : Session) (t″ bytes rest : List ℕ) : Type 0 where
-  pub events : told ts n ≡ happens s n (eaten ts)
-  pub state : stateOf s″ t″ ≡ after s (eaten ts)
-  pub bytes-are : eaten ts ++ rest ≡ bytes
-  pub honest : Honest ts
-  pub legal : Legal s″ t″
 
 -- the run that a call with a legal session makes
 call-ran : {s : Session} {t c : List ℕ} {r : Fed} {t′ : List ℕ} → Call s t c r t′ → Legal s t
@@ -121,7 +89,7 @@ module _ (c later : List ℕ) (r : Fed) (t′ : List ℕ) (s : State) (n : ℕ)
   x-held = subst (λ (d : ℕ). stateOf (r .session) t′ ≡ after s (take d c)) d-is (k .held)
 
   module _ (us : List Turn) (s″ : Session) (t″ rest″ : List ℕ)
-      (f : Free (stateOf (r .session) t′) (n + r .consumed) us s″ t″ (drop (r .consumed) (c ++ later)) rest″) where
+      (f : AsRules (stateOf (r .session) t′) (n + r .consumed) us s″ t″ (drop (r .consumed) (c ++ later)) rest″) where
     turn-events : noted e (n + r .consumed) (told us (n + r .consumed)) ≡ happens s n (x ++ eaten us)
     turn-events =
         ap (λ (hs : List Happening). noted e (n + r .consumed) hs) (f .events)
@@ -141,30 +109,31 @@ module _ (c later : List ℕ) (r : Fed) (t′ : List ℕ) (s : State) (n : ℕ)
         ∙ sym (append-assoc x (drop (r .consumed) c) later)
         ∙ ap (λ (q : List ℕ). q ++ later) (take-append-drop (r .consumed) c)
 
-    free-turn : Free s n (record { offered = c; fed = r; store = t′ } ∷ us) s″ t″ (c ++ later) rest″
-    free-turn =
+    turn-as-rules : AsRules s n (record { offered = c; fed = r; store = t′ } ∷ us) s″ t″ (c ++ later) rest″
+    turn-as-rules =
         record {
           events = turn-events;
           state = turn-state;
           bytes-are = turn-bytes;
-          honest = ((omega (arith, d-is, k .offered), λ q. sym d-is ∙ k .all q), f .honest);
+          counted = ((omega (arith, d-is, k .offered), λ q. sym d-is ∙ k .all q), f .counted);
           legal = f .legal;
         }
 
-free : {s s″ : Session} {t t″ rest rest″ : List ℕ} {ts : List Turn} → Turns s t rest ts s″ t″ rest″ → (n : ℕ) → Legal s t
-    → Free (stateOf s t) n ts s″ t″ rest rest″
+-- from any legal session
+pub as-rules : {s s″ : Session} {t t″ rest rest″ : List ℕ} {ts : List Turn} → Turns s t rest ts s″ t″ rest″ → (n : ℕ) → Legal s t
+    → AsRules (stateOf s t) n ts s″ t″ rest rest″
 unfolding happens after
-free none n l = record { events = refl; state = refl; bytes-are = refl; honest = tt; legal = l }
-free {s} {s″} {t} {t″} (turn {t′ = t′} {rest″ = rest″} {ts = us} c later r call more) n l =
+as-rules none n l = record { events = refl; state = refl; bytes-are = refl; counted = tt; legal = l }
+as-rules {s} {s″} {t} {t″} (turn {t′ = t′} {rest″ = rest″} {ts = us} c later r call more) n l =
     let k = call-ran call l in
-    free-turn c later r t′ (stateOf s t) n k us s″ t″ rest″ (free more (n + r .consumed) (k .legal))
+    turn-as-rules c later r t′ (stateOf s t) n k us s″ t″ rest″ (as-rules more (n + r .consumed) (k .legal))
 
 -- THE THEOREM. From a fresh session and any store of the right length, for every list of offers: the events, each with its offset, its discard and its
 -- message's bytes as they stand in the store, are those that the rules give for the bytes consumed so far; so is the state that session and store hold
 -- at the end; the bytes consumed are the stream's first; and each call consumed all it was offered, or up to and including its event's byte.
 pub chunk-free : {s s″ : Session} {t t″ bytes rest : List ℕ} {ts : List Turn} → Started s → length t ≡ storeLength
-    → Turns s t bytes ts s″ t″ rest → Free begin 0 ts s″ t″ bytes rest
+    → Turns s t bytes ts s″ t″ rest → AsRules begin 0 ts s″ t″ bytes rest
 chunk-free {s} {s″} {t} {t″} {bytes} {rest} {ts} started room turns =
     let e : s ≡ sessionOf begin = begins started in
     let l : Legal (sessionOf begin) t = record { room = room; frame = omega arith; message = omega arith } in
-    free (subst (λ (x : Session). Turns x t bytes ts s″ t″ rest) e turns) 0 l
+    as-rules (subst (λ (x : Session). Turns x t bytes ts s″ t″ rest) e turns) 0 l

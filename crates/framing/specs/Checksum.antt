@@ -48,7 +48,8 @@ unfoldable pub crcFrom : ℕ → List ℕ → ℕ
 crcFrom c [] = c
 crcFrom c (b ∷ bs) = crcFrom (crcStep c b) bs
 
--- "start FFFF, .. inverted": the binary NOT of 16 bits is the distance from FFFF.
+-- "a 16-bit CRC over the unescaped data: start FFFF, reflected polynomial 8408 (by 001's table of 256 numbers), inverted": the binary NOT of 16 bits is
+-- the distance from FFFF.
 unfoldable pub checksum : List ℕ → ℕ
 checksum xs = 0xffff - crcFrom 0xffff xs
 

@@ -1,4 +1,5 @@
--- What a frame's content is (document 01, "Framing"; the checks in the order of "Numbers answered").
+-- What a frame's content is (document 01, "Framing"; the checks in the order of "Numbers answered"). A name stands before its use, so the last check comes
+-- first here: read from `contentOf` upwards.
 use Prim.Native.Nat.{ℕ, _+_, _-_, _*_, _/_, _%_}
 use mathlib.Core.Bool.{Bool, true, false}
 use mathlib.Core.List.{List}
@@ -73,6 +74,6 @@ contentOf xs =
     pick (ltb (length xs) 6) (Refused Short)
     (pick (eqb (crcOf xs) (checksum (body xs))) (bodyOf (body xs)) (Refused Crc))
 
--- the application bytes of a piece: after nine bytes of header, before the checksum
+-- the payload of a piece: what follows the nine bytes up to the major version
 abbrev pub payload : List ℕ → List ℕ
-payload xs = take (length xs - 11) (drop 9 xs)
+payload xs = drop 9 (body xs)

@@ -9,7 +9,7 @@ use borrow.Author.Tests.{eqb-true, ltb-true, leb-true, leb-false, eq-eqb, ne-eqb
 use lib.Bits.{bitXor}
 use lib.Dec.{leb, ltb, eqb}
 use lib.ListN.{length, take, drop, set, getD, length-append, length-take, length-drop, drop-of-length-le}
-use lib.Seq.{sets, length-sets, length-take-le, drop-drop, drop-cons}
+use lib.Seq.{sets, length-sets, length-take-le, take-take, drop-drop, drop-cons}
 use Rattle.framing.specs.declared.Event.{Event}
 use Rattle.framing.specs.declared.Event.the-variants as ev
 use Rattle.framing.specs.declared.Fault.{Fault}
@@ -22,12 +22,12 @@ use Rattle.framing.specs.declared.Pending.{Pending}
 use Rattle.framing.specs.declared.Pending.the-variants.{Nothing, Part}
 use Rattle.framing.specs.declared.Session.{Session}
 use Rattle.framing.specs.declared.step.Stepped.{Stepped}
-use Rattle.framing.specs.Lists.{sets-append, length-part, sets-same, take-sets-le, part-sets, part-take}
+use Rattle.framing.specs.Lists.{sets-append, length-part, sets-same, take-sets-le, part-sets, drop-take}
 use Rattle.framing.specs.Numbers.{BOF, EOF, CE, contentLimit, messageLimit, storeLength, contentStart, number, pick}
 use Rattle.framing.specs.Rules.{Place, outside, stray, inside, escaped, badByte, tooLong, Message, none, part, State, Said, Step, begin, quiet, makes, goes, refuses, adds, joins, pieces, reads, ends, cuts, faulted, inPlace, step, isOpen}
 use Rattle.framing.specs.Content.{packetOf, commandOf, bodyOf, contentOf, body, crcOf, payload}
 use Rattle.framing.specs.Checksum.{checksum}
-use Rattle.framing.specs.Session.{saidBy, contentIn, placeOf, messageOf, stateOf, frameOf, pendingOf, sessionOf, frameLength, messageLength, legal, content, held, kept, Kept, keeps, whole, run}
+use Rattle.framing.specs.Session.{saidBy, contentIn, placeOf, messageOf, stateOf, frameOf, pendingOf, sessionOf, frameLength, messageLength, legal, Legal, content, held, kept, Kept, keeps, whole, run}
 use Rattle.framing.specs.Steps.{gives, isPart, going, refusing, joining, pastFault}
 
 -- ---- a test and its two answers
@@ -180,10 +180,14 @@ module _ (t : List ℕ) (room : length t ≡ storeLength) where
       go false false = keeps-goes f m hf hm
 
   -- the payload of the content in the store
-  pub payload-in : (n : ℕ) → n ≤ contentLimit → 11 ≤ n → payload (contentIn n t) ≡ take (n - 11) (drop (contentStart + 9) t)
-  payload-in n h k =
-      ap (λ (i : ℕ). take (i - 11) (drop 9 (contentIn n t))) (content-length n h)
-      ∙ part-take (n - 11) 9 n (drop contentStart t) (omega arith)
+  pub payload-in : (n : ℕ) → n ≤ contentLimit → payload (contentIn n t) ≡ take (n - 11) (drop (contentStart + 9) t)
+  payload-in n h =
+      let e : length (contentIn n t) - 2 ≡ n - 2 = ap (λ (i : ℕ). i - 2) (content-length n h) in
+      let f : n - 2 - 9 ≡ n - 11 = omega arith in
+      ap (λ (i : ℕ). drop 9 (take i (contentIn n t))) e
+      ∙ ap (λ (r : List ℕ). drop 9 r) (take-take (n - 2) n (drop contentStart t) (omega arith))
+      ∙ drop-take 9 (n - 2) (drop contentStart t)
+      ∙ ap (λ (i : ℕ). take i (drop 9 (drop contentStart t))) f
       ∙ ap (λ (r : List ℕ). take (n - 11) r) (drop-drop 9 contentStart t)
 
 -- ---- a piece has its header and checksum whole
@@ -418,12 +422,6 @@ module _ (s : State) (h : Bounded s) where
   message-bound = omega (arith, message-held (s .message), h .message)
 
 -- ---- a turn of the loop over a chunk
-
--- what SETUP does not refuse
-pub record Legal (s : Session) (t : List ℕ) : Type 0 where
-  pub room : length t ≡ storeLength
-  pub frame : frameLength (s .frame) ≤ contentLimit
-  pub message : messageLength (s .message) ≤ messageLimit
 
 pub legal-true : (s : Session) (t : List ℕ) → legal s (length t) ≡ true → Legal s t
 legal-true s t h =

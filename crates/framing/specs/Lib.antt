@@ -4,6 +4,8 @@ pub mod Checksum
 pub mod Content
 pub mod Rules
 pub mod Session
+pub mod Offers
+pub mod Vectors
 pub mod Steps
 pub mod Laws
 pub mod Stream

@@ -3,9 +3,9 @@ use Prim.Native.Nat.{ℕ, zero, suc, _+_, _-_, _≤_, _<_}
 use mathlib.Core.Path.{_≡_, refl, sym, ap, _∙_}
 use mathlib.Core.List.{List, [], _∷_, _++_, append-assoc}
 use native.Mathlib.Omega.{arith}
-use native.Mathlib.Nat.{suc-add, add-suc, add-zero}
+use native.Mathlib.Nat.{suc-add, add-suc, add-zero, sub-zero, zero-sub, suc-sub-suc}
 use lib.ListN.{length, take, drop, set, length-append, length-take, length-drop, length-set, take-append-drop}
-use lib.Seq.{sets, sets-eq, length-sets, length-take-le, take-append-le, take-take, take-add, take-at, drop-at, drop-drop, take-set-le, drop-set-lt}
+use lib.Seq.{sets, sets-eq, length-sets, length-take-le, take-nil, take-add, take-at, drop-at, drop-drop, take-set-le, drop-set-lt}
 
 module _ {A : Type 0} where
   pub sets-append : (xs ys l : List A) (i : ℕ) → sets l i (xs ++ ys) ≡ sets (sets l i xs) (i + length xs) ys
@@ -44,9 +44,9 @@ module _ {A : Type 0} where
       ∙ ap (λ (r : List A). take (length vs) r) (drop-at (take i l) (vs ++ drop (i + length vs) l) i e)
       ∙ take-at vs (drop (i + length vs) l) (length vs) refl
 
-  -- a part of a front is a part of the list
-  pub part-take : (a b c : ℕ) (l : List A) → b + a ≤ c → take a (drop b (take c l)) ≡ take a (drop b l)
-  part-take a zero c l h = take-take a c l (omega arith)
-  part-take a (suc b) zero l h = absurd (omega arith)
-  part-take a (suc b) (suc c) [] h = refl
-  part-take a (suc b) (suc c) (x ∷ xs) h = part-take a b c xs (omega arith)
+  -- what a front has behind its first elements
+  pub drop-take : (b c : ℕ) (l : List A) → drop b (take c l) ≡ take (c - b) (drop b l)
+  drop-take zero c l = ap (λ (k : ℕ). take k l) (sym (sub-zero c))
+  drop-take (suc b) zero l = ap (λ (k : ℕ). take k (drop (suc b) l)) (sym (zero-sub (suc b)))
+  drop-take (suc b) (suc c) [] = sym (take-nil (suc c - suc b))
+  drop-take (suc b) (suc c) (x ∷ xs) = drop-take b c xs ∙ ap (λ (k : ℕ). take k (drop b xs)) (sym (suc-sub-suc c b))

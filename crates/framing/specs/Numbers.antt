@@ -1,4 +1,4 @@
--- The bytes, limits and numbers of document 01, "Framing" and "Numbers answered", each named once.
+-- The special bytes, the limits and the numbers of refusals (document 01, "Framing" and "Numbers answered").
 use Prim.Native.Nat.{ℕ}
 use mathlib.Core.Bool.{Bool, true, false}
 use Rattle.framing.specs.declared.Fault.{Fault}
@@ -29,7 +29,7 @@ storeLength = 17408
 abbrev pub contentStart : ℕ
 contentStart = 16384
 
--- "Numbers answered": 10 to 24, and 46 for the writer.
+-- "Numbers answered": 10 to 24.
 abbrev pub number : Fault → ℕ
 number Stray = 10
 number Cut = 11

@@ -1,4 +1,5 @@
--- The rules of the stream, byte by byte (document 01, "Framing"). They know no chunk, no session and no store.
+-- The rules of the stream, byte by byte (document 01, "Framing"). They know no chunk, no session and no store. A name stands before its use: pieces and messages,
+-- then frames, then the stream.
 use Prim.Native.Nat.{ℕ, _+_}
 use mathlib.Core.Bool.{Bool, true, false}
 use mathlib.Core.List.{List, [], _∷_, _++_}
@@ -87,11 +88,12 @@ reads Request p m = makes outside m 4 false []
 reads Response p m = makes outside m 5 false []
 reads (Piece first last) p m = pieces first last p m
 
--- EOF ends a frame that has no fault.
+-- EOF ends a frame that has no fault: what its content is decides.
 unfoldable pub ends : List ℕ → Message → Step
 ends xs m = reads (contentOf xs) (payload xs) m
 
--- "The first fault counts; later bytes of that frame are neither counted nor stored."
+-- "The first fault counts; later bytes of that frame are neither counted nor stored. A frame has one event, made at the EOF or BOF that ends it."
+-- "The ending BOF opens the next frame."
 unfoldable pub faulted : Fault → Place → Message → ℕ → Step
 faulted f p m b = pick (eqb b BOF) (refuses f (inside []) m) (pick (eqb b EOF) (refuses f outside m) (goes p m))
 

@@ -1,7 +1,8 @@
 -- The session and the lent store (document 01, "Framing" and "Numbers answered"): which state of the rules they hold, and what a call gives.
-use Prim.Native.Nat.{ℕ, _+_}
+use Prim.Native.Nat.{ℕ, _+_, _≤_}
 use mathlib.Core.Bool.{Bool, true, false}
 use mathlib.Core.List.{List, [], _∷_}
+use mathlib.Core.Path.{_≡_}
 use lib.Dec.{leb, eqb}
 use lib.ListN.{length, take, drop}
 use lib.Seq.{sets}
@@ -80,7 +81,13 @@ legal s n =
     (pick (leb (frameLength (s .frame)) contentLimit) (leb (messageLength (s .message)) messageLimit) false)
     false
 
--- What stands in the store after a byte: the content and the message, the finished one too. "Bytes that no rule writes stay."
+-- what SETUP does not refuse
+pub record Legal (s : Session) (t : List ℕ) : Type 0 where
+  pub room : length t ≡ storeLength
+  pub frame : frameLength (s .frame) ≤ contentLimit
+  pub message : messageLength (s .message) ≤ messageLimit
+
+-- the content so far
 abbrev pub content : Place → List ℕ
 content outside = []
 content stray = []
@@ -89,10 +96,13 @@ content (escaped xs) = xs
 content (badByte xs) = xs
 content (tooLong xs) = xs
 
+-- the unfinished message, else the finished one
 abbrev pub held : Message → List ℕ → List ℕ
 held none ys = ys
 held (part xs) ys = xs
 
+-- What stands in the store after a byte: the message from 0, the content from 16,384. "Bytes that no rule writes stay." "The message is copied there at the valid end of
+-- its frame and stays until the next call."
 unfoldable pub kept : Step → List ℕ → List ℕ
 kept o t = sets (sets t 0 (held (o .next .message) (o .said .message))) contentStart (content (o .next .place))
 

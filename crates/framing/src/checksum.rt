@@ -277,7 +277,7 @@ fn crc_step(crc: u16, b: u8) -> u16
     (crc / 256) ^ TABLE[i]
 }
 
-// The data of a slice, after data that left crc.
+// Goes on with the data of a slice, from the crc that the data before it left.
 pub fn crc_from(crc: u16, s: &[u8]) -> u16
     ensures { λ r. ⌜ r ≡ crcFrom crc (now (s .entry)) ⌝ }
 {
@@ -299,7 +299,7 @@ pub fn of(s: &[u8]) -> u16
 }
 
 // Two bytes as one number, the low one first.
-pub fn joined(low: u8, high: u8) -> u16
+pub(crate) fn joined(low: u8, high: u8) -> u16
     ensures { λ r. ⌜ r ≡ low + high * 256 ⌝ }
 {
     wide(low) + wide(high) * 256

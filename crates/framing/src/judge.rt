@@ -83,7 +83,7 @@ fn header(body: &[u8]) -> Content
             fault: Fault::Header,
         };
     }
-    if body[1] != 14 {
+    if body[1] != 0x0e {
         return Content::Refused {
             fault: Fault::Header,
         };

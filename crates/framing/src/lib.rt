@@ -26,7 +26,7 @@ pub const CONTENT_START: usize = 16384;
 pub const CONTENT_LIMIT: usize = 1024;
 
 // The payload of a piece: past the nine bytes of its header.
-pub const PAYLOAD_START: usize = 16393;
+const PAYLOAD_START: usize = 16393;
 
 // Why a frame or a run of bytes is refused; specs/Numbers.antt gives each its number, 10 to 24.
 pub enum Fault {
@@ -151,13 +151,13 @@ fn runs(session: Session, store: &mut [u8], chunk: &[u8]) -> Fed
         i += 1;
         let event = t.event;
         let next = t.session;
-        if let Event::More = event {} else {
+        let Event::More = event else {
             return Fed {
                 event,
                 consumed: i,
                 session: next,
             };
-        }
+        };
         let p = step::ordinary(next, i, store, chunk);
         let onward = p.session;
         s = onward;

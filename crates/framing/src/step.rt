@@ -20,8 +20,8 @@ ghost use lib.Seq.{sets};
 ghost use Rattle.framing.specs.Numbers.{contentLimit, messageLimit, storeLength, contentStart};
 ghost use Rattle.framing.specs.Steps.{gives, isPart, going, staying, refusing, joining, pastFault};
 ghost use Rattle.framing.specs.Rules.{adds as ruleAdds, pieces as rulePieces, ends as ruleEnds, inPlace, step as ruleStep, inside as insidePlace, escaped as escapedPlace};
-ghost use Rattle.framing.specs.Laws.{Legal, Reaches};
-ghost use Rattle.framing.specs.Session.{frameLength, messageLength, contentIn, messageOf, stateOf, keeps};
+ghost use Rattle.framing.specs.Laws.{Reaches};
+ghost use Rattle.framing.specs.Session.{frameLength, messageLength, contentIn, messageOf, stateOf, Legal, keeps};
 
 pub struct Stepped {
     pub event: Event,
@@ -102,7 +102,7 @@ fn copies(store: &mut [u8], at: usize, n: usize)
     }
 }
 
-// A message of so many bytes, as far as it has come.
+// The answer to a piece: the message is finished at this length, or goes on.
 fn joins(last: bool, discarded: bool, length: usize) -> Stepped
     ensures { λ r. ⌜ r ≡ joining last discarded length ⌝ }
 {

@@ -11,7 +11,8 @@ use lib.Seq.{take-at, getD-at, getD-append-add}
 use Rattle.framing.specs.declared.Content.{Content}
 use Rattle.framing.specs.declared.Content.the-variants.{Refused, Request, Response, Piece}
 use Rattle.framing.specs.declared.Fault.{Fault}
-use Rattle.framing.specs.declared.Fault.the-variants.{Stray, Cut, Byte, Long, Escape, Short, Crc, Header, Flags, Dtd, Orphan, Big}
+use Rattle.framing.specs.declared.Fault.the-variants.{Short, Big}
+use Rattle.framing.specs.Laws.{number-not-zero}
 use Rattle.framing.specs.Checksum.{checksum, octetsOf}
 use Rattle.framing.specs.Content.{isFirst, isLast, emptyBit, packetOf, commandOf, bodyOf, body, crcOf, contentOf, payload}
 use Rattle.framing.specs.Numbers.{BOF, EOF, messageLimit, number, pick}
@@ -84,18 +85,7 @@ abbrev Ended : Step → Type 0
 Ended o = (eqb (o .said .number) 0 ≡ false) × (o .next .place ≡ outside)
 
 refuses-ended : (f : Fault) (m : Message) → Ended (refuses f outside m)
-refuses-ended Stray m = (refl, refl)
-refuses-ended Cut m = (refl, refl)
-refuses-ended Byte m = (refl, refl)
-refuses-ended Long m = (refl, refl)
-refuses-ended Escape m = (refl, refl)
-refuses-ended Short m = (refl, refl)
-refuses-ended Crc m = (refl, refl)
-refuses-ended Header m = (refl, refl)
-refuses-ended Flags m = (refl, refl)
-refuses-ended Dtd m = (refl, refl)
-refuses-ended Orphan m = (refl, refl)
-refuses-ended Big m = (refl, refl)
+refuses-ended f m = (number-not-zero f, refl)
 
 joins-ended : (last d : Bool) (ys : List ℕ) → Ended (joins last d ys)
 joins-ended true d ys = (refl, refl)
@@ -136,7 +126,7 @@ module _ (xs : List ℕ) (h : Bytes xs) (l : length xs ≤ bodyLimit) (s : State
       gives-then (BOF ∷ []) (escapes (sealed xs)) (gives-quiet s n BOF o)
       (escapes-back (s .message) (sealed xs) (bytes-sealed xs h) [] _ (omega arith))
 
-  -- (a) exactly one event, at its last byte: what `contentOf` says of its content
+  -- exactly one event, at its last byte: what `contentOf` says of its content
   pub frame-back : {t : Step} → ends (sealed xs) (s .message) ≡ t
       → Gives s n (frame xs) (record { offset = n + length (frame xs); said = t .said } ∷ []) (t .next)
   unfolding frame
@@ -155,7 +145,7 @@ module _ (xs : List ℕ) (h : Bytes xs) (l : length xs ≤ bodyLimit) (s : State
 
 -- ---- the keep-alives
 
--- (b) 4 and 5; "A keep-alive disturbs nothing."
+-- 4 and 5; "A keep-alive disturbs nothing."
 module _ (s : State) (o : Opens s) (n : ℕ) where
   pub request-back : Gives s n (frame requestBody) (happening (n + length (frame requestBody)) 4 false [] ∷ []) (state outside (s .message))
   unfolding bodyOf commandOf
@@ -195,10 +185,7 @@ module _ (first last : Bool) (p : List ℕ) where
       (ap (λ (a : Bool). Piece a (isLast (flags first last (length p)))) (r .1 .1 .1 .0) ∙ ap (λ (b : Bool). Piece first b) (r .1 .1 .1 .1))
 
   payload-read : payload (sealed (packetBody first last p)) ≡ p
-  payload-read =
-      let c = octetsOf (checksum (packetBody first last p)) in
-      let e : length (p ++ c) ≡ length p + 2 = length-append p c in
-      take-at p c (length (sealed (packetBody first last p)) - 11) (omega arith)
+  payload-read = ap (λ (ys : List ℕ). drop 9 ys) (sealed-body (packetBody first last p))
 
   -- a packet is read as the piece that it is
   packet-back : Bytes p → length p ≤ payloadLimit → (s : State) → Opens s → (n : ℕ) {t : Step} → pieces first last p (s .message) ≡ t
@@ -231,7 +218,7 @@ packets-back (suc k) first d m xs h l b s o q n =
     (packet-back first false (take payloadLimit m) (bytes-take payloadLimit m h) (omega arith) s o n (q false (take payloadLimit m) (omega arith)))
     (rw (← e) (packets-back k false false (drop payloadLimit m) ys (bytes-drop payloadLimit m h) (omega arith) (omega arith) (state outside (part ys)) (opens-outside (part ys)) (adds-to ys) _))
 
--- (c) 2 for each packet but the last, then 3 with exactly these bytes; a message that was open is thrown away at the first piece
+-- 2 for each packet but the last, then 3 with exactly these bytes; a message that was open is thrown away at the first piece
 pub message-back : (m : List ℕ) → Bytes m → length m ≤ messageLimit → (s : State) → Opens s → (n : ℕ)
     → Gives s n (inPackets m) (messageEvents (isOpen (s .message)) m n) begin
 unfolding pieces

@@ -11,6 +11,7 @@ use lib.Dec.{ltb, eqb}
 use lib.ListN.{length, length-append}
 use Rattle.framing.specs.Numbers.{BOF, EOF, CE, contentLimit, pick}
 use Rattle.framing.specs.Rules.{Place, outside, stray, inside, escaped, Message, State, Said, Step, Happening, goes, adds, ends, cuts, inPlace, step, noted, happens, after}
+use Rattle.framing.specs.Stream.{happens-append, after-append}
 use Rattle.framing_writer.specs.Written.{escape, escapes}
 use Rattle.framing_writer.specs.Laws.{escape-plain, escape-high}
 use Rattle.framing_writer.specs.Read.{Bytes, Opens, Gives}
@@ -20,31 +21,11 @@ state p m = record { place = p; message = m }
 
 -- ---- one run of bytes after another
 
-noted-append : (e : Said) (n : ℕ) (hs ks : List Happening) → noted e n (hs ++ ks) ≡ noted e n hs ++ ks
-noted-append e n hs ks = by (eqb (e .number) 0)
-  where
-    by : (t : Bool) → pick t (hs ++ ks) (record { offset = n; said = e } ∷ (hs ++ ks)) ≡ pick t hs (record { offset = n; said = e } ∷ hs) ++ ks
-    by true = refl
-    by false = refl
-
-happens-append : (s : State) (n : ℕ) (xs ys : List ℕ) → happens s n (xs ++ ys) ≡ happens s n xs ++ happens (after s xs) (n + length xs) ys
-unfolding happens after
-happens-append s n [] ys = let e : n ≡ n + 0 = omega arith in ap (λ (k : ℕ). happens s k ys) e
-happens-append s n (x ∷ xs) ys =
-    let e : n + 1 + length xs ≡ n + suc (length xs) = omega arith in
-    ap (noted (step s x .said) (n + 1)) (happens-append (step s x .next) (n + 1) xs ys ∙ ap (λ (k : ℕ). happens (step s x .next) (n + 1) xs ++ happens (after (step s x .next) xs) k ys) e)
-    ∙ noted-append (step s x .said) (n + 1) (happens (step s x .next) (n + 1) xs) (happens (after (step s x .next) xs) (n + suc (length xs)) ys)
-
-after-append : (s : State) (xs ys : List ℕ) → after s (xs ++ ys) ≡ after (after s xs) ys
-unfolding after
-after-append s [] ys = refl
-after-append s (x ∷ xs) ys = after-append (step s x .next) xs ys
-
 pub gives-then : {s t u : State} {n : ℕ} {hs ks : List Happening} (xs ys : List ℕ) → Gives s n xs hs t → Gives t (n + length xs) ys ks u
     → Gives s n (xs ++ ys) (hs ++ ks) u
 gives-then {s} {t} {u} {n} {hs} {ks} xs ys g h = record {
-  events = happens-append s n xs ys ∙ rw (g .events, g .state, h .events);
-  state = after-append s xs ys ∙ rw (g .state, h .state);
+  events = happens-append xs ys s n ∙ rw (g .events, g .state, h .events);
+  state = after-append xs ys s ∙ rw (g .state, h .state);
 }
 
 pub gives-none : (s : State) (n : ℕ) → Gives s n [] [] s

@@ -11,18 +11,13 @@ use lib.Bits.{bitXor}
 use lib.ListN.{length, getD, set, take, drop, length-append, length-drop, drop-of-length-le}
 use lib.Seq.{sets, sets-eq, set-out, take-all, take-append-seam, drop-cons, drop-drop}
 use Rattle.framing.specs.Checksum.{crcFrom, checksum}
+use Rattle.framing.specs.Lists.{sets-append}
 use Rattle.framing.specs.Numbers.{BOF, EOF, CE, pick}
 use Rattle.framing_writer.specs.declared.Written.the-variants.{Done, Out}
 use Rattle.framing_writer.specs.Written.{escape, escapes, frame, flags, header, packet, packets, payloadLimit, earlier, Outcome, outcome, into, limited}
 use Rattle.framing_writer.specs.Stores.{Wrote, wrote}
 
 -- ---- stores
-
-sets-append : (l : List ℕ) (i : ℕ) (xs ys : List ℕ) → sets l i (xs ++ ys) ≡ sets (sets l i xs) (i + length xs) ys
-sets-append l i [] ys = let e : i ≡ i + 0 = omega arith in ap (λ (k : ℕ). sets l k ys) e
-sets-append l i (x ∷ xs) ys =
-    let e : suc i + length xs ≡ i + suc (length xs) = omega arith in
-    sets-append (set l i x) (suc i) xs ys ∙ ap (λ (k : ℕ). sets (sets (set l i x) (suc i) xs) k ys) e
 
 module _ (o : List ℕ) (at : ℕ) where
   pub wrote-none : wrote o at [] ≡ record { next = at; output = o }
@@ -42,7 +37,7 @@ module _ (o : List ℕ) (at : ℕ) where
   unfolding wrote
   wrote-then xs ys e =
       let n : at + length (xs ++ ys) ≡ at + length xs + length ys = simp length-append (omega arith) in
-      rw (← e, sets-append o at xs ys, n)
+      rw (← e, sets-append xs ys o at, n)
 
 -- from 0, where there is room
 wrote-all : (o xs : List ℕ) {w : Wrote} → length xs ≤ length o → wrote o 0 xs ≡ w → xs ++ drop (length xs) o ≡ w .output

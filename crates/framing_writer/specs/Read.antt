@@ -8,7 +8,7 @@ use Rattle.framing.specs.Numbers.{BOF}
 use Rattle.framing.specs.Rules.{inside, State, Happening, goes, step, happens, after}
 use Rattle.framing_writer.specs.Written.{packet, payloadLimit, earlier}
 
--- every element is a byte
+-- Every element is a byte, as in each list that stands for a slice of u8.
 abbrev pub Bytes : List ℕ → Type 0
 Bytes [] = Unit {0}
 Bytes (x ∷ xs) = (x < 256) × Bytes xs

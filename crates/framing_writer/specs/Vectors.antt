@@ -1,34 +1,14 @@
--- P8 to P11 of document 01, "Samples", its two keep-alives, and where a message is cut, by computation.
-use mathlib.Core.Bool.{true, false}
+-- P8 of document 01, "Samples", its two keep-alives, and where a message is cut, by computation.
+use mathlib.Core.Bool.{true}
 use mathlib.Core.Path.{_≡_, refl}
 use mathlib.Core.List.{[], _∷_, map}
 use Rattle.framing.specs.Checksum.{table, crcStep, crcFrom, checksum}
-use Rattle.framing.specs.Content.{contentOf, bodyOf, commandOf}
-use Rattle.framing.specs.Rules.{begin, step, inPlace, adds, cuts, ends, happens}
 use Rattle.framing_writer.specs.Written.{escape, escapes, frame, requestBody, responseBody, header, packetBody, earlier}
 
 -- P8: "data FF 00 F9 01 frames as FE FD DF 00 FD D9 01 95 83 FF."
 pub p8 : frame (0xff ∷ 0x00 ∷ 0xf9 ∷ 0x01 ∷ []) ≡ 0xfe ∷ 0xfd ∷ 0xdf ∷ 0x00 ∷ 0xfd ∷ 0xd9 ∷ 0x01 ∷ 0x95 ∷ 0x83 ∷ 0xff ∷ []
 unfolding frame escapes escape checksum crcFrom crcStep table
 p8 = refl
-
--- P9: "FE 00 0E 01 01 94 E4 FF gives 4."
-pub p9 : happens begin 0 (0xfe ∷ 0x00 ∷ 0x0e ∷ 0x01 ∷ 0x01 ∷ 0x94 ∷ 0xe4 ∷ 0xff ∷ [])
-    ≡ record { offset = 8; said = record { number = 4; discarded = false; message = [] } } ∷ []
-unfolding happens step inPlace adds ends cuts contentOf bodyOf commandOf checksum crcFrom crcStep table
-p9 = refl
-
--- P10: "with E5 for E4 it gives 16."
-pub p10 : happens begin 0 (0xfe ∷ 0x00 ∷ 0x0e ∷ 0x01 ∷ 0x01 ∷ 0x94 ∷ 0xe5 ∷ 0xff ∷ [])
-    ≡ record { offset = 8; said = record { number = 16; discarded = false; message = [] } } ∷ []
-unfolding happens step inPlace adds ends cuts contentOf bodyOf commandOf checksum crcFrom crcStep table
-p10 = refl
-
--- P11: "FE FE FF gives only 15."
-pub p11 : happens begin 0 (0xfe ∷ 0xfe ∷ 0xff ∷ [])
-    ≡ record { offset = 3; said = record { number = 15; discarded = false; message = [] } } ∷ []
-unfolding happens step inPlace adds ends cuts contentOf bodyOf commandOf checksum crcFrom crcStep table
-p11 = refl
 
 -- "FE000E010194E4FF" and "FE000E0201FDDCCEFF", the listing program's input
 pub request-bytes : frame requestBody ≡ 0xfe ∷ 0x00 ∷ 0x0e ∷ 0x01 ∷ 0x01 ∷ 0x94 ∷ 0xe4 ∷ 0xff ∷ []

@@ -83,7 +83,7 @@ outcome Out o = record { number = 46; count = 0; output = o }
 unfoldable pub into : List ℕ → List ℕ → Outcome
 into bs o = pick (leb (length bs) (length o)) (outcome (Done (length bs)) (bs ++ drop (length bs) o)) (outcome Out o)
 
--- .. and where the n bytes to be written are over their limit: content that no frame holds, a message over 16,384 bytes
+-- .. and where the body or message, of n bytes, is over its limit: a body that no frame holds, a message over 16,384 bytes
 unfoldable pub limited : ℕ → ℕ → List ℕ → List ℕ → Outcome
 limited n limit bs o = pick (leb n limit) (into bs o) (outcome Out o)
 

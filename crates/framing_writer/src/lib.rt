@@ -1,4 +1,8 @@
 // The S101 writer: frames, keep-alives and messages as packets, into a lent output.
+use framing::BOF;
+use framing::CE;
+use framing::EOF;
+use framing::MESSAGE_LIMIT;
 use framing::checksum;
 ghost use mathlib.Core.Path.{_≡_};
 ghost use Prim.Native.Nat.{_+_, _*_, _/_, _%_, _≤_, _<_};
@@ -7,6 +11,11 @@ ghost use lib.ListN.{length};
 ghost use Rattle.framing.specs.Numbers.{messageLimit, pick};
 ghost use Rattle.framing_writer.specs.Written.{escape, escapes, frame, bodyLimit, requestBody, responseBody, flags, packet, payloadLimit, inPackets, outcome, into, frameInto, messageInto};
 ghost use Rattle.framing_writer.specs.Stores.{wrote, room};
+
+// The content of a frame without its CRC, and the payload of a packet.
+pub const BODY_LIMIT: usize = 1022;
+
+pub const PAYLOAD_LIMIT: usize = 1013;
 
 // What a call answers; specs/Written.antt gives each case its number and values.
 pub enum Written {
@@ -32,7 +41,7 @@ fn emit_escaped(out: &mut [u8], at: usize, b: u8) -> usize
     ensures { λ r. ⌜ r ≤ at + 2 ⌝ }
 {
     if 0xf8 <= b {
-        let next = emit(out, at, 0xfd);
+        let next = emit(out, at, CE);
         emit(out, next, b ^ 0x20)
     } else {
         emit(out, at, b)
@@ -72,12 +81,12 @@ fn emit_frame(out: &mut [u8], at: usize, head: &[u8], rest: &[u8]) -> usize
     ensures { λ r. ⌜ r ≤ at + 2050 ⌝ }
 {
     let crc = 0xffff - checksum::crc_from(checksum::crc_from(0xffff, head), rest);
-    let opened = emit(out, at, 0xfe);
+    let opened = emit(out, at, BOF);
     let headed = emit_slice(out, opened, head);
     let filled = emit_slice(out, headed, rest);
     let first = emit_escaped(out, filled, low(crc));
     let second = emit_escaped(out, first, high(crc));
-    emit(out, second, 0xff)
+    emit(out, second, EOF)
 }
 
 fn bit(on: bool, value: u8) -> u8
@@ -109,8 +118,8 @@ fn emit_message(out: &mut [u8], message: &[u8]) -> usize
     let mut at = 0;
     let mut from = 0;
     let mut first = true;
-    while 1013 < message.len() - from {
-        let to = from + 1013;
+    while PAYLOAD_LIMIT < message.len() - from {
+        let to = from + PAYLOAD_LIMIT;
         at = emit_packet(out, at, first, false, &message[from..to]);
         from = to;
         first = false;
@@ -118,18 +127,18 @@ fn emit_message(out: &mut [u8], message: &[u8]) -> usize
     emit_packet(out, at, first, true, &message[from..])
 }
 
-// A frame around content without its CRC.
-pub fn write_frame(content: &[u8], out: &mut [u8]) -> Written
-    ensures { λ r. ⌜ frameInto (now (content .entry)) (now (out .entry)) ≡ outcome r (now (out .exit)) ⌝ }
+// A frame around a body: content without its CRC.
+pub fn write_frame(body: &[u8], out: &mut [u8]) -> Written
+    ensures { λ r. ⌜ frameInto (now (body .entry)) (now (out .entry)) ≡ outcome r (now (out .exit)) ⌝ }
 {
-    if 1022 < content.len() {
+    if BODY_LIMIT < body.len() {
         return Written::Out;
     }
-    let length = emit_frame(&mut out[..0], 0, &content[..0], content);
+    let length = emit_frame(&mut out[..0], 0, &body[..0], body);
     if out.len() < length {
         return Written::Out;
     }
-    emit_frame(out, 0, &content[..0], content);
+    emit_frame(out, 0, &body[..0], body);
     Written::Done { length }
 }
 
@@ -151,7 +160,7 @@ pub fn write_response(out: &mut [u8]) -> Written
 pub fn write_message(message: &[u8], out: &mut [u8]) -> Written
     ensures { λ r. ⌜ messageInto (now (message .entry)) (now (out .entry)) ≡ outcome r (now (out .exit)) ⌝ }
 {
-    if 16384 < message.len() {
+    if MESSAGE_LIMIT < message.len() {
         return Written::Out;
     }
     let total = emit_message(&mut out[..0], message);

@@ -110,7 +110,7 @@ returns-4 c =
     let t = a .store .now in
     let i : a .length ≡ contentStart + a .length - contentStart = omega arith in
     let k : contentOf (contentIn (a .length) t) ≡ _ = ap (λ (i : ℕ). contentOf (take i (drop contentStart t))) i ∙ sym (c .before .before .before .before .before .before .before .content-of .ensures) ∙ c .before .before .before .before .before .content2 .given .1 in
-    rw (k, payload-in t (p .0) (a .length) (p .1 .0) (omega (arith, piece-long _ _ _ k, content-length t (p .0) (a .length) (p .1 .0)))) (c .before .before .pieces .ensures)
+    rw (k, payload-in t (p .0) (a .length) (p .1 .0)) (c .before .before .pieces .ensures)
 
 pub ends-spec : {M : Type 1} → statement M
 ends-spec =

@@ -6,7 +6,8 @@ use borrow.Author.Needs.{needs}
 use lib.ListN.{length}
 use Rattle.framing.specs.declared.Frame.{Frame}
 use Rattle.framing.specs.declared.Frame.the-variants.{Inside}
-use Rattle.framing.specs.Laws.{Legal, Reaches, reaches-here, reaches-on, reaches-ordinary}
+use Rattle.framing.specs.Session.{Legal}
+use Rattle.framing.specs.Laws.{Reaches, reaches-here, reaches-on, reaches-ordinary}
 use Rattle.framing.proofs.step.ordinary.Statement.{statement}
 use Rattle.framing.proofs.step.ordinary.Tie as tie
 

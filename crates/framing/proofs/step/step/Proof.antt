@@ -1,3 +1,9 @@
+use Prim.Native.Nat.{ℕ, _≤_}
+use mathlib.Core.List.{List}
+use lib.ListN.{length}
+use Rattle.framing.specs.declared.Session.{Session}
+use Rattle.framing.specs.declared.step.Stepped.{Stepped}
+use Rattle.framing.specs.Numbers.{contentLimit, messageLimit, storeLength}
 use borrow.Author.Tests.{lt-ltb, le-ltb, eq-eqb, ne-eqb, le-leb, lt-leb}
 use mathlib.Core.Path.{_≡_, sym, ap, _∙_}
 use native.Mathlib.Omega.{arith}
@@ -7,12 +13,27 @@ use Rattle.framing.specs.declared.Frame.{Frame}
 use Rattle.framing.specs.declared.Frame.the-variants.{Outside, Inside, Escaped, BadByte, TooLong}
 use Rattle.framing.specs.declared.Fault.{Fault}
 use Rattle.framing.specs.declared.Fault.the-variants.{Byte, Long}
-use Rattle.framing.specs.Rules.{inPlace, step}
-use Rattle.framing.specs.Session.{frameLength, placeOf, messageOf, keeps}
-use Rattle.framing.specs.Steps.{going, pastFault}
+use Rattle.framing.specs.Rules.{Step, faulted, inPlace, step}
+use Rattle.framing.specs.Session.{frameLength, messageLength, placeOf, messageOf, stateOf, keeps}
+use Rattle.framing.specs.Steps.{gives, going, pastFault}
 use borrow.Author.Needs.{needs}
 use Rattle.framing.proofs.step.step.Statement.{statement}
 use Rattle.framing.proofs.step.step.Tie as tie
+
+-- the step where the session's frame is known
+at-frame : (s : Session) (f : Frame) (b : ℕ) (t : List ℕ) → s .frame ≡ f → keeps (step (stateOf s t) b) t ≡ keeps (inPlace (placeOf f t) (messageOf (s .message) t) b) t
+unfolding step
+at-frame s f b t e = ap (λ (f : Frame). keeps (inPlace (placeOf f t) (messageOf (s .message) t) b) t) e
+
+-- .. and has a fault
+at-fault : (s : Session) (x : Fault) (f : Frame) (b : ℕ) (t : List ℕ) (r : Stepped) → length t ≡ storeLength → frameLength (s .frame) ≤ contentLimit
+    → messageLength (s .message) ≤ messageLimit → s .frame ≡ f → inPlace (placeOf f t) (messageOf (s .message) t) b ≡ faulted x (placeOf f t) (messageOf (s .message) t) b
+    → r ≡ pastFault x (s .frame) b (s .message) → keeps (step (stateOf s t) b) t ≡ gives r t
+at-fault s x f b t r room hf hm e i k =
+    at-frame s f b t e
+    ∙ ap (λ (o : Step). keeps o t) i
+    ∙ keeps-faulted t room x f b (s .message) (omega (arith, ap frameLength e)) hm
+    ∙ gives-same (sym (k ∙ ap (λ (f : Frame). pastFault x f b (s .message)) e)) refl
 
 enum-told : tie.Need-enum-told
 enum-told c = search needs
@@ -21,14 +42,13 @@ goes-requires : tie.Need-goes-requires
 goes-requires c κs = search needs
 
 returns : tie.Need-returns
-unfolding step inPlace
+unfolding inPlace
 returns c =
     let a = c .before .before .before .before .before .args in
     let p = c .before .before .before .before .before .pre in
     let t = a .store .now in
     let m = a .session .message in
-    let e : a .session .frame ≡ Outside = c .before .before .enum-told .given .1 in
-    ap (λ (f : Frame). keeps (inPlace (placeOf f t) (messageOf m t) (a .b)) t) e
+    at-frame (a .session) Outside (a .b) t (c .before .before .enum-told .given .1)
     ∙ simp (eq-eqb (a .b) 0xfe (c .before .if1 .taken)) (keeps-goes t (p .0) (Inside 0) m (omega arith) (p .1 .1) ∙ gives-same (sym (c .goes .ensures)) refl)
 
 refuses-requires : tie.Need-refuses-requires
@@ -41,14 +61,13 @@ goes-requires-2 : tie.Need-goes-requires-2
 goes-requires-2 c κs = search needs
 
 returns-2 : tie.Need-returns-2
-unfolding step inPlace
+unfolding inPlace
 returns-2 c =
     let a = c .before .before .before .before .before .args in
     let p = c .before .before .before .before .before .pre in
     let t = a .store .now in
     let m = a .session .message in
-    let e : a .session .frame ≡ Frame.Stray = c .before .before .enum-told2 .given .1 in
-    ap (λ (f : Frame). keeps (inPlace (placeOf f t) (messageOf m t) (a .b)) t) e
+    at-frame (a .session) Frame.Stray (a .b) t (c .before .before .enum-told2 .given .1)
     ∙ simp (eq-eqb (a .b) 0xfe (c .before .if2 .taken)) (keeps-goes t (p .0) (Inside 0) m (omega arith) (p .1 .1) ∙ gives-same (sym (c .goes2 .ensures)) refl)
 
 goes-requires-3 : tie.Need-goes-requires-3
@@ -85,78 +104,50 @@ faulted-requires-2 : tie.Need-faulted-requires-2
 faulted-requires-2 c κs = search needs
 
 returns-3 : tie.Need-returns-3
-unfolding step inPlace
+unfolding inPlace
 returns-3 c =
     let a = c .before .before .before .before .before .args in
     let p = c .before .before .before .before .before .pre in
     let t = a .store .now in
     let m = a .session .message in
-    let e : a .session .frame ≡ Outside = c .before .before .enum-told .given .1 in
-    ap (λ (f : Frame). keeps (inPlace (placeOf f t) (messageOf m t) (a .b)) t) e
+    at-frame (a .session) Outside (a .b) t (c .before .before .enum-told .given .1)
     ∙ simp (ne-eqb (a .b) 0xfe (c .before .if1 .left)) (keeps-refuses t (p .0) Frame.Stray m (omega arith) (p .1 .1) Fault.Stray ∙ gives-same (sym (c .refuses .ensures)) refl)
 
 returns-4 : tie.Need-returns-4
-unfolding step inPlace
+unfolding inPlace
 returns-4 c =
     let a = c .before .before .before .before .before .args in
     let p = c .before .before .before .before .before .pre in
     let t = a .store .now in
     let m = a .session .message in
-    let e : a .session .frame ≡ Frame.Stray = c .before .before .enum-told2 .given .1 in
-    ap (λ (f : Frame). keeps (inPlace (placeOf f t) (messageOf m t) (a .b)) t) e
-    ∙ simp (ne-eqb (a .b) 0xfe (c .before .if2 .left)) (keeps-goes t (p .0) Frame.Stray m (omega arith) (p .1 .1) ∙ gives-same (sym (c .goes3 .ensures ∙ ap (λ (f : Frame). going f m) e)) refl)
+    at-frame (a .session) Frame.Stray (a .b) t (c .before .before .enum-told2 .given .1)
+    ∙ simp (ne-eqb (a .b) 0xfe (c .before .if2 .left)) (keeps-goes t (p .0) Frame.Stray m (omega arith) (p .1 .1) ∙ gives-same (sym (c .goes3 .ensures ∙ ap (λ (f : Frame). going f m) (c .before .before .enum-told2 .given .1))) refl)
 
 same-length : tie.Need-same-length
 same-length c = search needs
 
 returns-5 : tie.Need-returns-5
-unfolding step inPlace
-returns-5 c =
-    let a = c .before .before .before .before .before .before .before .before .args in
-    let p = c .before .before .before .before .before .before .before .before .pre in
-    let t = a .store .now in
-    let m = a .session .message in
-    let e : a .session .frame ≡ Inside (c .before .before .before .before .before .frame .given .0 .0) = c .before .before .before .before .before .frame .given .1 in
-    ap (λ (f : Frame). keeps (inPlace (placeOf f t) (messageOf m t) (a .b)) t) e
-    ∙ c .before .before .inside .ensures
+returns-5 c = let a = c .before .before .before .before .before .before .before .before .args in at-frame (a .session) (Inside (c .before .before .before .before .before .frame .given .0 .0)) (a .b) (a .store .now) (c .before .before .before .before .before .frame .given .1) ∙ c .before .before .inside .ensures
 
 same-length-2 : tie.Need-same-length-2
 same-length-2 c = search needs
 
 returns-6 : tie.Need-returns-6
-unfolding step inPlace
-returns-6 c =
-    let a = c .before .before .before .before .before .before .before .before .args in
-    let p = c .before .before .before .before .before .before .before .before .pre in
-    let t = a .store .now in
-    let m = a .session .message in
-    let e : a .session .frame ≡ Escaped (c .before .before .before .before .before .frame2 .given .0 .0) = c .before .before .before .before .before .frame2 .given .1 in
-    ap (λ (f : Frame). keeps (inPlace (placeOf f t) (messageOf m t) (a .b)) t) e
-    ∙ c .before .before .escaped .ensures
+returns-6 c = let a = c .before .before .before .before .before .before .before .before .args in at-frame (a .session) (Escaped (c .before .before .before .before .before .frame2 .given .0 .0)) (a .b) (a .store .now) (c .before .before .before .before .before .frame2 .given .1) ∙ c .before .before .escaped .ensures
 
 returns-7 : tie.Need-returns-7
-unfolding step inPlace
+unfolding inPlace
 returns-7 c =
     let a = c .before .before .before .before .args in
     let p = c .before .before .before .before .pre in
-    let t = a .store .now in
-    let m = a .session .message in
-    let e : a .session .frame ≡ BadByte (c .before .enum-told3 .given .0 .0) = c .before .enum-told3 .given .1 in
-    ap (λ (f : Frame). keeps (inPlace (placeOf f t) (messageOf m t) (a .b)) t) e
-    ∙ keeps-faulted t (p .0) Byte (BadByte (c .before .enum-told3 .given .0 .0)) (a .b) m (omega (arith, ap frameLength e, p .1 .0)) (p .1 .1)
-    ∙ gives-same (sym (c .faulted .ensures ∙ ap (λ (f : Frame). pastFault Byte f (a .b) m) e)) refl
+    at-fault (a .session) Byte (BadByte (c .before .enum-told3 .given .0 .0)) (a .b) (a .store .now) (c .faulted .result) (p .0) (p .1 .0) (p .1 .1) (c .before .enum-told3 .given .1) refl (c .faulted .ensures)
 
 returns-8 : tie.Need-returns-8
-unfolding step inPlace
+unfolding inPlace
 returns-8 c =
     let a = c .before .before .before .before .args in
     let p = c .before .before .before .before .pre in
-    let t = a .store .now in
-    let m = a .session .message in
-    let e : a .session .frame ≡ TooLong (c .before .enum-told4 .given .0 .0) = c .before .enum-told4 .given .1 in
-    ap (λ (f : Frame). keeps (inPlace (placeOf f t) (messageOf m t) (a .b)) t) e
-    ∙ keeps-faulted t (p .0) Long (TooLong (c .before .enum-told4 .given .0 .0)) (a .b) m (omega (arith, ap frameLength e, p .1 .0)) (p .1 .1)
-    ∙ gives-same (sym (c .faulted2 .ensures ∙ ap (λ (f : Frame). pastFault Long f (a .b) m) e)) refl
+    at-fault (a .session) Long (TooLong (c .before .enum-told4 .given .0 .0)) (a .b) (a .store .now) (c .faulted2 .result) (p .0) (p .1 .0) (p .1 .1) (c .before .enum-told4 .given .1) refl (c .faulted2 .ensures)
 
 pub step-spec : {M : Type 1} → statement M
 step-spec =
