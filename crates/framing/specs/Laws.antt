@@ -21,6 +21,7 @@ use Rattle.framing.specs.declared.Frame.the-variants.{Outside, Stray, In
 use Rattle.framing.specs.declared.Pending.{Pending}
 use Rattle.framing.specs.declared.Pending.the-variants.{Nothing, Part}
 use Rattle.framing.specs.declared.Session.{Session}
+use Rattle.framing.specs.declared.step.Progress.{Progress}
 use Rattle.framing.specs.declared.step.Stepped.{Stepped}
 use Rattle.framing.specs.Lists.{sets-append, length-part, sets-same, take-sets-le, part-sets, drop-take}
 use Rattle.framing.specs.Numbers.{BOF, EOF, CE, contentLimit, messageLimit, storeLength, contentStart, number, pick}
@@ -513,6 +514,10 @@ pub reaches-on : {c : List ℕ} {i : ℕ} {s : Session} {t : List ℕ} {j : ℕ}
     → Reaches c i s t j s′ t′ → Reaches c j s′ t′ k s″ t″ → Reaches c i s t k s″ t″
 reaches-on a b = record { legal = b .legal; forward = omega (arith, a .forward, b .forward); inside = b .inside; rest = a .rest ∙ b .rest }
 
+pub reaches-as : {c : List ℕ} {i : ℕ} {s : Session} {t t′ : List ℕ} {p q : Progress} → p ≡ q → Reaches c i s t (q .at) (q .session) t′
+    → Reaches c i s t (p .at) (p .session) t′
+reaches-as {c} {i} {s} {t} {t′} e r = subst (λ (x : Progress). Reaches c i s t (x .at) (x .session) t′) (sym e) r
+
 -- a byte that makes no event
 pub reaches-more : (c : List ℕ) (i : ℕ) (s : Session) (t : List ℕ) (r : Stepped) (t′ : List ℕ) → Legal s t → i < length c
     → keeps (step (stateOf s t) (getD c i 0)) t ≡ gives r t′ → r .event ≡ ev.More → Reaches c i s t (i + 1) (r .session) t′
@@ -534,3 +539,52 @@ reaches-ordinary c i n m t l h hn hb =
     )
     (keeps-adds t (l .room) n (getD c i 0) m (l .frame) (l .message) hn))
     refl
+
+-- .. and one that is escaped: CE and a byte D8 to DF
+pub reaches-escape : (c : List ℕ) (i n : ℕ) (m : Pending) (t : List ℕ) → Legal (record { frame = Inside n; message = m }) t → i + 1 < length c
+    → n < contentLimit → getD c i 0 ≡ CE → 0xd8 ≤ getD c (i + 1) 0 → getD c (i + 1) 0 ≤ 0xdf
+    → Reaches c i (record { frame = Inside n; message = m }) t (i + 1 + 1) (record { frame = Inside (n + 1); message = m })
+    (set t (contentStart + n) (bitXor (getD c (i + 1) 0) 0x20))
+unfolding step inPlace
+reaches-escape c i n m t l h hn e lo hi =
+    let begun : Reaches c i (record { frame = Inside n; message = m }) t (i + 1) (record { frame = Escaped n; message = m }) t =
+    reaches-more c i (record { frame = Inside n; message = m }) t (going (Escaped n) m) t l (omega arith)
+    (rw e (keeps-goes t (l .room) (Escaped n) m (l .frame) (l .message))) refl in
+    reaches-on begun
+    (reaches-more c (i + 1) (record { frame = Escaped n; message = m }) t (going (Inside (n + 1)) m) (set t (contentStart + n) (bitXor (getD c (i + 1) 0) 0x20))
+    (begun .legal) h
+    (simp (
+      ne-eqb (getD c (i + 1) 0) BOF (λ q. omega arith),
+      ne-eqb (getD c (i + 1) 0) EOF (λ q. omega arith),
+      le-ltb (getD c (i + 1) 0) 0xd8 lo,
+      le-ltb 0xdf (getD c (i + 1) 0) hi,
+    )
+    (keeps-adds t (l .room) n (bitXor (getD c (i + 1) 0) 0x20) m (l .frame) (l .message) hn))
+    refl)
+
+-- Any byte but BOF and another leaves the session and the store as they are.
+pub Stays : Session → ℕ → Type 0
+Stays s other = (b : ℕ) (t : List ℕ) → (b ≡ BOF → ⊥) → (b ≡ other → ⊥) → Legal s t → keeps (step (stateOf s t) b) t ≡ gives (going (s .frame) (s .message)) t
+
+pub reaches-past : (c : List ℕ) (i other : ℕ) (s : Session) (t : List ℕ) → Stays s other → Legal s t → i < length c
+    → (getD c i 0 ≡ BOF → ⊥) → (getD c i 0 ≡ other → ⊥) → Reaches c i s t (i + 1) s t
+unfolding Stays
+reaches-past c i other s t stays l h p q = reaches-more c i s t (going (s .frame) (s .message)) t l h (stays (getD c i 0) t p q l) refl
+
+-- a stray run, and the rest of a frame that has a fault
+module _ (s : Session) where
+  pub stays-stray : s .frame ≡ Stray → Stays s BOF
+  unfolding Stays step inPlace
+  stays-stray e b t p q l =
+      ap (λ (f : Frame). keeps (inPlace (placeOf f t) (messageOf (s .message) t) b) t) e
+      ∙ simp (ne-eqb b BOF p) (keeps-goes t (l .room) Stray (s .message) (omega arith) (l .message))
+      ∙ ap (λ (f : Frame). gives (going f (s .message)) t) (sym e)
+
+  pub stays-fault : (x : Fault) (f : Frame) → s .frame ≡ f
+      → ((t : List ℕ) (b : ℕ) → inPlace (placeOf f t) (messageOf (s .message) t) b ≡ faulted x (placeOf f t) (messageOf (s .message) t) b) → Stays s EOF
+  unfolding Stays step faulted
+  stays-fault x f e i b t p q l =
+      ap (λ (g : Frame). keeps (inPlace (placeOf g t) (messageOf (s .message) t) b) t) e
+      ∙ ap (λ (o : Step). keeps o t) (i t b)
+      ∙ simp (ne-eqb b BOF p, ne-eqb b EOF q) (keeps-goes t (l .room) f (s .message) (omega (arith, ap frameLength e, l .frame)) (l .message))
+      ∙ ap (λ (g : Frame). gives (going g (s .message)) t) (sym e)

@@ -10,6 +10,7 @@ use Rattle.framing.specs.declared.Frame.{Frame}
 use Rattle.framing.specs.declared.Frame.the-variants.{Outside, Inside}
 use Rattle.framing.specs.declared.Pending.{Pending}
 use Rattle.framing.specs.declared.Pending.the-variants.{Nothing, Part}
+use Rattle.framing.specs.declared.step.Progress.{Progress}
 use Rattle.framing.specs.declared.step.Stepped.{Stepped}
 use Rattle.framing.specs.Numbers.{BOF, EOF, pick}
 use Rattle.framing.specs.Session.{Kept, saidBy}
@@ -37,3 +38,6 @@ joining false d n = record { event = ev.Piece d; session = record { frame = Outs
 
 unfoldable pub pastFault : Fault → Frame → ℕ → Pending → Stepped
 pastFault x f b m = pick (eqb b BOF) (refusing x (Inside 0) m) (pick (eqb b EOF) (refusing x Outside m) (going f m))
+
+abbrev pub arriving : ℕ → Pending → ℕ → Progress
+arriving n m i = record { session = record { frame = Inside n; message = m }; at = i }

@@ -1,7 +1,7 @@
 // The checksum, by 001's table.
 ghost use mathlib.Core.Path.{_≡_};
 ghost use Prim.Native.Nat.{_+_, _-_, _*_};
-ghost use Rattle.framing.specs.Checksum.{crcStep, crcFrom, checksum};
+ghost use Rattle.framing.specs.Checksum.{table, crcStep, crcFrom, checksum};
 
 // 001's table of 256 numbers (S101 CRC Table).
 const TABLE: [u16; 256] = [
@@ -269,22 +269,24 @@ fn wide(x: u8) -> u16
     x as u16
 }
 
-// One byte of data.
-fn crc_step(crc: u16, b: u8) -> u16
+// One byte of data. The table is lent, so that it is laid out once for a slice and not for each byte.
+fn crc_step(lent: &[u16; 256], crc: u16, b: u8) -> u16
+    requires { ⌜ now lent ≡ table ⌝ }
     ensures { λ r. ⌜ r ≡ crcStep crc b ⌝ }
 {
     let i = ((crc ^ wide(b)) % 256) as usize;
-    (crc / 256) ^ TABLE[i]
+    (crc / 256) ^ lent[i]
 }
 
 // Goes on with the data of a slice, from the crc that the data before it left.
 pub fn crc_from(crc: u16, s: &[u8]) -> u16
     ensures { λ r. ⌜ r ≡ crcFrom crc (now (s .entry)) ⌝ }
 {
+    let numbers = TABLE;
     let mut c = crc;
     let mut i = 0;
     while i < s.len() {
-        c = crc_step(c, s[i]);
+        c = crc_step(&numbers, c, s[i]);
         i += 1;
     }
     c

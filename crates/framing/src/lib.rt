@@ -158,7 +158,7 @@ fn runs(session: Session, store: &mut [u8], chunk: &[u8]) -> Fed
                 session: next,
             };
         };
-        let p = step::ordinary(next, i, store, chunk);
+        let p = step::strides(next, i, store, chunk);
         let onward = p.session;
         s = onward;
         i = p.at;

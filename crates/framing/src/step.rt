@@ -14,13 +14,14 @@ use crate::Pending;
 use crate::Session;
 use crate::judge;
 ghost use mathlib.Core.Path.{_≡_};
-ghost use Prim.Native.Nat.{_+_, _≤_};
+ghost use Prim.Native.Nat.{ℕ, _+_, _≤_};
+ghost use mathlib.Core.List.{List};
 ghost use lib.ListN.{length, take, drop};
 ghost use lib.Seq.{sets};
 ghost use Rattle.framing.specs.Numbers.{contentLimit, messageLimit, storeLength, contentStart};
-ghost use Rattle.framing.specs.Steps.{gives, isPart, going, staying, refusing, joining, pastFault};
+ghost use Rattle.framing.specs.Steps.{gives, arriving, isPart, going, staying, refusing, joining, pastFault};
 ghost use Rattle.framing.specs.Rules.{adds as ruleAdds, pieces as rulePieces, ends as ruleEnds, inPlace, step as ruleStep, inside as insidePlace, escaped as escapedPlace};
-ghost use Rattle.framing.specs.Laws.{Reaches};
+ghost use Rattle.framing.specs.Laws.{Reaches, Stays};
 ghost use Rattle.framing.specs.Session.{frameLength, messageLength, contentIn, messageOf, stateOf, Legal, keeps};
 
 pub struct Stepped {
@@ -253,49 +254,100 @@ pub struct Progress {
     pub at: usize,
 }
 
-// Takes the ordinary bytes of an open frame, all at once: up to one that is F8 or above, the
-// content's limit or the chunk's end.
-pub(crate) fn ordinary(session: Session, from: usize, store: &mut [u8], chunk: &[u8]) -> Progress
+// In a frame that has no fault and no escape begun.
+fn arrives(length: usize, message: Pending, at: usize) -> Progress
+    ensures { λ r. ⌜ r ≡ arriving length message at ⌝ }
+{
+    Progress {
+        session: Session {
+            frame: Frame::Inside { length },
+            message,
+        },
+        at,
+    }
+}
+
+// Takes the content bytes of a frame, escaped ones too, as far as they go.
+fn fills(length: usize, message: Pending, from: usize, store: &mut [u8], chunk: &[u8]) -> Progress
+    requires { ⌜ Legal (arriving length message from .session) (now store) × (from ≤ lib.ListN.length (now chunk)) ⌝ }
+    ensures { λ r. ⌜ Reaches (now (chunk .entry)) from (arriving length message from .session) (now (store .entry)) (r .at) (r .session) (now (store .exit)) ⌝ }
+{
+    let mut n = length;
+    let mut i = from;
+    while i < chunk.len() {
+        let b = chunk[i];
+        if CONTENT_LIMIT <= n {
+            return arrives(n, message, i);
+        }
+        let to = CONTENT_START + n;
+        if b < 0xf8 {
+            store[to] = b;
+            n += 1;
+            i += 1;
+        } else {
+            if b != CE {
+                return arrives(n, message, i);
+            }
+            let next = i + 1;
+            if chunk.len() <= next {
+                return arrives(n, message, i);
+            }
+            let e = chunk[next];
+            if e < 0xd8 {
+                return arrives(n, message, i);
+            }
+            if 0xdf < e {
+                return arrives(n, message, i);
+            }
+            store[to] = e ^ 0x20;
+            n += 1;
+            i = next + 1;
+        }
+    }
+    arrives(n, message, i)
+}
+
+// Passes over bytes that change nothing: all but BOF and one other.
+fn skips(session: Session, other: u8, from: usize, chunk: &[u8]) -> usize
+    requires { ⌜ Stays session other × (from ≤ length (now chunk)) ⌝ }
+    ensures { λ r. ⌜ ((t : List ℕ) → Legal session t → Reaches (now (chunk .entry)) from session t r session t) ⌝ }
+{
+    let mut at = from;
+    while at < chunk.len() {
+        let b = chunk[at];
+        if b == BOF {
+            return at;
+        }
+        if b == other {
+            return at;
+        }
+        at += 1;
+    }
+    at
+}
+
+// Goes on as far as no event can be made: content, the rest of a frame that has a fault, a stray run.
+pub(crate) fn strides(session: Session, from: usize, store: &mut [u8], chunk: &[u8]) -> Progress
     requires { ⌜ Legal session (now store) × (from ≤ length (now chunk)) ⌝ }
     ensures { λ r. ⌜ Reaches (now (chunk .entry)) from session (now (store .entry)) (r .at) (r .session) (now (store .exit)) ⌝ }
 {
     let frame = session.frame;
     let message = session.message;
-    let Frame::Inside { length } = frame else {
-        return Progress { session, at: from };
-    };
-    let mut n = length;
-    let mut i = from;
-    while i < chunk.len() {
-        let b = chunk[i];
-        if 0xf8 <= b {
-            return Progress {
-                session: Session {
-                    frame: Frame::Inside { length: n },
-                    message,
-                },
-                at: i,
-            };
-        }
-        if CONTENT_LIMIT <= n {
-            return Progress {
-                session: Session {
-                    frame: Frame::Inside { length: n },
-                    message,
-                },
-                at: i,
-            };
-        }
-        let to = CONTENT_START + n;
-        store[to] = b;
-        n += 1;
-        i += 1;
-    }
-    Progress {
-        session: Session {
-            frame: Frame::Inside { length: n },
-            message,
+    match frame {
+        Frame::Inside { length } => fills(length, message, from, store, chunk),
+        Frame::Stray => Progress {
+            session,
+            at: skips(session, BOF, from, chunk),
         },
-        at: i,
+        Frame::BadByte { length: _ } => Progress {
+            session,
+            at: skips(session, EOF, from, chunk),
+        },
+        Frame::TooLong { length: _ } => Progress {
+            session,
+            at: skips(session, EOF, from, chunk),
+        },
+        Frame::Outside => Progress { session, at: from },
+        Frame::Escaped { length: _ } => Progress { session, at: from },
     }
 }

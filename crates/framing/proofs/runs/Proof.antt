@@ -64,8 +64,8 @@ returns c =
     let chunk = c .before .before .before .before .before .before .before .before .before .before .before .args .chunk .now in
     l .inv .rest ∙ turn-event chunk (l .i) (l .s) (l .store) (s .result) (s .last .1 .1 .0) (l .inv .legal) (c .before .before .before .before .before .before .before .loop-test .taken) (s .ensures) (loud (s .result .event) (s .last .1 .1 .0) (c .match .keys2))
 
-ordinary-requires : tie.Need-ordinary-requires Inv-loop μ-loop
-ordinary-requires c κs =
+strides-requires : tie.Need-strides-requires Inv-loop μ-loop
+strides-requires c κs =
     let l = c .before .before .before .before .before .before .before .before .before .before .loop in
     let s = c .before .before .before .before .before .before .step in
     let chunk = c .before .before .before .before .before .before .before .before .before .before .before .before .before .args .chunk .now in
@@ -73,14 +73,14 @@ ordinary-requires c κs =
     (m .legal, m .inside)
 
 loop-less : tie.Need-loop-less Inv-loop μ-loop
-loop-less c = omega (arith, c .before .before .before .ordinary .ensures .forward, c .before .before .before .ordinary .ensures .inside)
+loop-less c = omega (arith, c .before .before .before .strides .ensures .forward, c .before .before .before .strides .ensures .inside)
 
 loop-again : tie.Need-loop-again Inv-loop μ-loop
 loop-again c =
     let l = c .before .before .before .before .before .before .before .before .before .before .before .before .before .before .loop in
     let s = c .before .before .before .before .before .before .before .before .before .before .step in
     let chunk = c .before .before .before .before .before .before .before .before .before .before .before .before .before .before .before .before .before .args .chunk .now in
-    reaches-on (l .inv) (reaches-on (reaches-more chunk (l .i) (l .s) (l .store) (s .result) (s .last .1 .1 .0) (l .inv .legal) (c .before .before .before .before .before .before .before .before .before .before .before .before .before .loop-test .taken) (s .ensures) (c .before .before .before .before .before .enum-told .given .1)) (c .before .before .before .ordinary .ensures))
+    reaches-on (l .inv) (reaches-on (reaches-more chunk (l .i) (l .s) (l .store) (s .result) (s .last .1 .1 .0) (l .inv .legal) (c .before .before .before .before .before .before .before .before .before .before .before .before .before .loop-test .taken) (s .ensures) (c .before .before .before .before .before .enum-told .given .1)) (c .before .before .before .strides .ensures))
 
 same-length-2 : tie.Need-same-length-2 Inv-loop μ-loop
 same-length-2 c = let a = c .before .before .before .before .args in c .before .loop .inv .legal .room ∙ sym (legal-true (a .session) (a .store .now) (c .before .before .before .before .pre) .room)
@@ -103,7 +103,7 @@ runs-spec =
     enum-told
     same-length
     returns
-    ordinary-requires
+    strides-requires
     loop-less
     loop-again
     same-length-2

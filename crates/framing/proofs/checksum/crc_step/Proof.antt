@@ -1,6 +1,5 @@
--- The code's table is 001's, and the index is below 256.
+use Rattle.framing.specs.Checksum.{crcStep}
 use borrow.Author.Needs.{needs}
-use Rattle.framing.specs.Checksum.{table, crcStep}
 use Rattle.framing.proofs.checksum.crc_step.Statement.{statement}
 use Rattle.framing.proofs.checksum.crc_step.Tie as tie
 
@@ -13,12 +12,13 @@ cast-i c = search needs
 mul-result : tie.Need-mul-result
 mul-result c = search needs
 
-array-read-result : tie.Need-array-read-result
-array-read-result c = search needs
+element-copy-out-result : tie.Need-element-copy-out-result
+element-copy-out-result c = search needs
 
 returns : tie.Need-returns
-unfolding table crcStep
-returns c = rw (c .wide .ensures)
+unfolding crcStep
+returns c = rw (c .before .wide .ensures, c .before .before .pre)
 
 pub crc-step-spec : {M : Type 1} → statement M
-crc-step-spec = tie.close (tie.spec wide-requires cast-i mul-result array-read-result returns)
+crc-step-spec =
+    tie.close (tie.spec wide-requires cast-i mul-result element-copy-out-result returns)
