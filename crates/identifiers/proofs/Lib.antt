@@ -1,0 +1,3 @@
+-- What the proofs share (Within), and the theorems on relative identifiers: `written-read`, `read-written` (RoundTrip).
+pub mod Within
+pub mod RoundTrip

@@ -1,0 +1,384 @@
+// The requests.
+use crate::print;
+use crate::text;
+use crate::text::Decimal;
+use crate::text::Hex;
+use identifiers::Arc;
+use identifiers::Oid;
+use integers::Natural;
+use integers::Number;
+use integers::Wrote;
+use reals::Read;
+use tags::Head;
+use tags::Length;
+use values::Flag;
+
+fn word(x: usize) -> u64 {
+    x as u64
+}
+
+fn wide(x: u8) -> u64 {
+    x as u64
+}
+
+fn read_int(s: &[u8]) {
+    match integers::read_int(s, 0, s.len()) {
+        Number::Int(x) => {
+            let m = integers::magnitude(x);
+            if x < 0 {
+                print::say(b"-");
+                print::decimal(m + 1);
+            } else {
+                print::decimal(m);
+            }
+            print::say(b"\n");
+        }
+        Number::Refused => print::say(b"30\n"),
+    }
+}
+
+fn show_real(x: f64) {
+    if x != x {
+        print::say(b"35\n");
+        return;
+    }
+    let mut room = [0u8; 8];
+    let out: &mut [u8] = &mut room;
+    integers::write_octets(f64::to_bits(x), 8, out, 0);
+    print::octets(out);
+}
+
+fn read_real(s: &[u8]) {
+    match reals::read_real(s, 0, s.len()) {
+        Read::Real(x) => show_real(x),
+        Read::Refused => print::say(b"35\n"),
+    }
+}
+
+fn read_bool(s: &[u8]) {
+    match values::read_bool(s, 0, s.len()) {
+        Flag::Is(b) => {
+            if b {
+                print::say(b"true\n");
+            } else {
+                print::say(b"false\n");
+            }
+        }
+        Flag::Refused => print::say(b"30\n"),
+    }
+}
+
+fn show_length(length: Length) {
+    match length {
+        Length::Definite(n) => print::decimal(word(n)),
+        Length::Indefinite => print::say(b"indefinite"),
+    }
+}
+
+fn read_tag(s: &[u8]) {
+    match tags::read_tag(s, 0, usize::MAX) {
+        Head::Tag {
+            class,
+            constructed,
+            number,
+            length,
+            next,
+        } => {
+            print::decimal(wide(class));
+            if constructed {
+                print::say(b" 1 ");
+            } else {
+                print::say(b" 0 ");
+            }
+            print::decimal(number);
+            print::say(b" ");
+            show_length(length);
+            print::say(b" ");
+            print::decimal(word(next));
+            print::say(b"\n");
+        }
+        Head::Refused { place: _ } => print::say(b"30\n"),
+    }
+}
+
+fn show_numbers(s: &[u8]) {
+    let mut p: usize = 0;
+    while p < s.len() {
+        match identifiers::read_number(s, p, s.len()) {
+            Arc::Number { number, next } => {
+                if 0 < p {
+                    print::dot();
+                }
+                print::decimal(number);
+                p = next;
+            }
+            Arc::Range { next: _ } => {
+                break;
+            }
+            Arc::Refused => {
+                break;
+            }
+        }
+    }
+    print::end();
+}
+
+fn read_oid(s: &[u8]) {
+    match identifiers::read_oid(s, 0, s.len()) {
+        Oid::Numbers(n) => {
+            if n == 0 {
+                print::say(b"-\n");
+            } else {
+                show_numbers(s);
+            }
+        }
+        Oid::Range => print::say(b"range\n"),
+        Oid::Refused => print::say(b"30\n"),
+    }
+}
+
+fn show(w: Wrote, out: &[u8]) {
+    match w {
+        Wrote::Next(e) => print::written(out, e),
+        Wrote::Out => print::out(),
+    }
+}
+
+// -m, for m from 1 to 2^63.
+fn negated(m: u64) -> i64 {
+    if m == 0 {
+        return 0;
+    }
+    if 0x8000_0000_0000_0000 < m {
+        return 0;
+    }
+    -1 - ((m - 1) as i64)
+}
+
+fn write_magnitude(negative: bool, m: u64, work: &mut [u8]) {
+    if negative {
+        if 0x8000_0000_0000_0000 < m {
+            print::out();
+            return;
+        }
+        let w = integers::write_int(negated(m), work, 0);
+        show(w, work);
+        return;
+    }
+    if 0x7FFF_FFFF_FFFF_FFFF < m {
+        print::out();
+        return;
+    }
+    let w = integers::write_int(m as i64, work, 0);
+    show(w, work);
+}
+
+fn write_int(line: &[u8], from: usize, work: &mut [u8]) {
+    if line.len() <= from {
+        print::bad_line();
+        return;
+    }
+    let negative = line[from] == b'-';
+    let start = if negative { from + 1 } else { from };
+    match text::number(line, start, line.len()) {
+        Decimal::Number(m) => write_magnitude(negative, m, work),
+        Decimal::Bad => print::bad_line(),
+    }
+}
+
+fn write_real(n: usize, work: &mut [u8]) {
+    if n != 8 {
+        print::bad_line();
+        return;
+    }
+    match integers::read_unsigned(work, 0, 8) {
+        Natural::Nat(bits) => {
+            let w = reals::write_bits(bits, work, 0);
+            show(w, work);
+        }
+        Natural::Refused => print::bad_line(),
+    }
+}
+
+fn write_bool(b: bool, work: &mut [u8]) {
+    let w = integers::write_octet(values::bool_octet(b), work, 0);
+    show(w, work);
+}
+
+fn write_tag_of(class: u64, constructed: u64, number: u64, work: &mut [u8]) {
+    if 3 < class {
+        print::bad_line();
+        return;
+    }
+    if 1 < constructed {
+        print::bad_line();
+        return;
+    }
+    let w = tags::write_tag(class as u8, constructed == 1, number, work, 0);
+    show(w, work);
+}
+
+fn write_tag(line: &[u8], from: usize, work: &mut [u8]) {
+    let a = text::find(line, from, b' ');
+    if line.len() <= a {
+        print::bad_line();
+        return;
+    }
+    let b = text::find(line, a + 1, b' ');
+    if line.len() <= b {
+        print::bad_line();
+        return;
+    }
+    let Decimal::Number(class) = text::number(line, from, a) else {
+        print::bad_line();
+        return;
+    };
+    let Decimal::Number(constructed) = text::number(line, a + 1, b) else {
+        print::bad_line();
+        return;
+    };
+    let Decimal::Number(number) = text::number(line, b + 1, line.len()) else {
+        print::bad_line();
+        return;
+    };
+    write_tag_of(class, constructed, number, work);
+}
+
+fn write_length(line: &[u8], from: usize, work: &mut [u8]) {
+    match text::number(line, from, line.len()) {
+        Decimal::Number(n) => {
+            let w = tags::write_length(n, work, 0);
+            show(w, work);
+        }
+        Decimal::Bad => print::bad_line(),
+    }
+}
+
+// The numbers of a line, with dots between: how many there are, or 0 for a bad line.
+fn numbers_of(line: &[u8], from: usize, numbers: &mut [u64]) -> usize {
+    let mut p = from;
+    let mut n: usize = 0;
+    while p < line.len() {
+        let e = text::find(line, p, b'.');
+        let Decimal::Number(x) = text::number(line, p, e) else {
+            return 0;
+        };
+        if numbers.len() <= n {
+            return 0;
+        }
+        numbers[n] = x;
+        n = n + 1;
+        if line.len() <= e {
+            return n;
+        }
+        p = e + 1;
+    }
+    0
+}
+
+fn write_oid(line: &[u8], from: usize, work: &mut [u8], numbers: &mut [u64]) {
+    if text::starts(line, b"write oid -") {
+        if line.len() == 11 {
+            print::say(b"-\n");
+            return;
+        }
+    }
+    let n = numbers_of(line, from, numbers);
+    if n == 0 {
+        print::bad_line();
+        return;
+    }
+    if numbers.len() < n {
+        print::bad_line();
+        return;
+    }
+    let w = identifiers::write_oid(&numbers[..n], work, 0);
+    show(w, work);
+}
+
+pub(crate) fn answer(line: &[u8], work: &mut [u8], numbers: &mut [u64]) {
+    if text::starts(line, b"read ") {
+        answer_read(line, work);
+        return;
+    }
+    if text::starts(line, b"write int ") {
+        write_int(line, 10, work);
+        return;
+    }
+    if text::starts(line, b"write real ") {
+        let Hex::Octets(n) = text::octets(line, 11, work) else {
+            print::bad_line();
+            return;
+        };
+        write_real(n, work);
+        return;
+    }
+    if text::starts(line, b"write bool true") {
+        if line.len() == 15 {
+            write_bool(true, work);
+            return;
+        }
+    }
+    if text::starts(line, b"write bool false") {
+        if line.len() == 16 {
+            write_bool(false, work);
+            return;
+        }
+    }
+    if text::starts(line, b"write tag ") {
+        write_tag(line, 10, work);
+        return;
+    }
+    if text::starts(line, b"write length ") {
+        write_length(line, 13, work);
+        return;
+    }
+    if text::starts(line, b"write oid ") {
+        write_oid(line, 10, work, numbers);
+        return;
+    }
+    print::bad_line();
+}
+
+// The octets of a line, read as a kind.
+fn read_as(kind: u8, line: &[u8], from: usize, work: &mut [u8]) {
+    let Hex::Octets(n) = text::octets(line, from, work) else {
+        print::bad_line();
+        return;
+    };
+    read_kind(kind, &work[..n]);
+}
+
+fn read_kind(kind: u8, s: &[u8]) {
+    match kind {
+        0 => read_int(s),
+        1 => read_real(s),
+        2 => read_bool(s),
+        3 => read_tag(s),
+        _ => read_oid(s),
+    }
+}
+
+fn answer_read(line: &[u8], work: &mut [u8]) {
+    if text::starts(line, b"read int ") {
+        read_as(0, line, 9, work);
+        return;
+    }
+    if text::starts(line, b"read real ") {
+        read_as(1, line, 10, work);
+        return;
+    }
+    if text::starts(line, b"read bool ") {
+        read_as(2, line, 10, work);
+        return;
+    }
+    if text::starts(line, b"read tag ") {
+        read_as(3, line, 9, work);
+        return;
+    }
+    if text::starts(line, b"read oid ") {
+        read_as(4, line, 9, work);
+        return;
+    }
+    print::bad_line();
+}

@@ -1,0 +1,56 @@
+-- The round trip of the functions themselves, by their contracts: what a call of `write_real` writes, a call of `read_real` reads.
+use Prim.Native.Nat.{ℕ, _-_}
+use mathlib.Core.Path.{_≡_, sym, ap, _∙_}
+use mathlib.Core.List.{List}
+use denote.Ref.{now}
+use contract.Lifetimes.{Lfts}
+use borrow.Fn.World as World
+use borrow.Fn.Kinds as K
+use denote.Triple.Clauses as Clauses
+use lib.Dec.{T}
+use lib.Ieee as Ieee
+use lib.Ieee.{Float, binary64}
+use Rattle.reals.proofs.write_real
+use Rattle.reals.proofs.write_real.Kinds as write-kinds
+use Rattle.reals.proofs.write_real.Reads as write-reads
+use Rattle.reals.proofs.read_real
+use Rattle.reals.proofs.read_real.Kinds as read-kinds
+use Rattle.reals.proofs.read_real.Reads as read-reads
+use Rattle.integers.specs.declared.Wrote.{Wrote}
+use Rattle.integers.specs.declared.Wrote.the-variants.{Next}
+use Rattle.reals.specs.declared.Read.{Read}
+use Rattle.reals.specs.declared.Read.the-variants.{Real}
+use Rattle.reals.specs.Real.{realAt}
+use Rattle.reals.specs.Write.{writeAt}
+use Rattle.reals.proofs.RoundTrip.{written-read-at}
+
+-- a call of `write_real` that answers r and leaves the output out′
+pub record Writes (x : Float) (out : List ℕ) (at : ℕ) (r : Wrote) (out′ : List ℕ) : Type 0 where
+  pub κs : Lfts 1
+  pub args : World.ArgsD write_real.signature κs
+  pub exits : Clauses.AtExit (K.endedOf 1 write-kinds.ps write-kinds.r) κs
+  pub real-is : args .0 ≡ x
+  pub out-is : now (args .1 .0) ≡ out
+  pub at-is : args .1 .1 .0 ≡ at
+  pub left-is : now (exits .1 .0) ≡ out′
+  pub ensured : write-reads.Post κs args r exits
+
+-- a call of `read_real` that answers r
+pub record Reads (s : List ℕ) (at n : ℕ) (r : Read) : Type 0 where
+  pub κs : Lfts 1
+  pub args : World.ArgsD read_real.signature κs
+  pub exits : Clauses.AtExit (K.endedOf 1 read-kinds.ps read-kinds.r) κs
+  pub slice-is : now (args .0) ≡ s
+  pub at-is : args .1 .0 ≡ at
+  pub count-is : args .1 .1 .0 ≡ n
+  pub ensured : read-reads.Post κs args r exits
+
+write-says : {x : Float} {out : List ℕ} {at : ℕ} {r : Wrote} {out′ : List ℕ} → Writes x out at r out′ → writeAt out at x ≡ record { answer = r; out = out′ }
+write-says k = cc (k .ensured)
+
+read-says : {s : List ℕ} {at n : ℕ} {r : Read} → Reads s at n r → r ≡ realAt s at n
+read-says k = cc (k .ensured)
+
+pub round-trip : {x : Float} {out : List ℕ} {at n : ℕ} {out′ : List ℕ} {r : Read} → T (Ieee.fits binary64 x)
+    → Writes x out at (Next n) out′ → Reads out′ at (n - at) r → r ≡ Real x
+round-trip {x} {out} {at} {n} {out′} d w k = read-says k ∙ written-read-at out at x n out′ d (write-says w)

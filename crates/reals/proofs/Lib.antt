@@ -1,0 +1,8 @@
+-- What the proofs share, and the theorems on reals: `exactly`, `unique`, `otherwise` (Exactly); `written-read`, `read-written`, `written-least`,
+-- `written-plain`, `written-read-at` (RoundTrip); `round-trip` (Calls).
+pub mod Naturals
+pub mod PowerOctets
+pub mod Puts
+pub mod Exactly
+pub mod RoundTrip
+pub mod Calls

@@ -1,0 +1,34 @@
+-- Document 01, "Values", "Reals": the number ± m * 2 ^ p, "accepted exactly if some finite double equals it: with the mantissa made odd,
+-- it is under 2^53, its power of two at least -1,074, its bits plus the power at most 1,024".
+use Prim.Native.Nat.{ℕ, _/_, _^_}
+use mathlib.Core.Bool.{Bool, true, false, _&&_}
+use lib.Dec.{ltb}
+use lib.IntN.{ℤ, pos, negsuc, _+ℤ_}
+use lib.Signed.{leZ}
+use lib.Count.{trailingZeros}
+use lib.Ieee.{fin, size}
+use Rattle.reals.specs.declared.Read.{Read}
+use Rattle.reals.specs.declared.Read.the-variants.{Real, Refused}
+
+abbrev pub pick : Bool → Read → Read → Read
+pick true x y = x
+pick false x y = y
+
+-- how often a mantissa of up to 8 octets can be halved
+abbrev pub halvings : ℕ → ℕ
+halvings m = trailingZeros 64 m
+
+-- "with the mantissa made odd": the mantissa, and its power of two
+abbrev pub oddPart : ℕ → ℕ
+oddPart m = m / 2 ^ halvings m
+
+abbrev pub oddPower : ℕ → ℤ → ℤ
+oddPower m p = p +ℤ pos (halvings m)
+
+-- "it is under 2^53, its power of two at least -1,074, its bits plus the power at most 1,024"
+unfoldable pub inDouble : ℕ → ℤ → Bool
+inDouble m p = ltb m (2 ^ 53) && (leZ (negsuc 1073) p && leZ (pos (size m) +ℤ p) (pos 1024))
+
+-- a mantissa of 0 is refused; the double is written as the library writes it, with an odd mantissa
+unfoldable pub number : Bool → ℕ → ℤ → Read
+number s m p = pick (ltb 0 m && inDouble (oddPart m) (oddPower m p)) (Real (fin s (oddPart m) (oddPower m p))) Refused

@@ -1,0 +1,4 @@
+-- What the proofs share (Heads, Shorts), and the theorems on values: `written-read-value`, `read-value-writes`, `read-again` (RoundTrip).
+pub mod Heads
+pub mod Shorts
+pub mod RoundTrip
