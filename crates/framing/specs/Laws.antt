@@ -226,19 +226,23 @@ piece-long xs first last e = go (leb 11 (length xs)) refl
 
 -- ---- a turn of a call
 
+-- refusals are numbered from 10 up
+pub number-high : (f : Fault) → 10 ≤ number f
+number-high Fault.Stray = omega arith
+number-high Cut = omega arith
+number-high Byte = omega arith
+number-high Long = omega arith
+number-high Escape = omega arith
+number-high Short = omega arith
+number-high Crc = omega arith
+number-high Header = omega arith
+number-high Flags = omega arith
+number-high Dtd = omega arith
+number-high Orphan = omega arith
+number-high Big = omega arith
+
 pub number-not-zero : (f : Fault) → eqb (number f) 0 ≡ false
-number-not-zero Fault.Stray = refl
-number-not-zero Cut = refl
-number-not-zero Byte = refl
-number-not-zero Long = refl
-number-not-zero Escape = refl
-number-not-zero Short = refl
-number-not-zero Crc = refl
-number-not-zero Header = refl
-number-not-zero Flags = refl
-number-not-zero Dtd = refl
-number-not-zero Orphan = refl
-number-not-zero Big = refl
+number-not-zero f = let h = number-high f in ne-eqb (number f) 0 (λ e. omega arith)
 
 module _ (c : List ℕ) (i : ℕ) (s : State) (t : List ℕ) where
   module _ (h : i < length c) where

@@ -1,0 +1,53 @@
+use mathlib.Core.Path.{_∙_}
+use native.Mathlib.Omega.{arith}
+use Rattle.frames.specs.Text.{endText}
+use Rattle.frames.specs.Laws.{wrote-then}
+use borrow.Author.Needs.{needs}
+use Rattle.frames.proofs.text.put_end.Statement.{statement}
+use Rattle.frames.proofs.text.put_end.Tie as tie
+
+slice-aggregate-put-bytes : tie.Need-slice-aggregate-put-bytes
+slice-aggregate-put-bytes c = search needs
+
+put-bytes-requires : tie.Need-put-bytes-requires
+put-bytes-requires c κs = search needs
+
+put-decimal-requires : tie.Need-put-decimal-requires
+put-decimal-requires c κs = search needs
+
+put-requires : tie.Need-put-requires
+put-requires c κs = search needs
+
+put-frame-requires : tie.Need-put-frame-requires
+put-frame-requires c κs = search needs
+
+put-requires-2 : tie.Need-put-requires-2
+put-requires-2 c κs = search needs
+
+put-pending-requires : tie.Need-put-pending-requires
+put-pending-requires c κs = search needs
+
+put-requires-3 : tie.Need-put-requires-3
+put-requires-3 c κs = search needs
+
+same-length : tie.Need-same-length
+same-length c = search needs
+
+returns : tie.Need-returns
+unfolding endText
+returns c = (wrote-then _ _ _ _ (c .before .before .before .before .before .before .before .before .before .before .before .before .before .before .before .before .before .before .before .before .before .before .before .before .before .before .put-bytes .ensures .0) ∙ wrote-then _ _ _ _ (c .before .before .before .before .before .before .before .before .before .before .before .before .before .before .before .before .before .before .before .before .before .before .put-decimal .ensures .0) ∙ wrote-then _ _ _ _ (c .before .before .before .before .before .before .before .before .before .before .before .before .before .before .before .before .before .before .put .ensures .0) ∙ wrote-then _ _ _ _ (c .before .before .before .before .before .before .before .before .before .before .before .before .before .before .put-frame .ensures .0) ∙ wrote-then _ _ _ _ (c .before .before .before .before .before .before .before .before .before .before .put2 .ensures .0) ∙ wrote-then _ _ _ _ (c .before .before .before .before .before .before .put-pending .ensures .0) ∙ c .before .before .put3 .ensures .0, omega arith)
+
+pub put-end-spec : {M : Type 1} → statement M
+put-end-spec =
+    tie.close
+    (tie.spec
+    slice-aggregate-put-bytes
+    put-bytes-requires
+    put-decimal-requires
+    put-requires
+    put-frame-requires
+    put-requires-2
+    put-pending-requires
+    put-requires-3
+    same-length
+    returns)

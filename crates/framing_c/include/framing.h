@@ -1,0 +1,96 @@
+/* S101 framing for C: the session that reads a stream in chunks, and the writer of frames.
+ *
+ * Link libframing_c.a, which `rt staticlib framing_c` proves and builds (x86-64 Linux). The library keeps
+ * nothing between calls, allocates nothing and calls nothing: all memory is lent by the caller. Each call is
+ * proved for every content of what is lent to it, and answers a wrong length or a word out of range; it cannot
+ * test a pointer. So a pointer and its count name memory of the caller's that is as long as the count says,
+ * aligned for its type, and shared by no other argument of the call that is written to; where the count is 0
+ * the pointer may be anything. */
+#ifndef FRAMING_H
+#define FRAMING_H
+
+#include <stddef.h>
+#include <stdint.h>
+
+#ifdef __cplusplus
+extern "C" {
+#endif
+
+/* The session: four words, made by framing_start and changed by framing_feed alone. A gateway with many lines has
+ * one for each, with a store of its own.
+ *   0: where the stream stands: 0 outside frames, 1 in a run of stray bytes, 2 in a frame, 3 in a frame after CE,
+ *      4 in a frame past a bad byte, 5 in a frame past its limit
+ *   1: bytes of content of the open frame, at most 1,024; 0 if none is open
+ *   2: 1 if a message is unfinished, else 0
+ *   3: bytes of the unfinished message, at most 16,384; 0 if there is none */
+#define FRAMING_SESSION_WORDS 4
+
+/* The store: message bytes from 0, frame content from 16,384. It needs no clearing. */
+#define FRAMING_STORE_BYTES 17408
+
+/* The answer of framing_feed, three words:
+ *   0: 1 if an unfinished message was thrown away, else 0
+ *   1: bytes of the chunk that were consumed
+ *   2: for FRAMING_MESSAGE the length of the message, which is the store's first bytes until the next call; else 0 */
+#define FRAMING_ANSWER_WORDS 3
+#define FRAMING_DISCARDED 0
+#define FRAMING_CONSUMED 1
+#define FRAMING_LENGTH 2
+
+/* A frame has at most 1,022 bytes of content without its CRC, and is at most 2,050 bytes long. */
+#define FRAMING_CONTENT_MAX 1022
+#define FRAMING_FRAME_MAX 2050
+
+/* The numbers answered. */
+#define FRAMING_DONE 0     /* done, or more bytes needed */
+#define FRAMING_SETUP 1    /* a wrong length, or a word out of range: nothing was changed */
+#define FRAMING_PIECE 2    /* a piece of a message that is not finished */
+#define FRAMING_MESSAGE 3  /* the piece that finished a message */
+#define FRAMING_REQUEST 4  /* keep-alive request */
+#define FRAMING_RESPONSE 5 /* keep-alive response */
+#define FRAMING_STRAY 10   /* the first of a run of bytes outside frames */
+#define FRAMING_CUT 11     /* a frame ended by the start of the next */
+#define FRAMING_BYTE 12    /* a byte that may not stand there */
+#define FRAMING_LONG 13    /* content over 1,024 bytes, CRC included */
+#define FRAMING_ESCAPE 14  /* the frame's end directly after CE */
+#define FRAMING_SHORT 15   /* content under 6 bytes, CRC included */
+#define FRAMING_CRC 16     /* CRC wrong */
+#define FRAMING_HEADER 20  /* slot, type, command, version or header size wrong */
+#define FRAMING_FLAGS 21   /* flags wrong */
+#define FRAMING_DTD 22     /* DTD, count of application bytes or major version wrong */
+#define FRAMING_ORPHAN 23  /* a later piece with no message open */
+#define FRAMING_BIG 24     /* a message over 16,384 bytes */
+#define FRAMING_OUT 46     /* writer: output too short or content too long: nothing was changed */
+
+/* Makes a fresh session: outside frames, no message open.
+ * FRAMING_DONE, or FRAMING_SETUP if session_words is not 4. */
+uint64_t framing_start(uint64_t *session, size_t session_words);
+
+/* Offers a chunk of the stream, of any length. It consumes bytes up to and including the one that makes an event, or
+ * all of them, and answers the event's number, 2 to 24, or FRAMING_DONE. Offer the rest again, from the first byte
+ * that was not consumed. FRAMING_SETUP, with nothing changed, if session_words is not 4, store_bytes not 17,408,
+ * answer_words not 3, or the words are no session's. */
+uint64_t framing_feed(uint64_t *session, size_t session_words, uint8_t *store, size_t store_bytes,
+                      const uint8_t *chunk, size_t chunk_bytes, uint64_t *answer, size_t answer_words);
+
+/* Each of these writes to the start of out, sets *count to how many bytes it wrote, and answers FRAMING_DONE; or
+ * it answers FRAMING_OUT, with out and *count as they were, if out is too short or the content too long.
+ * Bytes of out past the written ones stay. */
+
+/* A frame around content without its CRC, at most 1,022 bytes. 2,050 bytes of out are always enough. */
+uint64_t framing_write_frame(const uint8_t *content, size_t content_bytes, uint8_t *out, size_t out_bytes,
+                             uint64_t *count);
+
+/* The two keep-alives. */
+uint64_t framing_write_request(uint8_t *out, size_t out_bytes, uint64_t *count);
+uint64_t framing_write_response(uint8_t *out, size_t out_bytes, uint64_t *count);
+
+/* A message of at most 16,384 bytes as packets. 17 frames, 34,850 bytes of out, are always enough. */
+uint64_t framing_write_message(const uint8_t *message, size_t message_bytes, uint8_t *out, size_t out_bytes,
+                               uint64_t *count);
+
+#ifdef __cplusplus
+}
+#endif
+
+#endif

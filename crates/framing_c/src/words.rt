@@ -1,0 +1,160 @@
+// A session as four words, and back.
+use framing::Frame;
+use framing::Pending;
+use framing::Session;
+ghost use mathlib.Core.Path.{_≡_};
+ghost use lib.ListN.{length};
+ghost use Rattle.framing.specs.Session.{frameLength, messageLength, legal};
+ghost use Rattle.framing_c.specs.Words.{placeWord, openWord, wordsOf, frameAt, pendingAt, sessionAt, isFrame, isPending, isSession};
+
+fn place_word(frame: Frame) -> u64
+    ensures { λ r. ⌜ r ≡ placeWord frame ⌝ }
+{
+    match frame {
+        Frame::Outside => 0,
+        Frame::Stray => 1,
+        Frame::Inside { length: _ } => 2,
+        Frame::Escaped { length: _ } => 3,
+        Frame::BadByte { length: _ } => 4,
+        Frame::TooLong { length: _ } => 5,
+    }
+}
+
+fn frame_length(frame: Frame) -> usize
+    ensures { λ r. ⌜ r ≡ frameLength frame ⌝ }
+{
+    match frame {
+        Frame::Outside => 0,
+        Frame::Stray => 0,
+        Frame::Inside { length } => length,
+        Frame::Escaped { length } => length,
+        Frame::BadByte { length } => length,
+        Frame::TooLong { length } => length,
+    }
+}
+
+fn open_word(message: Pending) -> u64
+    ensures { λ r. ⌜ r ≡ openWord message ⌝ }
+{
+    match message {
+        Pending::Nothing => 0,
+        Pending::Part { length: _ } => 1,
+    }
+}
+
+fn message_length(message: Pending) -> usize
+    ensures { λ r. ⌜ r ≡ messageLength message ⌝ }
+{
+    match message {
+        Pending::Nothing => 0,
+        Pending::Part { length } => length,
+    }
+}
+
+pub(crate) fn word(n: usize) -> u64
+    ensures { λ r. ⌜ r ≡ n ⌝ }
+{
+    n as u64
+}
+
+fn size(n: u64) -> usize
+    ensures { λ r. ⌜ r ≡ n ⌝ }
+{
+    n as usize
+}
+
+fn frame_at(place: u64, length: usize) -> Frame
+    ensures { λ r. ⌜ r ≡ frameAt place length ⌝ }
+{
+    if place == 0 {
+        Frame::Outside
+    } else if place == 1 {
+        Frame::Stray
+    } else if place == 2 {
+        Frame::Inside { length }
+    } else if place == 3 {
+        Frame::Escaped { length }
+    } else if place == 4 {
+        Frame::BadByte { length }
+    } else {
+        Frame::TooLong { length }
+    }
+}
+
+fn pending_at(pending: u64, length: usize) -> Pending
+    ensures { λ r. ⌜ r ≡ pendingAt pending length ⌝ }
+{
+    if pending == 0 {
+        Pending::Nothing
+    } else {
+        Pending::Part { length }
+    }
+}
+
+fn is_frame(place: u64, length: u64) -> bool
+    ensures { λ r. ⌜ r ≡ isFrame place length ⌝ }
+{
+    if place < 2 {
+        return length == 0;
+    }
+    place <= 5
+}
+
+fn is_pending(pending: u64, length: u64) -> bool
+    ensures { λ r. ⌜ r ≡ isPending pending length ⌝ }
+{
+    if pending == 0 {
+        return length == 0;
+    }
+    pending == 1
+}
+
+// Whether the words are a session's.
+pub(crate) fn is_session(words: &[u64]) -> bool
+    ensures { λ r. ⌜ r ≡ isSession (now (words .entry)) ⌝ }
+{
+    if words.len() != 4 {
+        return false;
+    }
+    if is_frame(words[0], words[1]) {
+        return is_pending(words[2], words[3]);
+    }
+    false
+}
+
+pub(crate) fn session_at(words: &[u64]) -> Session
+    requires { ⌜ length (now words) ≡ 4 ⌝ }
+    ensures { λ r. ⌜ r ≡ sessionAt (now (words .entry)) ⌝ }
+{
+    Session {
+        frame: frame_at(words[0], size(words[1])),
+        message: pending_at(words[2], size(words[3])),
+    }
+}
+
+pub(crate) fn put_session(words: &mut [u64], session: Session)
+    requires { ⌜ length (now words) ≡ 4 ⌝ }
+    ensures { λ _. ⌜ now (words .exit) ≡ wordsOf session ⌝ }
+{
+    let frame = session.frame;
+    let message = session.message;
+    words[0] = place_word(frame);
+    words[1] = word(frame_length(frame));
+    words[2] = open_word(message);
+    words[3] = word(message_length(message));
+}
+
+// Whether framing takes the session, with a store of n bytes.
+pub(crate) fn is_legal(session: Session, n: usize) -> bool
+    ensures { λ r. ⌜ r ≡ legal session n ⌝ }
+{
+    let frame = session.frame;
+    let message = session.message;
+    if n != framing::STORE_LENGTH {
+        return false;
+    }
+    if framing::CONTENT_LIMIT < frame_length(frame) {
+        return false;
+    }
+    message_length(message) <= framing::MESSAGE_LIMIT
+}
