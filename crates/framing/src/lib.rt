@@ -102,7 +102,8 @@ pub fn start() -> Session
     }
 }
 
-fn frame_length(frame: Frame) -> usize
+// The count of content bytes of the open frame, 0 if none is open.
+pub fn frame_length(frame: Frame) -> usize
     ensures { λ r. ⌜ r ≡ frameLength frame ⌝ }
 {
     match frame {
@@ -115,7 +116,8 @@ fn frame_length(frame: Frame) -> usize
     }
 }
 
-fn message_length(message: Pending) -> usize
+// The length of the unfinished message, 0 if there is none.
+pub fn message_length(message: Pending) -> usize
     ensures { λ r. ⌜ r ≡ messageLength message ⌝ }
 {
     match message {
@@ -124,8 +126,8 @@ fn message_length(message: Pending) -> usize
     }
 }
 
-// 1 SETUP is answered where this is false.
-fn is_legal(session: Session, n: usize) -> bool
+// 1 SETUP is answered where this is false, for a store of n bytes.
+pub fn is_legal(session: Session, n: usize) -> bool
     ensures { λ r. ⌜ r ≡ legal session n ⌝ }
 {
     if n != STORE_LENGTH {

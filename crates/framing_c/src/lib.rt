@@ -28,7 +28,7 @@ fn legal_words(session: &[u64], n: usize) -> bool
     requires { ⌜ length (now session) ≡ 4 ⌝ }
     ensures { λ r. ⌜ r ≡ isLegal (sessionAt (now (session .entry))) n ⌝ }
 {
-    words::is_legal(words::session_at(session), n)
+    framing::is_legal(words::session_at(session), n)
 }
 
 // Whether a call is no SETUP: of the session's words, a store of n bytes, and an answer of k words.

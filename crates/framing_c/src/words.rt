@@ -4,7 +4,6 @@ use framing::Pending;
 use framing::Session;
 ghost use mathlib.Core.Path.{_≡_};
 ghost use lib.ListN.{length};
-ghost use Rattle.framing.specs.Session.{frameLength, messageLength, legal};
 ghost use Rattle.framing_c.specs.Words.{placeWord, openWord, wordsOf, frameAt, pendingAt, sessionAt, isFrame, isPending, isSession};
 
 fn place_word(frame: Frame) -> u64
@@ -20,34 +19,12 @@ fn place_word(frame: Frame) -> u64
     }
 }
 
-fn frame_length(frame: Frame) -> usize
-    ensures { λ r. ⌜ r ≡ frameLength frame ⌝ }
-{
-    match frame {
-        Frame::Outside => 0,
-        Frame::Stray => 0,
-        Frame::Inside { length } => length,
-        Frame::Escaped { length } => length,
-        Frame::BadByte { length } => length,
-        Frame::TooLong { length } => length,
-    }
-}
-
 fn open_word(message: Pending) -> u64
     ensures { λ r. ⌜ r ≡ openWord message ⌝ }
 {
     match message {
         Pending::Nothing => 0,
         Pending::Part { length: _ } => 1,
-    }
-}
-
-fn message_length(message: Pending) -> usize
-    ensures { λ r. ⌜ r ≡ messageLength message ⌝ }
-{
-    match message {
-        Pending::Nothing => 0,
-        Pending::Part { length } => length,
     }
 }
 
@@ -139,22 +116,7 @@ pub(crate) fn put_session(words: &mut [u64], session: Session)
     let frame = session.frame;
     let message = session.message;
     words[0] = place_word(frame);
-    words[1] = word(frame_length(frame));
+    words[1] = word(framing::frame_length(frame));
     words[2] = open_word(message);
-    words[3] = word(message_length(message));
-}
-
-// Whether framing takes the session, with a store of n bytes.
-pub(crate) fn is_legal(session: Session, n: usize) -> bool
-    ensures { λ r. ⌜ r ≡ legal session n ⌝ }
-{
-    let frame = session.frame;
-    let message = session.message;
-    if n != framing::STORE_LENGTH {
-        return false;
-    }
-    if framing::CONTENT_LIMIT < frame_length(frame) {
-        return false;
-    }
-    message_length(message) <= framing::MESSAGE_LIMIT
+    words[3] = word(framing::message_length(message));
 }
