@@ -12,7 +12,7 @@ use Rattle.integers.specs.Laws.{length-part}
 use lib.Arith.{digits-div, digits-mod}
 use borrow.Author.Tests.{le-leb, lt-leb, lt-ltb, le-ltb}
 use Rattle.integers.specs.declared.Wrote.the-variants.{Next, Out}
-use Rattle.integers.specs.Digits.{Put, horner, digits, count, countBy}
+use Rattle.integers.specs.Digits.{Put, horner, digits, count, countBy, outcome}
 use Rattle.integers.proofs.Radix.{lt-or-le, none-or-some, Below, length-digits, digits-below, digits-horner, natural-lt, horner-split, count-holds, count-least, power-le}
 use Rattle.integers.proofs.Signs.{below-take, below-drop}
 use Rattle.integers.proofs.Output.{put-fits, put-next, put-there, put-length}
@@ -85,7 +85,7 @@ arcs-read (n ∷ ns) r s p end f rest t e w k =
     q .1 .1 ∙ ap (push n) (arcs-read ns (h .1) s (p + length (septets n)) end (q .0) rest (drop-past s p (septets n) (oidOctets ns ++ rest) t2) (omega arith) w (q .1 .0))
 
 -- Numbers written into an output are read from it, with nothing left.
-pub written-read : (out : List ℕ) (at : ℕ) (ns : List ℕ) (e : ℕ) (o : List ℕ) → putOid out at ns ≡ record { answer = Next e; out = o }
+pub written-read : (out : List ℕ) (at : ℕ) (ns : List ℕ) (e : ℕ) (o : List ℕ) → putOid out at ns ≡ outcome (Next e) o
     → (arcs o at (e - at) ≡ numbers ns) × (oidAt o at (e - at) ≡ Numbers (length ns))
 written-read out at ns e o d = go (inRange ns) refl
   where

@@ -11,7 +11,7 @@ use lib.ListN.{take-append-drop}
 use Rattle.integers.specs.declared.Wrote.the-variants.{Next}
 use Rattle.integers.specs.Laws.{put-in}
 use lib.Seq.{drop-cons}
-use Rattle.integers.specs.Digits.{pick, put, unchanged}
+use Rattle.integers.specs.Digits.{pick, put, unchanged, outcome}
 use Rattle.identifiers.specs.declared.Arc.the-variants.{Number, Range as Over, Refused as NoArc}
 use Rattle.identifiers.specs.declared.Oid.{Oid}
 use Rattle.identifiers.specs.declared.Oid.the-variants.{Numbers, Range, Refused}
@@ -177,7 +177,7 @@ module _ (out : List ℕ) (at : ℕ) (ns : List ℕ) where
   unfolding putOid
   put-oid e = rw e
 
-pub put-empty : (out : List ℕ) (at : ℕ) → at ≤ length out → put out at [] ≡ record { answer = Next at; out = out }
+pub put-empty : (out : List ℕ) (at : ℕ) → at ≤ length out → put out at [] ≡ outcome (Next at) out
 put-empty out at h =
     let e : at + 0 ≡ at = omega arith in
     let k : at + 0 ≤ length out = omega arith in

@@ -3,7 +3,7 @@ use integers::Wrote;
 ghost use mathlib.Core.Path.{_≡_};
 ghost use Prim.Native.Nat.{_+_, _-_, _≤_, _<_};
 ghost use lib.ListN.{length, take, drop, getD};
-ghost use Rattle.integers.specs.Digits.{put};
+ghost use Rattle.integers.specs.Digits.{put, outcome};
 ghost use Rattle.identifiers.specs.Identifier.{arcIs, arcAt, oidAt, ArcWithin, inRange, oidOctets, putOid};
 ghost use Rattle.tags.specs.Write.{septets};
 
@@ -140,7 +140,7 @@ fn oid_size(ns: &[u64]) -> usize
 
 // The content octets of an identifier at a position of the output.
 pub fn write_oid(ns: &[u64], out: &mut [u8], at: usize) -> Wrote
-    ensures { λ r. ⌜ putOid (now (out .entry)) at (now (ns .entry)) ≡ record { answer = r; out = now (out .exit) } ⌝ }
+    ensures { λ r. ⌜ putOid (now (out .entry)) at (now (ns .entry)) ≡ outcome r (now (out .exit)) ⌝ }
 {
     if !in_range(ns) {
         return Wrote::Out;

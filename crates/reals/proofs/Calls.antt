@@ -23,6 +23,7 @@ use Rattle.reals.specs.declared.Read.the-variants.{Real}
 use Rattle.reals.specs.Real.{realAt}
 use Rattle.reals.specs.Write.{writeAt}
 use Rattle.reals.proofs.RoundTrip.{written-read-at}
+use Rattle.integers.specs.Digits.{outcome}
 
 -- a call of `write_real` that answers r and leaves the output out′
 pub record Writes (x : Float) (out : List ℕ) (at : ℕ) (r : Wrote) (out′ : List ℕ) : Type 0 where
@@ -45,7 +46,7 @@ pub record Reads (s : List ℕ) (at n : ℕ) (r : Read) : Type 0 where
   pub count-is : args .1 .1 .0 ≡ n
   pub ensured : read-reads.Post κs args r exits
 
-write-says : {x : Float} {out : List ℕ} {at : ℕ} {r : Wrote} {out′ : List ℕ} → Writes x out at r out′ → writeAt out at x ≡ record { answer = r; out = out′ }
+write-says : {x : Float} {out : List ℕ} {at : ℕ} {r : Wrote} {out′ : List ℕ} → Writes x out at r out′ → writeAt out at x ≡ outcome r out′
 write-says k = cc (k .ensured)
 
 read-says : {s : List ℕ} {at n : ℕ} {r : Read} → Reads s at n r → r ≡ realAt s at n

@@ -10,14 +10,14 @@ use Rattle.integers.specs.declared.Wrote.the-variants.{Next}
 use mathlib.Core.Bool.{Bool}
 use native.Mathlib.Nat.{mod-eq-of-lt}
 use lib.Ieee.{minus, size}
-use Rattle.integers.specs.Digits.{digits, Put, put, unchanged}
+use Rattle.integers.specs.Digits.{digits, Put, put, unchanged, outcome}
 use Rattle.integers.specs.Integer.{shortest}
 use Rattle.integers.specs.Laws.{put-in, put-out}
 use Rattle.integers.proofs.Radix.{length-digits}
 use Rattle.reals.specs.Write.{firstOctet, mantissaOctets, numberOctets}
 
 abbrev result : Wrote → List ℕ → Put
-result r o = record { answer = r; out = o }
+result r o = outcome r o
 
 module _ (out : List ℕ) (at : ℕ) (xs ys : List ℕ) (room : at + (length xs + length ys) ≤ length out) where
   -- the output with the first list in it

@@ -19,7 +19,7 @@ use lib.Ieee.Digits.{size-lt, size-le}
 use lib.Ieee.Fits.{and-l, and-r}
 use lib.Ieee.Bits.{is-true}
 use Rattle.integers.specs.declared.Wrote.the-variants.{Next, Out}
-use Rattle.integers.specs.Digits.{natural, Put}
+use Rattle.integers.specs.Digits.{natural, Put, outcome}
 use Rattle.integers.specs.Integer.{signed, shortest, size}
 use Rattle.integers.proofs.Radix.{Below, length-digits, horner-digits, natural-lt}
 use Rattle.integers.proofs.Sizes.{size-holds, size-least, octets-signed}
@@ -319,11 +319,11 @@ written-plain (fin true (suc m) p) cs d e = subst Plain (list-same (numberOctets
 -- ---- in a message: what was written into an output is read from it, with nothing left
 
 pub written-read-at : (out : List ℕ) (at : ℕ) (x : Float) (n : ℕ) (o : List ℕ) → T (Ieee.fits binary64 x)
-    → writeAt out at x ≡ record { answer = Next n; out = o } → realAt o at (n - at) ≡ Real x
+    → writeAt out at x ≡ outcome (Next n) o → realAt o at (n - at) ≡ Real x
 unfolding writeAt
 written-read-at out at x n o d e = go (form x) refl e
   where
-    go : (f : Form) → form x ≡ f → putForm out at f ≡ record { answer = Next n; out = o } → realAt o at (n - at) ≡ Real x
+    go : (f : Form) → form x ≡ f → putForm out at f ≡ outcome (Next n) o → realAt o at (n - at) ≡ Real x
     go unwritten i w = absurd (let a : Out ≡ Next n = ap (λ (p : Put). p .answer) w in let z : _≡_ {A = ℕ} 0 1 = cc in omega arith)
     go (octets bs) i w =
         let f = put-fits out at bs n o w in

@@ -1,4 +1,4 @@
--- The definitions: Number, Real and Means; the rest are laws and theorems.
+-- The definitions: Number, Real, Write and Means; the rest are laws and theorems.
 pub mod Number
 pub mod Real
 pub mod Means

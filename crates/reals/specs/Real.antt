@@ -61,8 +61,3 @@ real (first ∷ rest) = nonEmpty first rest
 -- the n octets at a position of a message; refused where it does not hold them
 unfoldable pub realAt : List ℕ → ℕ → ℕ → Read
 realAt s at n = pick (leb (at + n) (length s)) (real (take n (drop at s))) Refused
-
--- the paper's number for an answer
-abbrev pub answered : Read → ℕ
-answered (Real x) = 0
-answered Refused = 35

@@ -5,7 +5,7 @@ ghost use lib.ListN.{length, take, drop, getD};
 ghost use lib.IntN.{pos, _+ℤ_};
 ghost use lib.Count.{trailingZeros};
 ghost use lib.Ieee.{fin, minus, size, odd, ofBits, binary64};
-ghost use Rattle.integers.specs.Digits.{digits, put};
+ghost use Rattle.integers.specs.Digits.{digits, put, outcome};
 ghost use Rattle.integers.specs.Integer.{signed, shortest};
 ghost use Rattle.reals.specs.Number.{number};
 ghost use Rattle.reals.specs.Real.{binaryReal, realAt};
@@ -242,7 +242,7 @@ fn octets_of(m: u64) -> usize
 // The number ± m * 2 ^ (units - 1,074) at a position of the output.
 fn write_number(negative: bool, m: u64, units: u64, out: &mut [u8], at: usize) -> Wrote
     requires { ⌜ (0 < m) × (units < 4096) ⌝ }
-    ensures { λ r. ⌜ put (now (out .entry)) at (numberOctets negative m (minus units 1074)) ≡ record { answer = r; out = now (out .exit) } ⌝ }
+    ensures { λ r. ⌜ put (now (out .entry)) at (numberOctets negative m (minus units 1074)) ≡ outcome r (now (out .exit)) ⌝ }
 {
     let e = exponent(units);
     let value = e.value;
@@ -263,7 +263,7 @@ fn write_number(negative: bool, m: u64, units: u64, out: &mut [u8], at: usize) -
 // The double ± q * 2 ^ (units - 1,074), for a q of at most 53 binary digits, at a position of the output.
 fn write_finite(negative: bool, q: u64, units: u64, out: &mut [u8], at: usize) -> Wrote
     requires { ⌜ (0 < q) × (q < 2 ^ 53) × (units < 2048) ⌝ }
-    ensures { λ r. ⌜ writeAt (now (out .entry)) at (odd 53 negative q units 1074) ≡ record { answer = r; out = now (out .exit) } ⌝ }
+    ensures { λ r. ⌜ writeAt (now (out .entry)) at (odd 53 negative q units 1074) ≡ outcome r (now (out .exit)) ⌝ }
 {
     let zeros = halvings(q);
     write_number(negative, q >> zeros, units + zeros, out, at)
@@ -271,7 +271,7 @@ fn write_finite(negative: bool, q: u64, units: u64, out: &mut [u8], at: usize) -
 
 // The double of 64 bits at a position of the output; a NaN and minus zero are not written.
 pub fn write_bits(word: u64, out: &mut [u8], at: usize) -> Wrote
-    ensures { λ r. ⌜ writeAt (now (out .entry)) at (ofBits binary64 word) ≡ record { answer = r; out = now (out .exit) } ⌝ }
+    ensures { λ r. ⌜ writeAt (now (out .entry)) at (ofBits binary64 word) ≡ outcome r (now (out .exit)) ⌝ }
 {
     let negative = 0x8000_0000_0000_0000 <= word;
     let field = word % 0x8000_0000_0000_0000 / 0x10_0000_0000_0000;
@@ -299,7 +299,7 @@ pub fn write_bits(word: u64, out: &mut [u8], at: usize) -> Wrote
 
 // A real at a position of the output: the fewest octets that are read as it.
 pub fn write_real(x: f64, out: &mut [u8], at: usize) -> Wrote
-    ensures { λ r. ⌜ writeAt (now (out .entry)) at x ≡ record { answer = r; out = now (out .exit) } ⌝ }
+    ensures { λ r. ⌜ writeAt (now (out .entry)) at x ≡ outcome r (now (out .exit)) ⌝ }
 {
     if x != x {
         return Wrote::Out;

@@ -9,7 +9,7 @@ use borrow.Author.Tests.{lt-ltb}
 use lib.ListN.{length, take, drop, set, length-append}
 use Rattle.integers.specs.declared.Wrote.{Wrote}
 use Rattle.integers.specs.declared.Wrote.the-variants.{Next, Out}
-use Rattle.integers.specs.Digits.{Put, put, unchanged}
+use Rattle.integers.specs.Digits.{Put, put, unchanged, outcome}
 use Rattle.integers.specs.Laws.{put-out}
 use Rattle.integers.specs.Laws.{length-part}
 use Rattle.integers.proofs.Radix.{lt-or-le}
@@ -42,11 +42,11 @@ module _ (out : List ℕ) (at kind : ℕ) (bs : List ℕ) (one : kind < 31) (sho
   pub head-none : length out < at + 2 → put out at (primitive kind bs) ≡ unchanged out
   head-none h = rw (primitive-small kind bs one short) (put-out out at (kind ∷ (length bs ∷ bs)) (omega arith))
 
-  module _ (w : Wrote) (o : List ℕ) (done : put out (at + 2) bs ≡ record { answer = w; out = o }) where
+  module _ (w : Wrote) (o : List ℕ) (done : put out (at + 2) bs ≡ outcome w o) where
     two : at + 2 ≡ at + 1 + 1
     two = omega arith
 
-    content : put out (at + 1 + 1) bs ≡ record { answer = w; out = o }
+    content : put out (at + 1 + 1) bs ≡ outcome w o
     content = rw two at done
 
     pub head-fits : Sealable o at w
@@ -55,7 +55,7 @@ module _ (out : List ℕ) (at kind : ℕ) (bs : List ℕ) (one : kind < 31) (sho
         go : (v : Wrote) → w ≡ v → Sealable o at v
         go Out e = tt
         go (Next n) e =
-            let d : put out (at + 2) bs ≡ record { answer = Next n; out = o } = rw e at done in
+            let d : put out (at + 2) bs ≡ outcome (Next n) o = rw e at done in
             let f = put-fits out (at + 2) bs n o d in
             let x = put-next out (at + 2) bs n o d in
             let l = put-length out (at + 2) bs n o d in
@@ -67,13 +67,13 @@ module _ (out : List ℕ) (at kind : ℕ) (bs : List ℕ) (one : kind < 31) (sho
         go : (v : Wrote) → w ≡ v → put out at (kind ∷ (length bs ∷ bs)) ≡ putHead o at kind v
         go Out e = cons-none out at kind (length bs ∷ bs) Out o (cons-none out (at + 1) (length bs) bs w o content e) refl
         go (Next n) e =
-            let d : put out (at + 2) bs ≡ record { answer = Next n; out = o } = rw e at done in
+            let d : put out (at + 2) bs ≡ outcome (Next n) o = rw e at done in
             let f = put-fits out (at + 2) bs n o d in
             let x = put-next out (at + 2) bs n o d in
             let k : n - (at + 2) ≡ length bs = omega arith in
             let one-more = cons-done out (at + 1) (length bs) bs w n o content e (omega arith) in
             cons-done out at kind (length bs ∷ bs) (Next n) n (set o (at + 1) (length bs)) one-more refl (omega arith)
-            ∙ ap (λ (i : ℕ). record { answer = Next n; out = set (set o (at + 1) i) at kind }) (sym k)
+            ∙ ap (λ (i : ℕ). outcome (Next n) (set (set o (at + 1) i) at kind)) (sym k)
 
 -- content that may not be written at all
 module _ (out : List ℕ) (at kind : ℕ) (one : kind < 31) where
@@ -82,12 +82,12 @@ module _ (out : List ℕ) (at kind : ℕ) (one : kind < 31) where
   form-none (octets bs) short h = head-none out at kind bs one (short bs refl) h
 
   pub form-fits : (f : Form) → ((bs : List ℕ) → f ≡ octets bs → length bs < 128) → (w : Wrote) (o : List ℕ)
-      → putForm out (at + 2) f ≡ record { answer = w; out = o } → Sealable o at w
+      → putForm out (at + 2) f ≡ outcome w o → Sealable o at w
   form-fits unwritten short w o d = let e : Out ≡ w = ap (λ (p : Put). p .answer) d in subst (Sealable o at) e tt
   form-fits (octets bs) short w o d = head-fits out at kind bs one (short bs refl) w o d
 
   pub form-put : (f : Form) → ((bs : List ℕ) → f ≡ octets bs → length bs < 128) → (w : Wrote) (o : List ℕ)
-      → putForm out (at + 2) f ≡ record { answer = w; out = o } → putPrimitive out at kind f ≡ putHead o at kind w
+      → putForm out (at + 2) f ≡ outcome w o → putPrimitive out at kind f ≡ putHead o at kind w
   form-put unwritten short w o d =
       let e : Out ≡ w = ap (λ (p : Put). p .answer) d in
       let l : out ≡ o = ap (λ (p : Put). p .out) d in
@@ -115,27 +115,27 @@ module _ (src : List ℕ) (start len : ℕ) (out : List ℕ) (at kind : ℕ) (on
       ∙ put-out out at (kind ∷ (lengthOctets len ++ take len (drop start src))) (omega arith))
       (lt-or-le (length src) (start + len))
 
-  module _ (h : ℕ) (size : h ≡ length (lengthOctets len)) (r : Wrote) (o : List ℕ) (copied : putPart src start len out (at + 1 + h) ≡ record { answer = r; out = o }) where
-    there : start + len ≤ length src → put out (at + 1 + length (lengthOctets len)) content-octets ≡ record { answer = r; out = o }
+  module _ (h : ℕ) (size : h ≡ length (lengthOctets len)) (r : Wrote) (o : List ℕ) (copied : putPart src start len out (at + 1 + h) ≡ outcome r o) where
+    there : start + len ≤ length src → put out (at + 1 + length (lengthOctets len)) content-octets ≡ outcome r o
     unfolding content-octets
     there w = rw size at (sym (part-in src start len out (at + 1 + h) w) ∙ copied)
 
-    pub text-stop : r ≡ Out → putPrimitive out at kind (part src start len) ≡ record { answer = Out; out = o }
+    pub text-stop : r ≡ Out → putPrimitive out at kind (part src start len) ≡ outcome Out o
     unfolding content-octets
     text-stop e =
         ⊎-elim
         (λ (w : length src < start + len).
-        let q : unchanged out ≡ record { answer = r; out = o } = sym (part-out src start len out (at + 1 + h) w) ∙ copied in
-        ap (putPrimitive out at kind) (text-out src start len few w) ∙ q ∙ ap (λ (x : Wrote). record { answer = x; out = o }) e)
+        let q : unchanged out ≡ outcome r o = sym (part-out src start len out (at + 1 + h) w) ∙ copied in
+        ap (putPrimitive out at kind) (text-out src start len few w) ∙ q ∙ ap (λ (x : Wrote). outcome x o) e)
         (λ (w : start + len ≤ length src).
-        let d : put out (at + 1 + length (lengthOctets len)) (take len (drop start src)) ≡ record { answer = Out; out = o } = rw e at (there w) in
+        let d : put out (at + 1 + length (lengthOctets len)) (take len (drop start src)) ≡ outcome Out o = rw e at (there w) in
         ap (putPrimitive out at kind) (text-in src start len few w)
         ∙ ap (put out at) (whole-text w)
         ∙ cons-none out at kind (lengthOctets len ++ take len (drop start src)) Out o (append-none out (at + 1) (lengthOctets len) (take len (drop start src)) o d) refl)
         (lt-or-le (length src) (start + len))
 
-    pub text-done : (e : ℕ) → r ≡ Next e → (r2 : Wrote) (o2 : List ℕ) → putLength o (at + 1) len ≡ record { answer = r2; out = o2 } → at < length out
-        → putPrimitive out at kind (part src start len) ≡ record { answer = Next e; out = set o2 at kind }
+    pub text-done : (e : ℕ) → r ≡ Next e → (r2 : Wrote) (o2 : List ℕ) → putLength o (at + 1) len ≡ outcome r2 o2 → at < length out
+        → putPrimitive out at kind (part src start len) ≡ outcome (Next e) (set o2 at kind)
     unfolding content-octets
     text-done e k r2 o2 q room =
         ⊎-elim
@@ -143,7 +143,7 @@ module _ (src : List ℕ) (start len : ℕ) (out : List ℕ) (at kind : ℕ) (on
         let z : Out ≡ Next e = ap (λ (p : Put). p .answer) (sym (part-out src start len out (at + 1 + h) w) ∙ copied) ∙ k in
         let n : _≡_ {A = ℕ} 0 1 = cc in absurd (omega arith))
         (λ (w : start + len ≤ length src).
-        let d : put out (at + 1 + length (lengthOctets len)) (take len (drop start src)) ≡ record { answer = Next e; out = o } = rw k at (there w) in
+        let d : put out (at + 1 + length (lengthOctets len)) (take len (drop start src)) ≡ outcome (Next e) o = rw k at (there w) in
         let l = append-done out (at + 1) (lengthOctets len) (take len (drop start src)) e o d r2 o2 (sym (put-length-is o (at + 1) len few) ∙ q) .1 in
         ap (putPrimitive out at kind) (text-in src start len few w)
         ∙ ap (put out at) (whole-text w)

@@ -16,7 +16,7 @@ use mir.Val.{SFits}
 use Rattle.integers.specs.declared.Wrote.the-variants.{Next, Out}
 use Rattle.integers.specs.declared.Number.{Number}
 use Rattle.integers.specs.declared.Number.the-variants.{Int as Whole, Refused as NoInt}
-use Rattle.integers.specs.Digits.{Put, put, unchanged}
+use Rattle.integers.specs.Digits.{Put, put, unchanged, outcome}
 use Rattle.integers.specs.Integer.{integer, integerAt, shortest}
 use Rattle.integers.specs.Laws.{at-part, length-part}
 use Rattle.integers.proofs.Radix.{lt-or-le, Below}
@@ -55,7 +55,7 @@ record There (o : List ℕ) (at kind : ℕ) (bs : List ℕ) (e bound : ℕ) : Ty
   read : contentAt o at kind start (length bs) ≡ valueAt o at bound
 
 there : (out : List ℕ) (at kind : ℕ) (bs : List ℕ) (e : ℕ) (o : List ℕ) (bound : ℕ) → kind < 31 → length bs ≤ 4294967295 → e ≤ bound
-    → put out at (primitive kind bs) ≡ record { answer = Next e; out = o } → There o at kind bs e bound
+    → put out at (primitive kind bs) ≡ outcome (Next e) o → There o at kind bs e bound
 unfolding primitive
 there out at kind bs e o bound one few inside done =
     let tag = tagOctets 0 false kind in
@@ -120,13 +120,13 @@ octetsOf s (Text start len) = take len (drop start s)
 octetsOf s (Truth b) = []
 octetsOf s (Octets start len) = take len (drop start s)
 
-not-written : {out o : List ℕ} {e : ℕ} → unchanged out ≡ record { answer = Next e; out = o } → ⊥
+not-written : {out o : List ℕ} {e : ℕ} → unchanged out ≡ outcome (Next e) o → ⊥
 not-written {out} {o} {e} d =
     let c : Out ≡ Next e = ap (λ (p : Put). p .answer) d in
     let z : _≡_ {A = ℕ} 0 1 = cc in omega arith
 
 module _ (src out : List ℕ) (at e : ℕ) (o : List ℕ) (bound : ℕ) (inside : e ≤ bound) where
-  text : (kind start len : ℕ) → kind < 31 → putPrimitive out at kind (part src start len) ≡ record { answer = Next e; out = o }
+  text : (kind start len : ℕ) → kind < 31 → putPrimitive out at kind (part src start len) ≡ outcome (Next e) o
       → (contentAt o at kind (e - len) len ≡ valueAt o at bound) × ((e - len + len ≡ e) × ((e ≤ length o) × (take len (drop (e - len) o) ≡ take len (drop start src))))
   text kind start len one d =
       ⊎-elim
@@ -151,7 +151,7 @@ module _ (src out : List ℕ) (at e : ℕ) (o : List ℕ) (bound : ℕ) (inside 
       (lt-or-le 4294967295 len)
 
   -- What is written is read back as the same value, with nothing left.
-  pub written-read-value : (v : Value) → Held v → putValue src out at v ≡ record { answer = Next e; out = o }
+  pub written-read-value : (v : Value) → Held v → putValue src out at v ≡ outcome (Next e) o
       → (valueAt o at bound ≡ Found (moved e v) e) × (octetsOf o (moved e v) ≡ octetsOf src v)
   written-read-value Absent h d = absurd (not-written d)
   written-read-value (Int z) h d =
@@ -164,7 +164,7 @@ module _ (src out : List ℕ) (at e : ℕ) (o : List ℕ) (bound : ℕ) (inside 
       (sym (content-int o at 2 (t .start) (length (shortest z)) refl (le-leb _ _ k) ∙ t .read) ∙ rw (i, en), refl)
   written-read-value (Real x) h d = go (form x) refl d
     where
-      go : (f : Form) → form x ≡ f → putPrimitive out at 9 f ≡ record { answer = Next e; out = o } → (valueAt o at bound ≡ Found (Real x) e) × (_≡_ {A = List ℕ} [] [])
+      go : (f : Form) → form x ≡ f → putPrimitive out at 9 f ≡ outcome (Next e) o → (valueAt o at bound ≡ Found (Real x) e) × (_≡_ {A = List ℕ} [] [])
       go unwritten q g = absurd (not-written g)
       go (octets bs) q g =
           let short = real-short x h bs q in
@@ -194,7 +194,7 @@ module _ (src out : List ℕ) (at e : ℕ) (o : List ℕ) (bound : ℕ) (inside 
       let k : e - len + len ≤ length o = omega arith in
       (sym (content-octets o at 4 (e - len) len refl (le-leb _ _ k) ∙ t .0) ∙ ap (Found (Octets (e - len) len)) en, t .1 .1 .1)
 
--- a value that is no real is written in the very octets that it was read from
+-- a value that is no real is written in as many content octets as it was read from
 abbrev pub Exact : Value → Type 0
 Exact (Real x) = ⊥
 Exact Absent = Unit {0}
@@ -357,7 +357,7 @@ read-value-writes s at bound v next bytes e = byHead (headAt s at bound) refl
 
 -- What is read, if it is written again, is read as the same value.
 pub read-again : (s : List ℕ) (at bound : ℕ) (v : Value) (next : ℕ) → Below 256 s → valueAt s at bound ≡ Found v next
-    → (out : List ℕ) (p e : ℕ) (o : List ℕ) (limit : ℕ) → e ≤ limit → putValue s out p v ≡ record { answer = Next e; out = o }
+    → (out : List ℕ) (p e : ℕ) (o : List ℕ) (limit : ℕ) → e ≤ limit → putValue s out p v ≡ outcome (Next e) o
     → (valueAt o p limit ≡ Found (moved e v) e) × (octetsOf o (moved e v) ≡ octetsOf s v)
 read-again s at bound v next bytes q out p e o limit inside d =
     written-read-value s out p e o limit inside v (read-value-writes s at bound v next bytes q .held) d

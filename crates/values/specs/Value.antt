@@ -73,9 +73,3 @@ onHead s at (NoTag place) = Refused 30 place
 -- the value at `at`, in a container that ends at `bound`
 unfoldable pub valueAt : List ℕ → ℕ → ℕ → Answer
 valueAt s at bound = onHead s at (headAt s at bound)
-
--- the paper's number for an answer: a tag of another kind is unexpected
-abbrev pub answered : Answer → ℕ
-answered (Found value next) = 0
-answered Other = 33
-answered (Refused number place) = number

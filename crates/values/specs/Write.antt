@@ -7,7 +7,7 @@ use lib.ListN.{length, take, drop, set}
 use lib.Dec.{leb}
 use Rattle.integers.specs.declared.Wrote.{Wrote}
 use Rattle.integers.specs.declared.Wrote.the-variants.{Next, Out}
-use Rattle.integers.specs.Digits.{pick, Put, put, unchanged}
+use Rattle.integers.specs.Digits.{pick, Put, put, unchanged, outcome}
 use Rattle.integers.specs.Integer.{shortest}
 use Rattle.reals.specs.Write.{Form, unwritten, octets, form}
 use Rattle.tags.specs.Write.{tagOctets, lengthOctets}
@@ -60,7 +60,7 @@ putPart src start len out at = pick (leb (start + len) (length src)) (put out at
 
 -- a tag and a short length before content octets that were put
 abbrev pub putHead : List ℕ → ℕ → ℕ → Wrote → Put
-putHead out at kind (Next e) = record { answer = Next e; out = set (set out (at + 1) (e - (at + 2))) at kind }
+putHead out at kind (Next e) = outcome (Next e) (set (set out (at + 1) (e - (at + 2))) at kind)
 putHead out at kind Out = unchanged out
 
 abbrev pub Sealable : List ℕ → ℕ → Wrote → Type 0

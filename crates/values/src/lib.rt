@@ -13,6 +13,7 @@ ghost use Rattle.values.specs.Value.{boolAt, onFlag, onNumber, onReal, i
 ghost use Rattle.reals.specs.Write.{octets, form};
 ghost use Rattle.integers.specs.Integer.{shortest};
 ghost use Rattle.values.specs.Write.{Sealable, putHead, boolOctet, part, putPart, putPrimitive, putValue};
+ghost use Rattle.integers.specs.Digits.{outcome};
 
 // A value, or that there is none. Texts and octets are parts of the message.
 pub enum Value {
@@ -219,7 +220,7 @@ fn small(x: usize) -> u8
 // Content octets that stand two octets past `at`, fewer than 128, get their tag and length.
 fn sealed(kind: u8, w: Wrote, out: &mut [u8], at: usize) -> Wrote
     requires { ⌜ Sealable (now out) at w ⌝ }
-    ensures { λ r. ⌜ putHead (now (out .entry)) at kind w ≡ record { answer = r; out = now (out .exit) } ⌝ }
+    ensures { λ r. ⌜ putHead (now (out .entry)) at kind w ≡ outcome r (now (out .exit)) ⌝ }
 {
     match w {
         Wrote::Next(e) => {
@@ -232,7 +233,7 @@ fn sealed(kind: u8, w: Wrote, out: &mut [u8], at: usize) -> Wrote
 }
 
 fn write_whole(x: i64, out: &mut [u8], at: usize) -> Wrote
-    ensures { λ r. ⌜ putPrimitive (now (out .entry)) at 2 (octets (shortest x)) ≡ record { answer = r; out = now (out .exit) } ⌝ }
+    ensures { λ r. ⌜ putPrimitive (now (out .entry)) at 2 (octets (shortest x)) ≡ outcome r (now (out .exit)) ⌝ }
 {
     if out.len() < 2 {
         return Wrote::Out;
@@ -245,7 +246,7 @@ fn write_whole(x: i64, out: &mut [u8], at: usize) -> Wrote
 }
 
 fn write_double(x: f64, out: &mut [u8], at: usize) -> Wrote
-    ensures { λ r. ⌜ putPrimitive (now (out .entry)) at 9 (form x) ≡ record { answer = r; out = now (out .exit) } ⌝ }
+    ensures { λ r. ⌜ putPrimitive (now (out .entry)) at 9 (form x) ≡ outcome r (now (out .exit)) ⌝ }
 {
     if out.len() < 2 {
         return Wrote::Out;
@@ -265,7 +266,7 @@ pub fn bool_octet(b: bool) -> u8
 }
 
 fn write_flag(b: bool, out: &mut [u8], at: usize) -> Wrote
-    ensures { λ r. ⌜ putPrimitive (now (out .entry)) at 1 (octets (boolOctet b ∷ [])) ≡ record { answer = r; out = now (out .exit) } ⌝ }
+    ensures { λ r. ⌜ putPrimitive (now (out .entry)) at 1 (octets (boolOctet b ∷ [])) ≡ outcome r (now (out .exit)) ⌝ }
 {
     if out.len() < 2 {
         return Wrote::Out;
@@ -279,7 +280,7 @@ fn write_flag(b: bool, out: &mut [u8], at: usize) -> Wrote
 
 // The len octets at `start` of another slice, at a position of the output.
 pub fn write_part(src: &[u8], start: usize, len: usize, out: &mut [u8], at: usize) -> Wrote
-    ensures { λ r. ⌜ putPart (now (src .entry)) start len (now (out .entry)) at ≡ record { answer = r; out = now (out .exit) } ⌝ }
+    ensures { λ r. ⌜ putPart (now (src .entry)) start len (now (out .entry)) at ≡ outcome r (now (out .exit)) ⌝ }
 {
     if src.len() < len {
         return Wrote::Out;
@@ -304,7 +305,7 @@ pub fn write_part(src: &[u8], start: usize, len: usize, out: &mut [u8], at: usiz
 // Text or octets with their tag and length.
 fn write_text(kind: u8, src: &[u8], start: usize, len: usize, out: &mut [u8], at: usize) -> Wrote
     requires { ⌜ kind < 31 ⌝ }
-    ensures { λ r. ⌜ putPrimitive (now (out .entry)) at kind (part (now (src .entry)) start len) ≡ record { answer = r; out = now (out .exit) } ⌝ }
+    ensures { λ r. ⌜ putPrimitive (now (out .entry)) at kind (part (now (src .entry)) start len) ≡ outcome r (now (out .exit)) ⌝ }
 {
     let n = word(len);
     if 4294967295 < n {
@@ -329,7 +330,7 @@ fn write_text(kind: u8, src: &[u8], start: usize, len: usize, out: &mut [u8], at
 
 // A value with its tag, at a position of the output; texts and octets come from `src`.
 pub fn write_value(v: Value, src: &[u8], out: &mut [u8], at: usize) -> Wrote
-    ensures { λ r. ⌜ putValue (now (src .entry)) (now (out .entry)) at v ≡ record { answer = r; out = now (out .exit) } ⌝ }
+    ensures { λ r. ⌜ putValue (now (src .entry)) (now (out .entry)) at v ≡ outcome r (now (out .exit)) ⌝ }
 {
     match v {
         Value::Absent => Wrote::Out,

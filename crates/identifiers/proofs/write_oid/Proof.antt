@@ -6,7 +6,7 @@ use borrow.Author.Needs.{needs}
 use lib.ListN.{length, drop, getD}
 use borrow.Author.Tests.{not-true, not-false}
 use Rattle.integers.specs.declared.Wrote.the-variants.{Next}
-use Rattle.integers.specs.Digits.{put}
+use Rattle.integers.specs.Digits.{put, outcome}
 use Rattle.integers.specs.Laws.{put-out}
 use Rattle.integers.proofs.Output.{append-done}
 use Rattle.tags.specs.Write.{septets}
@@ -18,7 +18,7 @@ use Rattle.identifiers.proofs.write_oid.Tie as tie
 
 abbrev Inv-loop : tie.InvT-loop
 Inv-loop ns out₀ at n end p₀ i₀ out p i =
-    (i ≤ length ns) × ((length out ≡ length out₀) × ((p + length (oidOctets (drop i ns)) ≡ end) × (put out₀ p (oidOctets (drop i ns)) ≡ record { answer = Next end; out = out })))
+    (i ≤ length ns) × ((length out ≡ length out₀) × ((p + length (oidOctets (drop i ns)) ≡ end) × (put out₀ p (oidOctets (drop i ns)) ≡ outcome (Next end) out)))
 
 abbrev μ-loop : tie.MeasureT-loop
 μ-loop ns out₀ at n end p₀ i₀ out p i = i
