@@ -13,6 +13,7 @@ use Rattle.framing.specs.declared.Event.{Event}
 use Rattle.framing.specs.declared.Event.the-variants as ev
 use Rattle.events.specs.Events.{lengthOf, said-number, said-discarded, said-message}
 use Rattle.framing.specs.declared.Session.{Session}
+use Rattle.framing.specs.Lists.{sets-append}
 use Rattle.framing.specs.Numbers.{pick}
 use Rattle.framing.specs.Rules.{State, step}
 use Rattle.framing.specs.Session.{saidBy, stateOf, legal, kept, Whole, whole, run, feeds}
@@ -21,12 +22,6 @@ use Rattle.frames.specs.Lines.{digitOf, stops, lineEnds, scanned}
 use Rattle.frames.specs.Text.{Wrote, wrote, space, newline, glyphOf, hexText, wordText, dash, decimalText, headText, eventText}
 
 -- ---- text put into an output
-
-sets-append : (l : List ℕ) (i : ℕ) (xs ys : List ℕ) → sets l i (xs ++ ys) ≡ sets (sets l i xs) (i + length xs) ys
-sets-append l i [] ys = let e : i ≡ i + 0 = omega arith in ap (λ (k : ℕ). sets l k ys) e
-sets-append l i (x ∷ xs) ys =
-    let e : suc i + length xs ≡ i + suc (length xs) = omega arith in
-    sets-append (set l i x) (suc i) xs ys ∙ ap (λ (k : ℕ). sets (sets (set l i x) (suc i) xs) k ys) e
 
 module _ (o : List ℕ) (at : ℕ) where
   pub wrote-none : wrote o at [] ≡ record { next = at; output = o }
@@ -42,7 +37,7 @@ module _ (o : List ℕ) (at : ℕ) where
   unfolding wrote
   wrote-then xs ys e =
       let n : at + length (xs ++ ys) ≡ at + length xs + length ys = simp length-append (omega arith) in
-      rw (← e, sets-append o at xs ys, n)
+      rw (← e, sets-append xs ys o at, n)
 
 -- ---- digits
 
