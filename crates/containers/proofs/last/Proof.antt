@@ -1,0 +1,47 @@
+use mathlib.Core.Path.{subst, _∙_}
+use borrow.Author.Needs.{needs}
+use Rattle.containers.specs.Progress.{Onward}
+use Rattle.containers.proofs.Laws.{last-ended, last-no, last-deep, last-here}
+use Rattle.containers.proofs.last.Statement.{statement}
+use Rattle.containers.proofs.last.Tie as tie
+
+standing-requires : tie.Need-standing-requires
+standing-requires c κs = search needs
+
+enum-known-next : tie.Need-enum-known-next
+enum-known-next c = search needs
+
+enum-known-n : tie.Need-enum-known-n
+enum-known-n c = search needs
+
+enum-known-t : tie.Need-enum-known-t
+enum-known-t c = search needs
+
+too-deep-requires : tie.Need-too-deep-requires
+too-deep-requires c κs = search needs
+
+returns : tie.Need-returns
+returns c = (last-deep _ _ _ _ (c .before .before .before .before .before .standing .ensures .0 ∙ c .before .before .before .t .given .1) (c .before .too-deep .ensures ∙ c .if1 .taken), tt)
+
+returns-2 : tie.Need-returns-2
+returns-2 c = (last-ended _ _ _ _ (c .before .before .before .standing .ensures .0 ∙ c .before .next .given .1), subst (Onward _ _) (c .before .next .given .1) (c .before .before .before .standing .ensures .1))
+
+returns-3 : tie.Need-returns-3
+returns-3 c = (last-no _ _ _ _ (c .before .before .before .standing .ensures .0 ∙ c .before .n .given .1), tt)
+
+returns-4 : tie.Need-returns-4
+returns-4 c = (last-here _ _ _ _ (c .before .before .before .before .before .standing .ensures .0 ∙ c .before .before .before .t .given .1) (c .before .too-deep .ensures ∙ c .if1 .left), tt)
+
+pub last-spec : {M : Type 1} → statement M
+last-spec =
+    tie.close
+    (tie.spec
+    standing-requires
+    enum-known-next
+    enum-known-n
+    enum-known-t
+    too-deep-requires
+    returns
+    returns-2
+    returns-3
+    returns-4)

@@ -1,0 +1,314 @@
+// Containers of tags, lengths and values: what stands at a place, what surrounds the one value of an outer tag, and what is passed over.
+use tags::Head;
+use tags::Length;
+ghost use Prim.Native.Nat.{_-_, _≤_, _<_};
+ghost use mathlib.Core.Path.{_≡_};
+ghost use lib.ListN.{length};
+ghost use lib.Dec.{eqb};
+ghost use Rattle.containers.specs.Ends.{openOf, bit, zeroAt, closingAt, standingAt, deep, enterAt, firstAt, lastAt, isTag};
+ghost use Rattle.containers.specs.Passing.{skipped, crossAt, Through, passedAt};
+ghost use Rattle.containers.specs.Progress.{Fits, Onward, FoundOnward, OntoOnward, CrossOnward};
+
+// A refusal: its number and its place.
+pub struct No(pub u64, pub usize);
+
+// An open container: definite (1) with its end, or of indefinite length (0), which 00 00 ends before `end`.
+pub struct Open {
+    pub definite: u64,
+    pub end: usize,
+}
+
+// A tag that was read, where its content starts, and how that is open. A struct of words alone is copied fastest.
+pub struct Tag {
+    pub class: u64,
+    pub constructed: u64,
+    pub number: u64,
+    pub start: usize,
+    pub inner: Open,
+}
+
+// What stands at a position: the end and the place after it, or a tag.
+pub enum Stands {
+    Ended(usize),
+    Here(Tag),
+    Refused(No),
+}
+
+// The one value of an outer tag.
+pub enum Found {
+    Value(Tag),
+    Refused(No),
+}
+
+// The place to go on from.
+pub enum Onto {
+    Next(usize),
+    Refused(No),
+}
+
+// One turn of passing over: the end, a value passed, or a container to go into.
+pub enum Crossing {
+    Over(usize),
+    Past(usize),
+    Into(Tag),
+    Refused(No),
+}
+
+fn zero_at(s: &[u8], p: usize) -> bool
+    ensures { λ r. ⌜ zeroAt (now (s .entry)) p ≡ r ⌝ }
+{
+    if s.len() <= p {
+        return false;
+    }
+    s[p] == 0
+}
+
+// A 00 stands at p.
+fn closing(s: &[u8], p: usize, o: Open) -> Stands
+    requires { ⌜ p < length (now s) ⌝ }
+    ensures { λ r. ⌜ closingAt (now (s .entry)) p o ≡ r ⌝ }
+    ensures { λ r. ⌜ Onward (now (s .entry)) p r ⌝ }
+{
+    if o.definite == 1 {
+        return Stands::Refused(No(30, p));
+    }
+    let q = p + 1;
+    if q == o.end {
+        return Stands::Refused(No(30, p));
+    }
+    if s.len() <= q {
+        return Stands::Refused(No(30, s.len()));
+    }
+    if s[q] == 0 {
+        return Stands::Ended(p + 2);
+    }
+    Stands::Refused(No(30, p))
+}
+
+fn open_of(bound: usize, start: usize, length: Length) -> Open
+    requires { ⌜ Fits bound start length ⌝ }
+    ensures { λ r. ⌜ openOf bound start length ≡ r ⌝ }
+    ensures { λ r. ⌜ start ≤ r .end ⌝ }
+{
+    match length {
+        Length::Definite(n) => Open {
+            definite: 1,
+            end: start + n,
+        },
+        Length::Indefinite => Open {
+            definite: 0,
+            end: bound,
+        },
+    }
+}
+
+fn wide(x: u8) -> u64
+    ensures { λ r. ⌜ r ≡ x ⌝ }
+{
+    x as u64
+}
+
+fn flag(b: bool) -> u64
+    ensures { λ r. ⌜ bit b ≡ r ⌝ }
+{
+    if b { 1 } else { 0 }
+}
+
+// What stands at p in the open container o.
+pub fn standing(s: &[u8], p: usize, o: Open) -> Stands
+    ensures { λ r. ⌜ standingAt (now (s .entry)) p o ≡ r ⌝ }
+    ensures { λ r. ⌜ Onward (now (s .entry)) p r ⌝ }
+{
+    let end = o.end;
+    if p == end {
+        if o.definite == 1 {
+            return Stands::Ended(p);
+        }
+        return Stands::Refused(No(30, p));
+    }
+    if zero_at(s, p) {
+        return closing(s, p, o);
+    }
+    match tags::read_tag(s, p, end) {
+        Head::Refused { place } => Stands::Refused(No(30, place)),
+        Head::Tag {
+            class,
+            constructed,
+            number,
+            length,
+            next,
+        } => Stands::Here(Tag {
+            class: wide(class),
+            constructed: flag(constructed),
+            number,
+            start: next,
+            inner: open_of(end, next, length),
+        }),
+    }
+}
+
+fn agree(a: u64, b: u64) -> bool
+    ensures { λ r. ⌜ eqb a b ≡ r ⌝ }
+{
+    a == b
+}
+
+// Whether a constructed tag stands where no container is allowed any more.
+fn too_deep(constructed: u64, k: usize) -> bool
+    ensures { λ r. ⌜ deep constructed k ≡ r ⌝ }
+{
+    if constructed == 1 {
+        return k == 0;
+    }
+    false
+}
+
+// One container fewer.
+pub fn less(k: usize) -> usize
+    ensures { λ r. ⌜ r ≡ k - 1 ⌝ }
+{
+    if k == 0 { 0 } else { k - 1 }
+}
+
+// What stands at p, and no container too many.
+pub fn entering(s: &[u8], p: usize, o: Open, k: usize) -> Stands
+    ensures { λ r. ⌜ enterAt (now (s .entry)) p o k ≡ r ⌝ }
+    ensures { λ r. ⌜ Onward (now (s .entry)) p r ⌝ }
+{
+    match standing(s, p, o) {
+        Stands::Ended(next) => Stands::Ended(next),
+        Stands::Refused(n) => Stands::Refused(n),
+        Stands::Here(t) => {
+            if too_deep(t.constructed, k) {
+                return Stands::Refused(No(32, p));
+            }
+            Stands::Here(t)
+        }
+    }
+}
+
+// The one value of the open outer tag c.
+pub fn first(s: &[u8], p: usize, c: Open, k: usize) -> Found
+    ensures { λ r. ⌜ firstAt (now (s .entry)) p c k ≡ r ⌝ }
+    ensures { λ r. ⌜ FoundOnward (now (s .entry)) p r ⌝ }
+{
+    match standing(s, p, c) {
+        Stands::Ended(next) => Found::Refused(No(33, p)),
+        Stands::Refused(n) => Found::Refused(n),
+        Stands::Here(t) => {
+            let inner = t.inner;
+            if !agree(inner.definite, c.definite) {
+                return Found::Refused(No(31, p));
+            }
+            if too_deep(t.constructed, k) {
+                return Found::Refused(No(32, p));
+            }
+            Found::Value(t)
+        }
+    }
+}
+
+// Nothing stands after that value.
+pub fn last(s: &[u8], p: usize, c: Open, k: usize) -> Onto
+    ensures { λ r. ⌜ lastAt (now (s .entry)) p c k ≡ r ⌝ }
+    ensures { λ r. ⌜ OntoOnward p r ⌝ }
+{
+    match standing(s, p, c) {
+        Stands::Ended(next) => Onto::Next(next),
+        Stands::Refused(n) => Onto::Refused(n),
+        Stands::Here(t) => {
+            if too_deep(t.constructed, k) {
+                return Onto::Refused(No(32, p));
+            }
+            Onto::Refused(No(33, p))
+        }
+    }
+}
+
+// Whether a tag has this class, form (1: constructed) and number.
+pub fn is_tag(t: Tag, class: u64, constructed: u64, number: u64) -> bool
+    ensures { λ r. ⌜ isTag t class constructed number ≡ r ⌝ }
+{
+    if t.class == class {
+        if t.number == number {
+            return t.constructed == constructed;
+        }
+    }
+    false
+}
+
+// The content of a tag that is not constructed, passed over.
+fn skip(s: &[u8], t: Tag) -> Onto
+    ensures { λ r. ⌜ skipped (now (s .entry)) t ≡ r ⌝ }
+    ensures { λ r. ⌜ OntoOnward (t .inner .end) r ⌝ }
+{
+    let inner = t.inner;
+    let end = inner.end;
+    if s.len() < end {
+        return Onto::Refused(No(30, s.len()));
+    }
+    Onto::Next(end)
+}
+
+// One turn of passing over what the open container o holds.
+fn cross(s: &[u8], p: usize, o: Open, k: usize) -> Crossing
+    ensures { λ r. ⌜ crossAt (now (s .entry)) p o k ≡ r ⌝ }
+    ensures { λ r. ⌜ CrossOnward (now (s .entry)) p r ⌝ }
+{
+    match standing(s, p, o) {
+        Stands::Ended(next) => Crossing::Over(next),
+        Stands::Refused(n) => Crossing::Refused(n),
+        Stands::Here(t) => {
+            if t.constructed == 1 {
+                if k == 0 {
+                    return Crossing::Refused(No(32, p));
+                }
+                return Crossing::Into(t);
+            }
+            match skip(s, t) {
+                Onto::Next(next) => Crossing::Past(next),
+                Onto::Refused(n) => Crossing::Refused(n),
+            }
+        }
+    }
+}
+
+// All that the open container o holds from a place on.
+fn through(s: &[u8], from: usize, o: Open, k: usize) -> Onto
+    ensures { λ r. ⌜ Through (now (s .entry)) k o from r ⌝ }
+    ensures { λ r. ⌜ OntoOnward from r ⌝ }
+{
+    let mut p = from;
+    loop {
+        match cross(s, p, o, k) {
+            Crossing::Over(next) => {
+                return Onto::Next(next);
+            }
+            Crossing::Refused(n) => {
+                return Onto::Refused(n);
+            }
+            Crossing::Past(next) => {
+                p = next;
+            }
+            Crossing::Into(t) => match through(s, t.start, t.inner, less(k)) {
+                Onto::Next(next) => {
+                    p = next;
+                }
+                Onto::Refused(n) => {
+                    return Onto::Refused(n);
+                }
+            },
+        }
+    }
+}
+
+// A tag's value, passed over.
+pub fn passed(s: &[u8], t: Tag, k: usize) -> Onto
+    ensures { λ r. ⌜ passedAt (now (s .entry)) t k ≡ r ⌝ }
+    ensures { λ r. ⌜ (t .start ≤ t .inner .end → OntoOnward (t .start) r) ⌝ }
+{
+    if t.constructed == 1 {
+        return through(s, t.start, t.inner, k);
+    }
+    skip(s, t)
+}
