@@ -1,0 +1,2 @@
+-- What the proofs share: what a table says at a number (Tables).
+pub mod Tables

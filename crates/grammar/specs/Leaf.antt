@@ -1,0 +1,112 @@
+-- One value, judged by what stands at its member. Its tag, at `at`, is a universal primitive one; its content is the octets from `start` to `end`.
+-- `above` counts the numbers of the path so far.
+use Prim.Native.Nat.{ℕ, _+_, _-_}
+use mathlib.Core.List.{List, [], _∷_}
+use mathlib.Core.Bool.{Bool, true, false, not}
+use lib.ListN.{length, take, drop}
+use lib.Dec.{leb, ltb, eqb}
+use lib.IntN.{ℤ, pos, negsuc}
+use Rattle.integers.specs.Digits.{pick}
+use Rattle.values.specs.declared.Value.{Value}
+use Rattle.values.specs.declared.Value.the-variants.{Absent, Int, Real, Text, Bool as Truth, Octets}
+use Rattle.values.specs.declared.Answer.{Answer}
+use Rattle.values.specs.declared.Answer.the-variants.{Found, Other, Refused}
+use Rattle.values.specs.Value.{isListed, contentAt}
+use Rattle.identifiers.specs.Identifier.{Arcs, bad, over, numbers, arcs}
+use Rattle.entries.specs.declared.Cell.{Cell}
+use Rattle.entries.specs.Cell.{cellOf, numbersCell}
+use Rattle.grammar.specs.declared.Leaf.{Leaf}
+use Rattle.grammar.specs.declared.Leaf.the-variants.{Kept, Refused as Not}
+use Rattle.grammar.specs.Grammar.{name, text, flag, any, step, path, list, int32, to3, to2, to1}
+
+abbrev pub both : Bool → Bool → Bool
+both true b = b
+both false b = false
+
+-- the universal tag number that a member's value has; any of five for a value of any kind
+unfoldable pub expects : ℕ → ℕ → Bool
+expects what number =
+    pick (eqb what any) (isListed number)
+    (pick (leb what text) (eqb number 12)
+    (pick (eqb what flag) (eqb number 1)
+    (pick (eqb what path) (eqb number 13)
+    (pick (eqb what list) (eqb number 13) (eqb number 2)))))
+
+-- "Numbers are 1 to 2,147,483,647; .. start at 0. Type and operation are 0 to 2, mode 0 or 1, access 0 to 3; command, mask, factor and step are
+-- signed 32-bit." The least and the greatest number of a member that is not below zero.
+unfoldable pub least : ℕ → ℕ
+least what = pick (eqb what step) 1 0
+
+unfoldable pub most : ℕ → ℕ
+most what = pick (eqb what to3) 3 (pick (eqb what to2) 2 (pick (eqb what to1) 1 2147483647))
+
+-- -1 - n is at least -2,147,483,648 if n is at most 2,147,483,647
+unfoldable pub inRange : ℕ → ℤ → Bool
+inRange what (pos n) = both (leb (least what) n) (leb n (most what))
+inRange what (negsuc n) = both (eqb what int32) (leb n 2147483647)
+
+-- "Identifiers start with a letter or "_" and hold no "/"."
+unfoldable pub isLetter : ℕ → Bool
+isLetter b = pick (leb 97 b) (leb b 122) (pick (leb 65 b) (pick (leb b 90) true (eqb b 95)) false)
+
+unfoldable pub noSlash : List ℕ → Bool
+noSlash [] = true
+noSlash (b ∷ bs) = pick (eqb b 47) false (noSlash bs)
+
+unfoldable pub isName : List ℕ → Bool
+isName [] = false
+isName (b ∷ bs) = both (isLetter b) (noSlash (b ∷ bs))
+
+-- "A full path has 1 to 16 numbers", each at least 1
+unfoldable pub allPositive : List ℕ → Bool
+allPositive [] = true
+allPositive (n ∷ ns) = pick (eqb n 0) false (allPositive ns)
+
+unfoldable pub isPath : List ℕ → Bool
+isPath ns = both (ltb 0 (length ns)) (both (leb (length ns) 16) (allPositive ns))
+
+-- "34 NUMBER, .. 37 PATH": a number out of its range, then a path over 16 ("parents counted")
+unfoldable pub numberLeaf : ℕ → ℕ → ℕ → ℤ → Leaf
+numberLeaf at what above z =
+    pick (inRange what z)
+    (pick (eqb what step) (pick (leb (above + 1) 16) (Kept (cellOf (Int z)) (above + 1)) (Not 37 at)) (Kept (cellOf (Int z)) above))
+    (Not 34 at)
+
+-- a value that was read, by the member's rule
+abbrev pub judged : List ℕ → ℕ → ℕ → ℕ → Answer → Leaf
+judged s at what above (Found (Int z) next) = pick (eqb what any) (Kept (cellOf (Int z)) above) (numberLeaf at what above z)
+judged s at what above (Found (Text start len) next) =
+    pick (eqb what name)
+    (pick (isName (take len (drop start s))) (Kept (cellOf (Text start len)) above) (Not 36 at))
+    (Kept (cellOf (Text start len)) above)
+judged s at what above (Found Absent next) = Not 33 at
+judged s at what above (Found (Real x) next) = Kept (cellOf (Real x)) above
+judged s at what above (Found (Truth b) next) = Kept (cellOf (Truth b)) above
+judged s at what above (Found (Octets start len) next) = Kept (cellOf (Octets start len)) above
+judged s at what above Other = Not 33 at
+judged s at what above (Refused number place) = Not number place
+
+-- "37 PATH: path empty, over 16 (parents counted) or with a number out of range"; a source out of its range is 34
+abbrev pub pathLeaf : ℕ → ℕ → ℕ → Arcs → Leaf
+pathLeaf at start len bad = Not 30 at
+pathLeaf at start len over = Not 37 at
+pathLeaf at start len (numbers ns) = pick (isPath ns) (Kept (numbersCell start len) (length ns)) (Not 37 at)
+
+abbrev pub listLeaf : ℕ → ℕ → ℕ → ℕ → Arcs → Leaf
+listLeaf at start len above bad = Not 30 at
+listLeaf at start len above over = Not 34 at
+listLeaf at start len above (numbers ns) = Kept (numbersCell start len) above
+
+-- a relative identifier: "a value is checked once whole"
+unfoldable pub numbersAt : List ℕ → ℕ → ℕ → ℕ → ℕ → ℕ → Leaf
+numbersAt s at start len what above =
+    pick (leb (start + len) (length s))
+    (pick (eqb what path) (pathLeaf at start len (arcs s start len)) (listLeaf at start len above (arcs s start len)))
+    (Not 30 (length s))
+
+-- "at one tag its own octets (30), then 31 to 33, then its value's, by number"
+unfoldable pub leafAt : List ℕ → ℕ → ℕ → ℕ → ℕ → ℕ → ℕ → Leaf
+leafAt s at number start len what above =
+    pick (expects what number)
+    (pick (eqb number 13) (numbersAt s at start len what above) (judged s at what above (contentAt s at number start len)))
+    (Not 33 at)
