@@ -19,7 +19,7 @@ use Rattle.grammar.specs.Grammar.{no, name, text, flag, any, step, path,
 use Rattle.grammar.specs.Grammar.{parameter, command, node, matrix, qualifiedParameter, qualifiedNode, qualifiedMatrix, connection, streamEntry}
 use Rattle.grammar.specs.Grammar.{parameterContents, nodeContents, matrixContents, rootElements, children, connections, streams}
 use Rattle.grammar.specs.Grammar.{members, ruleOf, requirements, required, isSet, contentsRows, contentsOf, applications, holds, kindAmong, kindIn}
-use Rattle.grammar.specs.Leaf.{expects, least, most, inRange, isLetter, noSlash, isName, allPositive, isPath, numberLeaf, numbersAt, leafAt}
+use Rattle.grammar.specs.Leaf.{expects, least, most, inRange, isLetter, noSlash, isName, allPositive, isPath, numberLeaf, textLeaf, numbersAt, leafAt}
 
 -- "Context numbers"
 pub v-rules :
@@ -89,7 +89,7 @@ pub v-texts :
     ∷ one 12 (47 ∷ []) text 3 ∷ one 12 (47 ∷ []) any 3 ∷ one 4 (47 ∷ []) any 3 ∷ one 4 (97 ∷ []) text 3 ∷ one 2 (1 ∷ []) name 3 ∷ []
     ≡ Kept (cell 12 2 3) 3 ∷ Kept (cell 12 2 1) 3 ∷ Refused 36 0 ∷ Refused 36 0 ∷ Refused 36 0
     ∷ Kept (cell 12 2 1) 3 ∷ Kept (cell 12 2 1) 3 ∷ Kept (cell 4 2 1) 3 ∷ Refused 33 0 ∷ Refused 33 0 ∷ []
-unfolding leafAt expects isName isLetter noSlash contentAt kindAt isListed
+unfolding leafAt expects textLeaf isName isLetter noSlash contentAt kindAt isListed
 v-texts = refl
 
 pub v-flags : one 1 (122 ∷ []) flag 3 ∷ one 1 (0 ∷ []) any 3 ∷ one 1 [] flag 3 ∷ one 2 (1 ∷ []) flag 3 ∷ []
