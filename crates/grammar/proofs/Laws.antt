@@ -281,7 +281,10 @@ module _ (at start len : ℕ) where
           (pick (both (ltb 0 (count + suc (length ns))) (both (leb (count + suc (length ns)) 16) (pick b false (allPositive ns))))
           (Kept (numbersCell start len) (count + suc (length ns)))
           (Not 37 at))
-      go true e = pick-same wrong (Not 37 at) ∙ ap (λ (l : Leaf). pick wrong (Not 37 at) l) (spoils (ltb 0 (count + suc (length ns))) (leb (count + suc (length ns)) 16) (Kept (numbersCell start len) (count + suc (length ns))) (Not 37 at))
+      go true e =
+          let m : ℕ = count + suc (length ns) in
+          let l : Leaf = Kept (numbersCell start len) m in
+          pick-same wrong (Not 37 at) ∙ ap (λ (k : Leaf). pick wrong (Not 37 at) k) (spoils (ltb 0 m) (leb m 16) l (Not 37 at))
       go false e = let q : count + 1 + length ns ≡ count + suc (length ns) = omega arith in rw q
 
   pub tally-next : (count n : ℕ) (wrong : Bool) {r : Bool} (a : Arcs) → pick (eqb n 0) true wrong ≡ r → tally (count + 1) r a ≡ tally count wrong (push n a)

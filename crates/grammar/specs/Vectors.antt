@@ -43,7 +43,9 @@ pub v-required : map required (parameter ∷ command ∷ qualifiedMatrix ∷ con
 unfolding required requirements
 v-required = refl
 
-pub v-contents : map contentsOf (parameter ∷ command ∷ node ∷ qualifiedMatrix ∷ connection ∷ []) ≡ parameterContents ∷ 0 ∷ nodeContents ∷ matrixContents ∷ 0 ∷ []
+pub v-contents :
+    map contentsOf (parameter ∷ command ∷ node ∷ qualifiedMatrix ∷ connection ∷ [])
+    ≡ parameterContents ∷ 0 ∷ nodeContents ∷ matrixContents ∷ 0 ∷ []
 unfolding contentsOf contentsRows
 v-contents = refl
 
@@ -123,7 +125,9 @@ unfolding leafAt expects numbersAt arcsFrom arcAt arcFrom arcIs
 v-sources = refl
 
 -- a relative identifier is no value of any kind, and no integer; bytes run out
-pub v-others-33 : one 13 (1 ∷ []) any 0 ∷ one 13 (1 ∷ []) step 0 ∷ one 2 (1 ∷ []) path 0 ∷ leafAt (2 ∷ 9 ∷ 1 ∷ []) 0 2 2 9 step 0 ∷ leafAt (13 ∷ 2 ∷ 1 ∷ []) 0 13 2 2 path 0 ∷ []
+pub v-refused :
+    one 13 (1 ∷ []) any 0 ∷ one 13 (1 ∷ []) step 0 ∷ one 2 (1 ∷ []) path 0
+    ∷ leafAt (2 ∷ 9 ∷ 1 ∷ []) 0 2 2 9 step 0 ∷ leafAt (13 ∷ 2 ∷ 1 ∷ []) 0 13 2 2 path 0 ∷ []
     ≡ Refused 33 0 ∷ Refused 33 0 ∷ Refused 33 0 ∷ Refused 30 3 ∷ Refused 30 3 ∷ []
 unfolding leafAt expects numbersAt contentAt isListed
-v-others-33 = refl
+v-refused = refl

@@ -18,13 +18,17 @@ is-letter-requires : tie.Need-is-letter-requires
 is-letter-requires c κs = search needs
 
 returns-3 : tie.Need-returns-3
-returns-3 c = name-letter _ _ _ (c .before .before .before .before .if1 .left) (c .before .before .before .if2 .left) (c .before .is-letter .ensures ∙ not-true _ (c .if3 .taken))
+returns-3 c =
+    let e = c .before .is-letter .ensures ∙ not-true _ (c .if3 .taken) in
+    name-letter _ _ _ (c .before .before .before .before .if1 .left) (c .before .before .before .if2 .left) e
 
 no-slash-requires : tie.Need-no-slash-requires
 no-slash-requires c κs = search needs
 
 returns-4 : tie.Need-returns-4
-returns-4 c = name-rest _ _ _ (c .before .before .before .before .before .if1 .left) (c .before .before .before .before .if2 .left) (c .before .before .is-letter .ensures ∙ not-false _ (c .before .if3 .left)) ∙ c .no-slash .ensures
+returns-4 c =
+    let e = c .before .before .is-letter .ensures ∙ not-false _ (c .before .if3 .left) in
+    name-rest _ _ _ (c .before .before .before .before .before .if1 .left) (c .before .before .before .before .if2 .left) e ∙ c .no-slash .ensures
 
 pub is-name-spec : {M : Type 1} → statement M
 is-name-spec =

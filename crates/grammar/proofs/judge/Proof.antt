@@ -21,13 +21,19 @@ wide-requires : tie.Need-wide-requires
 wide-requires c κs = search needs
 
 returns : tie.Need-returns
-returns c = ap (judged (c .before .before .before .before .before .args .s .now) (c .before .before .before .before .before .args .at) (c .before .before .before .before .before .args .what) (c .before .before .before .before .before .args .above)) (c .before .before .a .given .1) ∙ c .value-leaf .ensures
+returns c =
+    let a = c .before .before .before .before .before .args in
+    ap (judged (a .s .now) (a .at) (a .what) (a .above)) (c .before .before .a .given .1) ∙ c .value-leaf .ensures
 
 returns-2 : tie.Need-returns-2
-returns-2 c = ap (judged (c .before .before .before .args .s .now) (c .before .before .before .args .at) (c .before .before .before .args .what) (c .before .before .before .args .above)) (c .enum-told .given .1)
+returns-2 c =
+    let a = c .before .before .before .args in
+    ap (judged (a .s .now) (a .at) (a .what) (a .above)) (c .enum-told .given .1)
 
 returns-3 : tie.Need-returns-3
-returns-3 c = ap (judged (c .before .before .before .before .before .args .s .now) (c .before .before .before .before .before .args .at) (c .before .before .before .before .before .args .what) (c .before .before .before .before .before .args .above)) (c .before .before .a2 .given .1) ∙ refused-by _ (c .wide .ensures)
+returns-3 c =
+    let a = c .before .before .before .before .before .args in
+    ap (judged (a .s .now) (a .at) (a .what) (a .above)) (c .before .before .a2 .given .1) ∙ refused-by _ (c .wide .ensures)
 
 pub judge-spec : {M : Type 1} → statement M
 judge-spec =

@@ -19,7 +19,9 @@ enum-told-3 : tie.Need-enum-told-3
 enum-told-3 c = search needs
 
 returns : tie.Need-returns
-returns c = ap (oidLeaf _ _ _ _) (c .before .enum-told .given .1) ∙ ap (λ (v : Cell). Kept v (c .before .before .before .args .above)) (c .numbers-cell .ensures)
+returns c =
+    let e = c .before .enum-told .given .1 in
+    ap (oidLeaf _ _ _ _) e ∙ ap (λ (v : Cell). Kept v (c .before .before .before .args .above)) (c .numbers-cell .ensures)
 
 returns-2 : tie.Need-returns-2
 returns-2 c = ap (oidLeaf _ _ _ _) (c .enum-told2 .given .1)

@@ -22,7 +22,10 @@ shared-slice-read-if2 : tie.Need-shared-slice-read-if2 Inv-loop μ-loop
 shared-slice-read-if2 c = omega arith
 
 returns-2 : tie.Need-returns-2 Inv-loop μ-loop
-returns-2 c = let l = c .before .before .before .before .loop in l .inv ∙ slash-here _ (l .i) (l .left) (c .before .before .before .loop-test .taken) (c .before .before .if1 .left) (c .if2 .taken)
+returns-2 c =
+    let l = c .before .before .before .before .loop in
+    let t = c .before .before .before .loop-test .taken in
+    l .inv ∙ slash-here _ (l .i) (l .left) t (c .before .before .if1 .left) (omega arith)
 
 add-i : tie.Need-add-i Inv-loop μ-loop
 add-i c = omega arith
@@ -34,7 +37,10 @@ loop-less : tie.Need-loop-less Inv-loop μ-loop
 loop-less c = omega arith
 
 loop-again : tie.Need-loop-again Inv-loop μ-loop
-loop-again c = let l = c .before .before .before .before .loop in l .inv ∙ slash-more _ (l .i) (l .left) (c .before .before .before .loop-test .taken) (c .before .before .if1 .left) (c .if2 .left)
+loop-again c =
+    let l = c .before .before .before .before .loop in
+    let t = c .before .before .before .loop-test .taken in
+    l .inv ∙ slash-more _ (l .i) (l .left) t (c .before .before .if1 .left) (λ e. omega arith)
 
 returns-3 : tie.Need-returns-3 Inv-loop μ-loop
 returns-3 c = let l = c .before .loop in l .inv ∙ slash-none _ (l .i) (l .left) (c .loop-test .left)

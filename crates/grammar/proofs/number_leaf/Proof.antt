@@ -1,3 +1,4 @@
+use native.Mathlib.Omega.{arith}
 use Rattle.entries.specs.Cell.{cellOf}
 use Rattle.values.specs.declared.Value.the-variants.{Int}
 use mir.Val.{toZ, ofZ}
@@ -18,7 +19,8 @@ cell-of-requires c κs = search needs
 
 returns : tie.Need-returns
 returns c =
-    let k : toZ w64 (ofZ w64 (c .before .before .args .x)) ≡ c .before .before .args .x = search needs in
+    let x = c .before .before .args .x in
+    let k : toZ w64 (ofZ w64 x) ≡ x = search needs in
     let e = c .before .cell-of .ensures ∙ ap (λ (z : ℤ). cellOf (Int z)) k in
     number-any _ _ _ _ (c .if1 .taken) ∙ ap (λ (v : Cell). Kept v (c .before .before .args .above)) (sym e)
 
@@ -27,33 +29,44 @@ in-range-requires c κs = search needs
 
 returns-2 : tie.Need-returns-2
 returns-2 c =
-    let k : toZ w64 (ofZ w64 (c .before .before .before .before .args .x)) ≡ c .before .before .before .before .args .x = search needs in
+    let x = c .before .before .before .before .args .x in
+    let k : toZ w64 (ofZ w64 x) ≡ x = search needs in
     let e = c .before .before .before .cell-of .ensures ∙ ap (λ (z : ℤ). cellOf (Int z)) k in
-    number-out _ _ _ _ (c .before .before .if1 .left) (cell-range _ (c .before .before .before .before .fits .x) e (c .before .in-range .ensures ∙ not-true _ (c .if2 .taken)))
+    let r = c .before .in-range .ensures ∙ not-true _ (c .if2 .taken) in
+    let w = cell-range _ (c .before .before .before .before .fits .x) e r in
+    number-out _ _ _ _ (c .before .before .if1 .left) w
 
 add-t10 : tie.Need-add-t10
 add-t10 c = search needs
 
 returns-3 : tie.Need-returns-3
 returns-3 c =
-    let k : toZ w64 (ofZ w64 (c .before .before .before .before .before .before .args .x)) ≡ c .before .before .before .before .before .before .args .x = search needs in
+    let x = c .before .before .before .before .before .before .args .x in
+    let k : toZ w64 (ofZ w64 x) ≡ x = search needs in
     let e = c .before .before .before .before .before .cell-of .ensures ∙ ap (λ (z : ℤ). cellOf (Int z)) k in
-    let w = cell-range _ (c .before .before .before .before .before .before .fits .x) e (c .before .before .before .in-range .ensures ∙ not-false _ (c .before .before .if2 .left)) in
-    number-step _ _ _ _ (c .before .before .before .before .if1 .left) w (c .before .if3 .taken) (c .if4 .taken) ∙ ap (λ (v : Cell). Kept v (c .before .before .before .before .before .before .args .above + 1)) (sym e)
+    let r = c .before .before .before .in-range .ensures ∙ not-false _ (c .before .before .if2 .left) in
+    let w = cell-range _ (c .before .before .before .before .before .before .fits .x) e r in
+    let q = ap (λ (v : Cell). Kept v (c .before .before .before .before .before .before .args .above + 1)) (sym e) in
+    number-step _ _ _ _ (c .before .before .before .before .if1 .left) w (c .before .if3 .taken) (omega arith) ∙ q
 
 returns-4 : tie.Need-returns-4
 returns-4 c =
-    let k : toZ w64 (ofZ w64 (c .before .before .before .before .before .before .args .x)) ≡ c .before .before .before .before .before .before .args .x = search needs in
+    let x = c .before .before .before .before .before .before .args .x in
+    let k : toZ w64 (ofZ w64 x) ≡ x = search needs in
     let e = c .before .before .before .before .before .cell-of .ensures ∙ ap (λ (z : ℤ). cellOf (Int z)) k in
-    let w = cell-range _ (c .before .before .before .before .before .before .fits .x) e (c .before .before .before .in-range .ensures ∙ not-false _ (c .before .before .if2 .left)) in
-    number-deep _ _ _ _ (c .before .before .before .before .if1 .left) w (c .before .if3 .taken) (c .if4 .left)
+    let r = c .before .before .before .in-range .ensures ∙ not-false _ (c .before .before .if2 .left) in
+    let w = cell-range _ (c .before .before .before .before .before .before .fits .x) e r in
+    number-deep _ _ _ _ (c .before .before .before .before .if1 .left) w (c .before .if3 .taken) (omega arith)
 
 returns-5 : tie.Need-returns-5
 returns-5 c =
-    let k : toZ w64 (ofZ w64 (c .before .before .before .before .before .args .x)) ≡ c .before .before .before .before .before .args .x = search needs in
+    let x = c .before .before .before .before .before .args .x in
+    let k : toZ w64 (ofZ w64 x) ≡ x = search needs in
     let e = c .before .before .before .before .cell-of .ensures ∙ ap (λ (z : ℤ). cellOf (Int z)) k in
-    let w = cell-range _ (c .before .before .before .before .before .fits .x) e (c .before .before .in-range .ensures ∙ not-false _ (c .before .if2 .left)) in
-    number-kept _ _ _ _ (c .before .before .before .if1 .left) w (c .if3 .left) ∙ ap (λ (v : Cell). Kept v (c .before .before .before .before .before .args .above)) (sym e)
+    let r = c .before .before .in-range .ensures ∙ not-false _ (c .before .if2 .left) in
+    let w = cell-range _ (c .before .before .before .before .before .fits .x) e r in
+    let q = ap (λ (v : Cell). Kept v (c .before .before .before .before .before .args .above)) (sym e) in
+    number-kept _ _ _ _ (c .before .before .before .if1 .left) w (c .if3 .left) ∙ q
 
 pub number-leaf-spec : {M : Type 1} → statement M
 number-leaf-spec =

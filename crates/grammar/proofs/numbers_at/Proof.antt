@@ -16,7 +16,9 @@ path-leaf-requires : tie.Need-path-leaf-requires
 path-leaf-requires c κs = leb-true _ _ (c .before .before .holds .ensures ∙ not-false _ (c .before .if1 .left))
 
 returns-2 : tie.Need-returns-2
-returns-2 c = numbers-path _ _ _ _ _ _ (c .before .before .before .holds .ensures ∙ not-false _ (c .before .before .if1 .left)) (c .before .if2 .taken) ∙ c .path-leaf .ensures
+returns-2 c =
+    let h = c .before .before .before .holds .ensures ∙ not-false _ (c .before .before .if1 .left) in
+    numbers-path _ _ _ _ _ _ h (c .before .if2 .taken) ∙ c .path-leaf .ensures
 
 read-oid-requires : tie.Need-read-oid-requires
 read-oid-requires c κs = search needs
@@ -26,8 +28,10 @@ list-leaf-requires c κs = search needs
 
 returns-3 : tie.Need-returns-3
 returns-3 c =
-    numbers-list _ _ _ _ _ _ (c .before .before .before .before .holds .ensures ∙ not-false _ (c .before .before .before .if1 .left)) (c .before .before .if2 .left)
-    ∙ ap (oidLeaf (c .before .before .before .before .before .before .args .at) (c .before .before .before .before .before .before .args .start) (c .before .before .before .before .before .before .args .len) (c .before .before .before .before .before .before .args .above)) (sym (c .before .read-oid .ensures)) ∙ c .list-leaf .ensures
+    let a = c .before .before .before .before .before .before .args in
+    let h = c .before .before .before .before .holds .ensures ∙ not-false _ (c .before .before .before .if1 .left) in
+    let q = sym (c .before .read-oid .ensures) in
+    numbers-list _ _ _ _ _ _ h (c .before .before .if2 .left) ∙ ap (oidLeaf (a .at) (a .start) (a .len) (a .above)) q ∙ c .list-leaf .ensures
 
 pub numbers-at-spec : {M : Type 1} → statement M
 numbers-at-spec =

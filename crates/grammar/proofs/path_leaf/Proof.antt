@@ -13,7 +13,9 @@ use Rattle.grammar.proofs.path_leaf.Tie as tie
 
 abbrev Inv-loop : tie.InvT-loop
 Inv-loop s at start len end p₀ count₀ wrong₀ p count wrong =
-    (start + count ≤ p) × ((p ≤ end) × ((f : ℕ) × ((end - p ≤ f) × (tally at start len count wrong (arcsFrom s f p end) ≡ pathLeaf at start len (arcsFrom s len start end)))))
+    (start + count ≤ p)
+    × ((p ≤ end)
+    × ((f : ℕ) × ((end - p ≤ f) × (tally at start len count wrong (arcsFrom s f p end) ≡ pathLeaf at start len (arcsFrom s len start end)))))
 
 abbrev μ-loop : tie.MeasureT-loop
 μ-loop s at start len end p₀ count₀ wrong₀ p count wrong = end - p
@@ -41,23 +43,15 @@ loop-less c = let w = subst (ArcWithin _ _) (c .before .before .number .given .1
 
 loop-again : tie.Need-loop-again Inv-loop μ-loop
 loop-again c =
+    let a = c .before .before .before .before .before .before .before .before .args in
     let l = c .before .before .before .before .before .before .loop in
+    let t = tally (a .at) (a .start) (a .len) (l .count) (l .wrong) in
     let w = subst (ArcWithin _ _) (c .before .before .number .given .1) (c .before .before .before .before .read-number .ensures .1) in
     let e = sym (c .before .before .before .before .read-number .ensures .0) ∙ c .before .before .number .given .1 in
-    let q = arcs-number _ _ (l .p) (l .inv .1 .1 .0) _ _ (c .before .before .before .before .before .loop-test .taken) (l .inv .1 .1 .1 .0) e (w .0) in (
-      omega arith,
-      (
-        omega arith,
-        (
-          q .0,
-          (
-            q .1 .0,
-            tally-next _ _ _ (l .count) _ (l .wrong) _ (c .spoiled .ensures) ∙ ap (tally (c .before .before .before .before .before .before .before .before .args .at) (c .before .before .before .before .before .before .before .before .args .start) (c .before .before .before .before .before .before .before .before .args .len) (l .count) (l .wrong)) (sym (q .1 .1))
-                ∙ l .inv .1 .1 .1 .1,
-          ),
-        ),
-      ),
-    )
+    let b = c .before .before .before .before .before .loop-test .taken in
+    let q = arcs-number _ _ (l .p) (l .inv .1 .1 .0) _ _ b (l .inv .1 .1 .1 .0) e (w .0) in
+    let n = tally-next _ _ _ (l .count) _ (l .wrong) _ (c .spoiled .ensures) ∙ ap t (sym (q .1 .1)) ∙ l .inv .1 .1 .1 .1 in
+    (omega arith, (omega arith, (q .0, (q .1 .0, n))))
 
 enum-known-next : tie.Need-enum-known-next Inv-loop μ-loop
 enum-known-next c = search needs
@@ -67,65 +61,68 @@ loop-less-2 c = let w = subst (ArcWithin _ _) (c .before .next .given .1) (c .be
 
 loop-again-2 : tie.Need-loop-again-2 Inv-loop μ-loop
 loop-again-2 c =
+    let a = c .before .before .before .before .before .before .before .args in
     let l = c .before .before .before .before .before .loop in
+    let t = tally (a .at) (a .start) (a .len) (l .count) (l .wrong) in
     let w = subst (ArcWithin _ _) (c .before .next .given .1) (c .before .before .before .read-number .ensures .1) in
     let e = sym (c .before .before .before .read-number .ensures .0) ∙ c .before .next .given .1 in
-    let q = arcs-over _ _ (l .p) (l .inv .1 .1 .0) _ (c .before .before .before .before .loop-test .taken) (l .inv .1 .1 .1 .0) e (w .0) in (
-      omega arith,
-      (
-        omega arith,
-        (
-          q .0,
-          (
-            q .1 .0,
-            tally-pass _ _ _ (l .count) (l .wrong) _ ∙ ap (tally (c .before .before .before .before .before .before .before .args .at) (c .before .before .before .before .before .before .before .args .start) (c .before .before .before .before .before .before .before .args .len) (l .count) (l .wrong)) (sym (q .1 .1))
-                ∙ l .inv .1 .1 .1 .1,
-          ),
-        ),
-      ),
-    )
+    let b = c .before .before .before .before .loop-test .taken in
+    let q = arcs-over _ _ (l .p) (l .inv .1 .1 .0) _ b (l .inv .1 .1 .1 .0) e (w .0) in
+    let n = tally-pass _ _ _ (l .count) (l .wrong) _ ∙ ap t (sym (q .1 .1)) ∙ l .inv .1 .1 .1 .1 in
+    (omega arith, (omega arith, (q .0, (q .1 .0, n))))
 
 enum-told : tie.Need-enum-told Inv-loop μ-loop
 enum-told c = search needs
 
 returns : tie.Need-returns Inv-loop μ-loop
 returns c =
+    let a = c .before .before .before .before .before .before .args in
     let l = c .before .before .before .before .loop in
+    let t = tally (a .at) (a .start) (a .len) (l .count) (l .wrong) in
     let e = sym (c .before .before .read-number .ensures .0) ∙ c .enum-told .given .1 in
-    let q = arcs-bad _ _ (l .p) (l .inv .1 .1 .0) (c .before .before .before .loop-test .taken) (l .inv .1 .1 .1 .0) e in
-    sym (l .inv .1 .1 .1 .1) ∙ ap (tally (c .before .before .before .before .before .before .args .at) (c .before .before .before .before .before .before .args .start) (c .before .before .before .before .before .before .args .len) (l .count) (l .wrong)) q ∙ tally-bad (c .before .before .before .before .before .before .args .at) (c .before .before .before .before .before .before .args .start) (c .before .before .before .before .before .before .args .len) (l .count) (l .wrong)
+    let b = c .before .before .before .loop-test .taken in
+    let q = arcs-bad _ _ (l .p) (l .inv .1 .1 .0) b (l .inv .1 .1 .1 .0) e in
+    sym (l .inv .1 .1 .1 .1) ∙ ap t q ∙ tally-bad _ _ _ (l .count) (l .wrong)
 
 returns-2 : tie.Need-returns-2 Inv-loop μ-loop
 returns-2 c =
+    let a = c .before .before .before .before .args in
     let l = c .before .before .loop in
+    let t = tally (a .at) (a .start) (a .len) (l .count) (l .wrong) in
     let q = arcs-done _ _ (l .p) (l .inv .1 .1 .0) (c .before .loop-test .left) in
-    sym (l .inv .1 .1 .1 .1) ∙ ap (tally (c .before .before .before .before .args .at) (c .before .before .before .before .args .start) (c .before .before .before .before .args .len) (l .count) (l .wrong)) q
-    ∙ done-wrong (c .before .before .before .before .args .at) (c .before .before .before .before .args .start) (c .before .before .before .before .args .len) (l .count) (l .wrong) (c .if1 .taken)
+    let n = done-wrong (a .at) (a .start) (a .len) (l .count) (l .wrong) (c .if1 .taken) in
+    sym (l .inv .1 .1 .1 .1) ∙ ap t q ∙ n
 
 returns-3 : tie.Need-returns-3 Inv-loop μ-loop
 returns-3 c =
+    let a = c .before .before .before .before .before .args in
     let l = c .before .before .before .loop in
+    let t = tally (a .at) (a .start) (a .len) (l .count) (l .wrong) in
     let q = arcs-done _ _ (l .p) (l .inv .1 .1 .0) (c .before .before .loop-test .left) in
-    sym (l .inv .1 .1 .1 .1) ∙ ap (tally (c .before .before .before .before .before .args .at) (c .before .before .before .before .before .args .start) (c .before .before .before .before .before .args .len) (l .count) (l .wrong)) q
-    ∙ done-none (c .before .before .before .before .before .args .at) (c .before .before .before .before .before .args .start) (c .before .before .before .before .before .args .len) (l .count) (l .wrong) (c .before .if1 .left) (c .if2 .taken)
+    let n = done-none (a .at) (a .start) (a .len) (l .count) (l .wrong) (c .before .if1 .left) (c .if2 .taken) in
+    sym (l .inv .1 .1 .1 .1) ∙ ap t q ∙ n
 
 returns-4 : tie.Need-returns-4 Inv-loop μ-loop
 returns-4 c =
+    let a = c .before .before .before .before .before .before .args in
     let l = c .before .before .before .before .loop in
+    let t = tally (a .at) (a .start) (a .len) (l .count) (l .wrong) in
     let q = arcs-done _ _ (l .p) (l .inv .1 .1 .0) (c .before .before .before .loop-test .left) in
-    sym (l .inv .1 .1 .1 .1) ∙ ap (tally (c .before .before .before .before .before .before .args .at) (c .before .before .before .before .before .before .args .start) (c .before .before .before .before .before .before .args .len) (l .count) (l .wrong)) q
-    ∙ done-long (c .before .before .before .before .before .before .args .at) (c .before .before .before .before .before .before .args .start) (c .before .before .before .before .before .before .args .len) (l .count) (l .wrong) (c .before .before .if1 .left) (c .if3 .taken)
+    let n = done-long (a .at) (a .start) (a .len) (l .count) (l .wrong) (c .before .before .if1 .left) (omega arith) in
+    sym (l .inv .1 .1 .1 .1) ∙ ap t q ∙ n
 
 numbers-cell-requires : tie.Need-numbers-cell-requires Inv-loop μ-loop
 numbers-cell-requires c κs = search needs
 
 returns-5 : tie.Need-returns-5 Inv-loop μ-loop
 returns-5 c =
+    let a = c .before .before .before .before .before .before .before .args in
     let l = c .before .before .before .before .before .loop in
+    let t = tally (a .at) (a .start) (a .len) (l .count) (l .wrong) in
     let q = arcs-done _ _ (l .p) (l .inv .1 .1 .0) (c .before .before .before .before .loop-test .left) in
-    sym (l .inv .1 .1 .1 .1) ∙ ap (tally (c .before .before .before .before .before .before .before .args .at) (c .before .before .before .before .before .before .before .args .start) (c .before .before .before .before .before .before .before .args .len) (l .count) (l .wrong)) q
-    ∙ done-path (c .before .before .before .before .before .before .before .args .at) (c .before .before .before .before .before .before .before .args .start) (c .before .before .before .before .before .before .before .args .len) (l .count) (l .wrong) (c .before .before .before .if1 .left) (c .before .before .if2 .left) (c .before .if3 .left)
-    ∙ ap (λ (v : Cell). Kept v (l .count)) (c .numbers-cell .ensures)
+    let r = c .before .before .before .if1 .left in
+    let n = done-path (a .at) (a .start) (a .len) (l .count) (l .wrong) r (c .before .before .if2 .left) (omega arith) in
+    sym (l .inv .1 .1 .1 .1) ∙ ap t q ∙ n ∙ ap (λ (v : Cell). Kept v (l .count)) (c .numbers-cell .ensures)
 
 pub path-leaf-spec : {M : Type 1} → statement M
 path-leaf-spec =

@@ -18,8 +18,10 @@ numbers-at-requires c κs = search needs
 
 returns-2 : tie.Need-returns-2
 returns-2 c =
-    let e = leaf-numbers _ _ _ _ _ _ _ (c .before .before .before .fits2 .ensures ∙ not-false _ (c .before .before .if1 .left)) (c .before .if2 .taken) ∙ c .numbers-at .ensures in
-    (e, subst (LeafBounded (c .before .before .before .before .before .args .above)) e (leaf-bounded _ _ _ _ _ _ _))
+    let a = c .before .before .before .before .before .args in
+    let f = c .before .before .before .fits2 .ensures ∙ not-false _ (c .before .before .if1 .left) in
+    let e = leaf-numbers _ _ _ _ _ _ _ f (c .before .if2 .taken) ∙ c .numbers-at .ensures in
+    (e, subst (LeafBounded (a .above)) e (leaf-bounded _ _ _ _ _ _ _))
 
 read-content-requires : tie.Need-read-content-requires
 read-content-requires c κs = search needs
@@ -29,10 +31,11 @@ judge-requires c κs = search needs
 
 returns-3 : tie.Need-returns-3
 returns-3 c =
-    let e =
-    leaf-value _ _ _ _ _ _ _ (c .before .before .before .before .fits2 .ensures ∙ not-false _ (c .before .before .before .if1 .left)) (c .before .before .if2 .left)
-    ∙ ap (judged (c .before .before .before .before .before .before .args .s .now) (c .before .before .before .before .before .before .args .at) (c .before .before .before .before .before .before .args .what) (c .before .before .before .before .before .before .args .above)) (sym (c .before .read-content .ensures)) ∙ c .judge .ensures in
-    (e, subst (LeafBounded (c .before .before .before .before .before .before .args .above)) e (leaf-bounded _ _ _ _ _ _ _))
+    let a = c .before .before .before .before .before .before .args in
+    let f = c .before .before .before .before .fits2 .ensures ∙ not-false _ (c .before .before .before .if1 .left) in
+    let g = leaf-value _ _ _ _ _ _ _ f (c .before .before .if2 .left) in
+    let e = g ∙ ap (judged (a .s .now) (a .at) (a .what) (a .above)) (sym (c .before .read-content .ensures)) ∙ c .judge .ensures in
+    (e, subst (LeafBounded (a .above)) e (leaf-bounded _ _ _ _ _ _ _))
 
 pub read-leaf-spec : {M : Type 1} → statement M
 read-leaf-spec =

@@ -43,31 +43,39 @@ cell-of-requires-3 : tie.Need-cell-of-requires-3
 cell-of-requires-3 c κs = search needs
 
 returns : tie.Need-returns
-returns c = ap (valueLeaf (c .before .before .before .args .s .now) (c .before .before .before .args .at) (c .before .before .before .args .what) (c .before .before .before .args .above)) (c .enum-told .given .1)
+returns c =
+    let a = c .before .before .before .args in
+    ap (valueLeaf (a .s .now) (a .at) (a .what) (a .above)) (c .enum-told .given .1)
 
 returns-2 : tie.Need-returns-2
 returns-2 c =
-    let k : toZ w64 (ofZ w64 (c .before .before .v .given .0 .0)) ≡ c .before .before .v .given .0 .0 = search needs in
-    ap (valueLeaf (c .before .before .before .before .before .args .s .now) (c .before .before .before .before .before .args .at) (c .before .before .before .before .before .args .what) (c .before .before .before .before .before .args .above)) (c .before .before .v .given .1)
-    ∙ ap (numberLeaf _ _ _) (sym k) ∙ c .number-leaf .ensures
+    let a = c .before .before .before .before .before .args in
+    let x = c .before .before .v .given .0 .0 in
+    let k : toZ w64 (ofZ w64 x) ≡ x = search needs in
+    ap (valueLeaf (a .s .now) (a .at) (a .what) (a .above)) (c .before .before .v .given .1) ∙ ap (numberLeaf _ _ _) (sym k) ∙ c .number-leaf .ensures
 
 returns-3 : tie.Need-returns-3
 returns-3 c =
-    ap (valueLeaf (c .before .before .before .before .args .s .now) (c .before .before .before .before .args .at) (c .before .before .before .before .args .what) (c .before .before .before .before .args .above)) (c .before .enum-told2 .given .1)
-    ∙ ap (λ (v : Cell). Kept v (c .before .before .before .before .args .above)) (ap cellOf (sym (c .before .enum-told2 .given .1)) ∙ sym (c .cell-of .ensures))
+    let a = c .before .before .before .before .args in
+    let e = c .before .enum-told2 .given .1 in
+    ap (valueLeaf (a .s .now) (a .at) (a .what) (a .above)) e ∙ ap (λ (v : Cell). Kept v (a .above)) (ap cellOf (sym e) ∙ sym (c .cell-of .ensures))
 
 returns-4 : tie.Need-returns-4
-returns-4 c = ap (valueLeaf (c .before .before .before .before .before .args .s .now) (c .before .before .before .before .before .args .at) (c .before .before .before .before .before .args .what) (c .before .before .before .before .before .args .above)) (c .before .before .v2 .given .1) ∙ c .text-leaf .ensures
+returns-4 c =
+    let a = c .before .before .before .before .before .args in
+    ap (valueLeaf (a .s .now) (a .at) (a .what) (a .above)) (c .before .before .v2 .given .1) ∙ c .text-leaf .ensures
 
 returns-5 : tie.Need-returns-5
 returns-5 c =
-    ap (valueLeaf (c .before .before .before .before .args .s .now) (c .before .before .before .before .args .at) (c .before .before .before .before .args .what) (c .before .before .before .before .args .above)) (c .before .enum-told3 .given .1)
-    ∙ ap (λ (v : Cell). Kept v (c .before .before .before .before .args .above)) (ap cellOf (sym (c .before .enum-told3 .given .1)) ∙ sym (c .cell-of2 .ensures))
+    let a = c .before .before .before .before .args in
+    let e = c .before .enum-told3 .given .1 in
+    ap (valueLeaf (a .s .now) (a .at) (a .what) (a .above)) e ∙ ap (λ (v : Cell). Kept v (a .above)) (ap cellOf (sym e) ∙ sym (c .cell-of2 .ensures))
 
 returns-6 : tie.Need-returns-6
 returns-6 c =
-    ap (valueLeaf (c .before .before .before .before .args .s .now) (c .before .before .before .before .args .at) (c .before .before .before .before .args .what) (c .before .before .before .before .args .above)) (c .before .enum-told4 .given .1)
-    ∙ ap (λ (v : Cell). Kept v (c .before .before .before .before .args .above)) (ap cellOf (sym (c .before .enum-told4 .given .1)) ∙ sym (c .cell-of3 .ensures))
+    let a = c .before .before .before .before .args in
+    let e = c .before .enum-told4 .given .1 in
+    ap (valueLeaf (a .s .now) (a .at) (a .what) (a .above)) e ∙ ap (λ (v : Cell). Kept v (a .above)) (ap cellOf (sym e) ∙ sym (c .cell-of3 .ensures))
 
 pub value-leaf-spec : {M : Type 1} → statement M
 value-leaf-spec =
