@@ -1,5 +1,5 @@
--- One value, judged by what stands at its member. Its tag, at `at`, is a universal primitive one; its content is the octets from `start` to `end`.
--- `above` counts the numbers of the path so far.
+-- One value, judged by what stands at its member. Its tag, at `at`, is a universal primitive one with this number; its len content octets stand at `start`.
+-- `above` counts the numbers of the path so far. For other crates: `leafAt s at number start len what above` is what `read_leaf` answers.
 use Prim.Native.Nat.{ℕ, _+_, _≤_}
 use mathlib.Core.Path.{_≡_}
 use mathlib.Core.Logic.{_⊎_}
@@ -17,7 +17,6 @@ use Rattle.values.specs.Value.{isListed, contentAt}
 use Rattle.identifiers.specs.Identifier.{Arcs, bad, over, numbers, arcs}
 use Rattle.identifiers.specs.declared.Oid.{Oid}
 use Rattle.identifiers.specs.declared.Oid.the-variants.{Numbers, Range, Refused as NoOid}
-use Rattle.entries.specs.declared.Cell.{Cell}
 use Rattle.entries.specs.Cell.{cellOf, numbersCell}
 use Rattle.grammar.specs.declared.Leaf.{Leaf}
 use Rattle.grammar.specs.declared.Leaf.the-variants.{Kept, Refused as Not}

@@ -2,7 +2,7 @@
 use Prim.Native.Nat.{ℕ}
 use mathlib.Core.Path.{_≡_, refl}
 use mathlib.Core.List.{List, [], _∷_, map}
-use mathlib.Core.Bool.{Bool, true, false}
+use mathlib.Core.Bool.{true, false}
 use lib.Count.{trailingZeros}
 use lib.Ieee as Ieee
 use lib.ListN.{length}
@@ -15,7 +15,7 @@ use Rattle.values.specs.Value.{boolean, boolAt, isListed, kindAt, contentAt}
 use Rattle.entries.specs.Cell.{cell}
 use Rattle.grammar.specs.declared.Leaf.{Leaf}
 use Rattle.grammar.specs.declared.Leaf.the-variants.{Kept, Refused}
-use Rattle.grammar.specs.Grammar.{no, name, text, flag, any, step, path, list, from0, int32, to3, to2, to1, body, kids, links}
+use Rattle.grammar.specs.Grammar.{no, name, text, flag, any, step, path, list, from0, int32, to3, to2, to1, links}
 use Rattle.grammar.specs.Grammar.{parameter, command, node, matrix, qualifiedParameter, qualifiedNode, qualifiedMatrix, connection, streamEntry}
 use Rattle.grammar.specs.Grammar.{parameterContents, nodeContents, matrixContents, rootElements, children, connections, streams}
 use Rattle.grammar.specs.Grammar.{members, ruleOf, requirements, required, isSet, contentsRows, contentsOf, applications, holds, kindAmong, kindIn}
