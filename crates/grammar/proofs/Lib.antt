@@ -1,2 +1,4 @@
--- What the proofs share: what a table says at a number (Tables).
+-- What the proofs share (Tables, Laws), and what holds of a value that is kept: `leaf-bounded`, `kept-part`, `kept-path` (Bounds).
 pub mod Tables
+pub mod Laws
+pub mod Bounds

@@ -2,7 +2,7 @@
 -- collection the kinds that it may hold. A request that adds or moves a member, a kind or a tag changes rows here.
 use Prim.Native.Nat.{ℕ}
 use mathlib.Core.List.{List, [], _∷_}
-use mathlib.Core.Bool.{Bool, true, false}
+use mathlib.Core.Bool.{Bool}
 use lib.ListN.{getD}
 use lib.Dec.{leb, eqb}
 use Rattle.integers.specs.Digits.{pick}

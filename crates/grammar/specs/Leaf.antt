@@ -1,8 +1,10 @@
--- One value, judged by what stands at its member. Its tag, at `at`, is a universal primitive one; its content is the octets from `start` to `end`.
--- `above` counts the numbers of the path so far.
-use Prim.Native.Nat.{ℕ, _+_, _-_}
+-- One value, judged by what stands at its member. Its tag, at `at`, is a universal primitive one with this number; its len content octets stand at `start`.
+-- `above` counts the numbers of the path so far. For other crates: `leafAt s at number start len what above` is what `read_leaf` answers.
+use Prim.Native.Nat.{ℕ, _+_, _≤_}
+use mathlib.Core.Path.{_≡_}
+use mathlib.Core.Logic.{_⊎_}
 use mathlib.Core.List.{List, [], _∷_}
-use mathlib.Core.Bool.{Bool, true, false, not}
+use mathlib.Core.Bool.{Bool, true, false}
 use lib.ListN.{length, take, drop}
 use lib.Dec.{leb, ltb, eqb}
 use lib.IntN.{ℤ, pos, negsuc}
@@ -13,7 +15,8 @@ use Rattle.values.specs.declared.Answer.{Answer}
 use Rattle.values.specs.declared.Answer.the-variants.{Found, Other, Refused}
 use Rattle.values.specs.Value.{isListed, contentAt}
 use Rattle.identifiers.specs.Identifier.{Arcs, bad, over, numbers, arcs}
-use Rattle.entries.specs.declared.Cell.{Cell}
+use Rattle.identifiers.specs.declared.Oid.{Oid}
+use Rattle.identifiers.specs.declared.Oid.the-variants.{Numbers, Range, Refused as NoOid}
 use Rattle.entries.specs.Cell.{cellOf, numbersCell}
 use Rattle.grammar.specs.declared.Leaf.{Leaf}
 use Rattle.grammar.specs.declared.Leaf.the-variants.{Kept, Refused as Not}
@@ -68,21 +71,29 @@ isPath ns = both (ltb 0 (length ns)) (both (leb (length ns) 16) (allPositive ns)
 -- "34 NUMBER, .. 37 PATH": a number out of its range, then a path over 16 ("parents counted")
 unfoldable pub numberLeaf : ℕ → ℕ → ℕ → ℤ → Leaf
 numberLeaf at what above z =
-    pick (inRange what z)
+    pick (eqb what any) (Kept (cellOf (Int z)) above)
+    (pick (inRange what z)
     (pick (eqb what step) (pick (leb (above + 1) 16) (Kept (cellOf (Int z)) (above + 1)) (Not 37 at)) (Kept (cellOf (Int z)) above))
-    (Not 34 at)
+    (Not 34 at))
 
--- a value that was read, by the member's rule
-abbrev pub judged : List ℕ → ℕ → ℕ → ℕ → Answer → Leaf
-judged s at what above (Found (Int z) next) = pick (eqb what any) (Kept (cellOf (Int z)) above) (numberLeaf at what above z)
-judged s at what above (Found (Text start len) next) =
+-- "36 NAME": an identifier against its rule
+unfoldable pub textLeaf : List ℕ → ℕ → ℕ → ℕ → ℕ → ℕ → Leaf
+textLeaf s at what above start len =
     pick (eqb what name)
     (pick (isName (take len (drop start s))) (Kept (cellOf (Text start len)) above) (Not 36 at))
     (Kept (cellOf (Text start len)) above)
-judged s at what above (Found Absent next) = Not 33 at
-judged s at what above (Found (Real x) next) = Kept (cellOf (Real x)) above
-judged s at what above (Found (Truth b) next) = Kept (cellOf (Truth b)) above
-judged s at what above (Found (Octets start len) next) = Kept (cellOf (Octets start len)) above
+
+-- a value that was read, by the member's rule
+abbrev pub valueLeaf : List ℕ → ℕ → ℕ → ℕ → Value → Leaf
+valueLeaf s at what above Absent = Not 33 at
+valueLeaf s at what above (Int z) = numberLeaf at what above z
+valueLeaf s at what above (Real x) = Kept (cellOf (Real x)) above
+valueLeaf s at what above (Text start len) = textLeaf s at what above start len
+valueLeaf s at what above (Truth b) = Kept (cellOf (Truth b)) above
+valueLeaf s at what above (Octets start len) = Kept (cellOf (Octets start len)) above
+
+abbrev pub judged : List ℕ → ℕ → ℕ → ℕ → Answer → Leaf
+judged s at what above (Found v next) = valueLeaf s at what above v
 judged s at what above Other = Not 33 at
 judged s at what above (Refused number place) = Not number place
 
@@ -110,3 +121,21 @@ leafAt s at number start len what above =
     pick (expects what number)
     (pick (eqb number 13) (numbersAt s at start len what above) (judged s at what above (contentAt s at number start len)))
     (Not 33 at)
+
+-- the same range, by the word of a number (two's complement)
+unfoldable pub wordIn : ℕ → ℕ → Bool
+wordIn what w =
+    pick (eqb what int32)
+    (pick (leb w 2147483647) true (leb 18446744071562067968 w))
+    (both (leb (least what) w) (leb w (most what)))
+
+-- the count of a path's numbers is at most 16, or as it was
+abbrev pub LeafBounded : ℕ → Leaf → Type 0
+LeafBounded above (Kept v n) = (n ≤ 16) ⊎ (n ≡ above)
+LeafBounded above (Not number place) = Unit {0}
+
+-- the sources, by what reading their octets answers
+abbrev pub oidLeaf : ℕ → ℕ → ℕ → ℕ → Oid → Leaf
+oidLeaf at start len above (Numbers count) = Kept (numbersCell start len) above
+oidLeaf at start len above Range = Not 34 at
+oidLeaf at start len above NoOid = Not 30 at

@@ -2,7 +2,7 @@
 use Prim.Native.Nat.{ℕ}
 use mathlib.Core.Path.{_≡_, refl}
 use mathlib.Core.List.{List, [], _∷_, map}
-use mathlib.Core.Bool.{Bool, true, false}
+use mathlib.Core.Bool.{true, false}
 use lib.Count.{trailingZeros}
 use lib.Ieee as Ieee
 use lib.ListN.{length}
@@ -15,11 +15,11 @@ use Rattle.values.specs.Value.{boolean, boolAt, isListed, kindAt, contentAt}
 use Rattle.entries.specs.Cell.{cell}
 use Rattle.grammar.specs.declared.Leaf.{Leaf}
 use Rattle.grammar.specs.declared.Leaf.the-variants.{Kept, Refused}
-use Rattle.grammar.specs.Grammar.{no, name, text, flag, any, step, path, list, from0, int32, to3, to2, to1, body, kids, links}
+use Rattle.grammar.specs.Grammar.{no, name, text, flag, any, step, path, list, from0, int32, to3, to2, to1, links}
 use Rattle.grammar.specs.Grammar.{parameter, command, node, matrix, qualifiedParameter, qualifiedNode, qualifiedMatrix, connection, streamEntry}
 use Rattle.grammar.specs.Grammar.{parameterContents, nodeContents, matrixContents, rootElements, children, connections, streams}
 use Rattle.grammar.specs.Grammar.{members, ruleOf, requirements, required, isSet, contentsRows, contentsOf, applications, holds, kindAmong, kindIn}
-use Rattle.grammar.specs.Leaf.{expects, least, most, inRange, isLetter, noSlash, isName, allPositive, isPath, numberLeaf, numbersAt, leafAt}
+use Rattle.grammar.specs.Leaf.{expects, least, most, inRange, isLetter, noSlash, isName, allPositive, isPath, numberLeaf, textLeaf, numbersAt, leafAt}
 
 -- "Context numbers"
 pub v-rules :
@@ -43,7 +43,9 @@ pub v-required : map required (parameter ∷ command ∷ qualifiedMatrix ∷ con
 unfolding required requirements
 v-required = refl
 
-pub v-contents : map contentsOf (parameter ∷ command ∷ node ∷ qualifiedMatrix ∷ connection ∷ []) ≡ parameterContents ∷ 0 ∷ nodeContents ∷ matrixContents ∷ 0 ∷ []
+pub v-contents :
+    map contentsOf (parameter ∷ command ∷ node ∷ qualifiedMatrix ∷ connection ∷ [])
+    ≡ parameterContents ∷ 0 ∷ nodeContents ∷ matrixContents ∷ 0 ∷ []
 unfolding contentsOf contentsRows
 v-contents = refl
 
@@ -89,7 +91,7 @@ pub v-texts :
     ∷ one 12 (47 ∷ []) text 3 ∷ one 12 (47 ∷ []) any 3 ∷ one 4 (47 ∷ []) any 3 ∷ one 4 (97 ∷ []) text 3 ∷ one 2 (1 ∷ []) name 3 ∷ []
     ≡ Kept (cell 12 2 3) 3 ∷ Kept (cell 12 2 1) 3 ∷ Refused 36 0 ∷ Refused 36 0 ∷ Refused 36 0
     ∷ Kept (cell 12 2 1) 3 ∷ Kept (cell 12 2 1) 3 ∷ Kept (cell 4 2 1) 3 ∷ Refused 33 0 ∷ Refused 33 0 ∷ []
-unfolding leafAt expects isName isLetter noSlash contentAt kindAt isListed
+unfolding leafAt expects textLeaf isName isLetter noSlash contentAt kindAt isListed
 v-texts = refl
 
 pub v-flags : one 1 (122 ∷ []) flag 3 ∷ one 1 (0 ∷ []) any 3 ∷ one 1 [] flag 3 ∷ one 2 (1 ∷ []) flag 3 ∷ []
@@ -123,7 +125,9 @@ unfolding leafAt expects numbersAt arcsFrom arcAt arcFrom arcIs
 v-sources = refl
 
 -- a relative identifier is no value of any kind, and no integer; bytes run out
-pub v-others-33 : one 13 (1 ∷ []) any 0 ∷ one 13 (1 ∷ []) step 0 ∷ one 2 (1 ∷ []) path 0 ∷ leafAt (2 ∷ 9 ∷ 1 ∷ []) 0 2 2 9 step 0 ∷ leafAt (13 ∷ 2 ∷ 1 ∷ []) 0 13 2 2 path 0 ∷ []
+pub v-refused :
+    one 13 (1 ∷ []) any 0 ∷ one 13 (1 ∷ []) step 0 ∷ one 2 (1 ∷ []) path 0
+    ∷ leafAt (2 ∷ 9 ∷ 1 ∷ []) 0 2 2 9 step 0 ∷ leafAt (13 ∷ 2 ∷ 1 ∷ []) 0 13 2 2 path 0 ∷ []
     ≡ Refused 33 0 ∷ Refused 33 0 ∷ Refused 33 0 ∷ Refused 30 3 ∷ Refused 30 3 ∷ []
 unfolding leafAt expects numbersAt contentAt isListed
-v-others-33 = refl
+v-refused = refl

@@ -1,9 +1,21 @@
 // The grammar of Glow: what stands where, and one value judged by it.
 use entries::Cell;
+use identifiers::Arc;
+use identifiers::Oid;
+use values::Answer;
+use values::Value;
 ghost use mathlib.Core.Path.{_≡_};
+ghost use Prim.Native.Nat.{_+_, _≤_};
+ghost use mathlib.Core.Bool.{true};
+ghost use lib.Dec.{leb, eqb};
+ghost use Rattle.integers.specs.Digits.{pick};
+ghost use lib.ListN.{length, take, drop};
 ghost use Rattle.grammar.specs.Grammar.{ruleOf, required, isSet, contentsOf, kindIn};
 ghost use Rattle.values.specs.Value.{isListed};
-ghost use Rattle.grammar.specs.Leaf.{expects};
+ghost use Rattle.identifiers.specs.Identifier.{arcs};
+ghost use Rattle.entries.specs.Cell.{numbersCell};
+ghost use Rattle.grammar.specs.Leaf.{expects, least, most, wordIn, isLetter, noSlash, isName};
+ghost use Rattle.grammar.specs.Leaf.{numberLeaf, textLeaf, valueLeaf, judged, pathLeaf, oidLeaf, numbersAt, leafAt, LeafBounded};
 
 // A value kept in its cell, with the count of the path's numbers after it; or a refusal with its place.
 pub enum Leaf {
@@ -259,4 +271,280 @@ pub fn fits(what: u64, number: u64) -> bool
         6..=7 => number == 13,
         _ => number == 2,
     }
+}
+
+fn wide(n: u32) -> u64
+    ensures { λ r. ⌜ r ≡ n ⌝ }
+{
+    n as u64
+}
+
+fn word(x: usize) -> u64
+    ensures { λ r. ⌜ r ≡ x ⌝ }
+{
+    x as u64
+}
+
+// The least and the greatest number of a member that is not below zero.
+fn least_of(what: u64) -> u64
+    ensures { λ r. ⌜ least what ≡ r ⌝ }
+{
+    if what == 5 {
+        return 1;
+    }
+    0
+}
+
+fn most_of(what: u64) -> u64
+    ensures { λ r. ⌜ most what ≡ r ⌝ }
+{
+    match what {
+        10 => 3,
+        11 => 2,
+        12 => 1,
+        _ => 2147483647,
+    }
+}
+
+// Whether a number, by its word, is in the range of its member.
+fn in_range(what: u64, w: u64) -> bool
+    ensures { λ r. ⌜ wordIn what w ≡ r ⌝ }
+{
+    if what == 9 {
+        if w <= 2147483647 {
+            return true;
+        }
+        return 18446744071562067968 <= w;
+    }
+    if w < least_of(what) {
+        return false;
+    }
+    w <= most_of(what)
+}
+
+fn number_leaf(at: usize, what: u64, above: usize, x: i64) -> Leaf
+    ensures { λ r. ⌜ numberLeaf at what above x ≡ r ⌝ }
+{
+    let v = entries::cell_of(Value::Int(x));
+    if what == 4 {
+        return Leaf::Kept(v, above);
+    }
+    if !in_range(what, v.first) {
+        return Leaf::Refused(34, at);
+    }
+    if what == 5 {
+        if above < 16 {
+            return Leaf::Kept(v, above + 1);
+        }
+        return Leaf::Refused(37, at);
+    }
+    Leaf::Kept(v, above)
+}
+
+fn is_letter(b: u8) -> bool
+    ensures { λ r. ⌜ isLetter b ≡ r ⌝ }
+{
+    if 97 <= b {
+        return b <= 122;
+    }
+    if 65 <= b {
+        if b <= 90 {
+            return true;
+        }
+        return b == 95;
+    }
+    false
+}
+
+// Whether no octet of a text is "/".
+fn no_slash(s: &[u8], start: usize, len: usize) -> bool
+    ensures { λ r. ⌜ noSlash (take len (drop start (now (s .entry)))) ≡ r ⌝ }
+{
+    let mut i = start;
+    let mut left = len;
+    while 0 < left {
+        if s.len() <= i {
+            return true;
+        }
+        if s[i] == 47 {
+            return false;
+        }
+        i = i + 1;
+        left = left - 1;
+    }
+    true
+}
+
+// Whether a text is an identifier.
+fn is_name(s: &[u8], start: usize, len: usize) -> bool
+    ensures { λ r. ⌜ isName (take len (drop start (now (s .entry)))) ≡ r ⌝ }
+{
+    if len == 0 {
+        return false;
+    }
+    if s.len() <= start {
+        return false;
+    }
+    if !is_letter(s[start]) {
+        return false;
+    }
+    no_slash(s, start, len)
+}
+
+fn text_leaf(s: &[u8], at: usize, what: u64, above: usize, start: usize, len: usize) -> Leaf
+    ensures { λ r. ⌜ textLeaf (now (s .entry)) at what above start len ≡ r ⌝ }
+{
+    let v = entries::cell_of(Value::Text { start, len });
+    if what == 1 {
+        if !is_name(s, start, len) {
+            return Leaf::Refused(36, at);
+        }
+    }
+    Leaf::Kept(v, above)
+}
+
+fn value_leaf(s: &[u8], at: usize, what: u64, above: usize, v: Value) -> Leaf
+    ensures { λ r. ⌜ valueLeaf (now (s .entry)) at what above v ≡ r ⌝ }
+{
+    match v {
+        Value::Absent => Leaf::Refused(33, at),
+        Value::Int(x) => number_leaf(at, what, above, x),
+        Value::Real(_) => Leaf::Kept(entries::cell_of(v), above),
+        Value::Text { start, len } => text_leaf(s, at, what, above, start, len),
+        Value::Bool(_) => Leaf::Kept(entries::cell_of(v), above),
+        Value::Octets { start: _, len: _ } => Leaf::Kept(entries::cell_of(v), above),
+    }
+}
+
+// A value that was read, by the member's rule.
+fn judge(s: &[u8], at: usize, what: u64, above: usize, a: Answer) -> Leaf
+    ensures { λ r. ⌜ judged (now (s .entry)) at what above a ≡ r ⌝ }
+{
+    match a {
+        Answer::Found { value, next: _ } => value_leaf(s, at, what, above, value),
+        Answer::Other => Leaf::Refused(33, at),
+        Answer::Refused { number, place } => Leaf::Refused(wide(number), place),
+    }
+}
+
+// Whether the message holds the octets of a value.
+fn holds(s: &[u8], start: usize, len: usize) -> bool
+    ensures { λ r. ⌜ leb (start + len) (length (now (s .entry))) ≡ r ⌝ }
+{
+    if s.len() < len {
+        return false;
+    }
+    if s.len() - len < start {
+        return false;
+    }
+    true
+}
+
+fn numbers_cell(start: usize, len: usize) -> Cell
+    ensures { λ r. ⌜ numbersCell start len ≡ r ⌝ }
+{
+    Cell {
+        kind: 13,
+        first: word(start),
+        second: word(len),
+    }
+}
+
+// Whether a path was wrong, or is with this number.
+fn spoiled(wrong: bool, number: u64) -> bool
+    ensures { λ r. ⌜ pick (eqb number 0) true wrong ≡ r ⌝ }
+{
+    if number == 0 {
+        return true;
+    }
+    wrong
+}
+
+// A path: 1 to 16 numbers, each at least 1. A number that is cut off counts before one out of its range.
+fn path_leaf(s: &[u8], at: usize, start: usize, len: usize) -> Leaf
+    requires { ⌜ start + len ≤ length (now s) ⌝ }
+    ensures { λ r. ⌜ pathLeaf at start len (arcs (now (s .entry)) start len) ≡ r ⌝ }
+{
+    let end = start + len;
+    let mut p = start;
+    let mut count: usize = 0;
+    let mut wrong = false;
+    while p < end {
+        match identifiers::read_number(s, p, end) {
+            Arc::Number { number, next } => {
+                p = next;
+                count = count + 1;
+                wrong = spoiled(wrong, number);
+            }
+            Arc::Range { next } => {
+                p = next;
+                wrong = true;
+            }
+            Arc::Refused => {
+                return Leaf::Refused(30, at);
+            }
+        }
+    }
+    if wrong {
+        return Leaf::Refused(37, at);
+    }
+    if count == 0 {
+        return Leaf::Refused(37, at);
+    }
+    if 16 < count {
+        return Leaf::Refused(37, at);
+    }
+    Leaf::Kept(numbers_cell(start, len), count)
+}
+
+// The sources of a connection.
+fn list_leaf(at: usize, start: usize, len: usize, above: usize, o: Oid) -> Leaf
+    ensures { λ r. ⌜ oidLeaf at start len above o ≡ r ⌝ }
+{
+    match o {
+        Oid::Numbers(_) => Leaf::Kept(numbers_cell(start, len), above),
+        Oid::Range => Leaf::Refused(34, at),
+        Oid::Refused => Leaf::Refused(30, at),
+    }
+}
+
+// A relative identifier.
+fn numbers_at(s: &[u8], at: usize, start: usize, len: usize, what: u64, above: usize) -> Leaf
+    ensures { λ r. ⌜ numbersAt (now (s .entry)) at start len what above ≡ r ⌝ }
+{
+    if !holds(s, start, len) {
+        return Leaf::Refused(30, s.len());
+    }
+    if what == 6 {
+        return path_leaf(s, at, start, len);
+    }
+    list_leaf(at, start, len, above, identifiers::read_oid(s, start, len))
+}
+
+// The value whose tag stands at `at`, with this universal number, and whose len octets stand at `start`; `above` counts the numbers of the path so far.
+pub fn read_leaf(
+    s: &[u8],
+    at: usize,
+    number: u64,
+    start: usize,
+    len: usize,
+    what: u64,
+    above: usize,
+) -> Leaf
+    ensures { λ r. ⌜ leafAt (now (s .entry)) at number start len what above ≡ r ⌝ }
+    ensures { λ r. ⌜ LeafBounded above r ⌝ }
+{
+    if !fits(what, number) {
+        return Leaf::Refused(33, at);
+    }
+    if number == 13 {
+        return numbers_at(s, at, start, len, what, above);
+    }
+    judge(
+        s,
+        at,
+        what,
+        above,
+        values::read_content(s, at, number, start, len),
+    )
 }

@@ -6,31 +6,31 @@ use Rattle.grammar.proofs.at_root.Tie as tie
 
 returns : tie.Need-returns
 unfolding holds applications
-returns c = kind-at 0 _ 1 (omega arith)
+returns c = kind-at 0 _ _ (omega arith)
 
 returns-2 : tie.Need-returns-2
 unfolding holds applications
-returns-2 c = kind-at 0 _ 2 (omega arith)
+returns-2 c = kind-at 0 _ _ (omega arith)
 
 returns-3 : tie.Need-returns-3
 unfolding holds applications
-returns-3 c = kind-at 0 _ 3 (omega arith)
+returns-3 c = kind-at 0 _ _ (omega arith)
 
 returns-4 : tie.Need-returns-4
 unfolding holds applications
-returns-4 c = kind-at 0 _ 5 (omega arith)
+returns-4 c = kind-at 0 _ _ (omega arith)
 
 returns-5 : tie.Need-returns-5
 unfolding holds applications
-returns-5 c = kind-at 0 _ 6 (omega arith)
+returns-5 c = kind-at 0 _ _ (omega arith)
 
 returns-6 : tie.Need-returns-6
 unfolding holds applications
-returns-6 c = kind-at 0 _ 4 (omega arith)
+returns-6 c = kind-at 0 _ _ (omega arith)
 
 returns-7 : tie.Need-returns-7
 unfolding holds applications
-returns-7 c = kind-at 0 _ 7 (omega arith)
+returns-7 c = kind-at 0 _ _ (omega arith)
 
 returns-8 : tie.Need-returns-8
 unfolding holds applications

@@ -6,31 +6,31 @@ use Rattle.grammar.proofs.contents_of.Tie as tie
 
 returns : tie.Need-returns
 unfolding contentsRows
-returns c = contents-at _ 10 (omega arith)
+returns c = contents-at _ _ (omega arith)
 
 returns-2 : tie.Need-returns-2
 unfolding contentsRows
-returns-2 c = contents-at _ 11 (omega arith)
+returns-2 c = contents-at _ _ (omega arith)
 
 returns-3 : tie.Need-returns-3
 unfolding contentsRows
-returns-3 c = contents-at _ 12 (omega arith)
+returns-3 c = contents-at _ _ (omega arith)
 
 returns-4 : tie.Need-returns-4
 unfolding contentsRows
-returns-4 c = contents-at _ 10 (omega arith)
+returns-4 c = contents-at _ _ (omega arith)
 
 returns-5 : tie.Need-returns-5
 unfolding contentsRows
-returns-5 c = contents-at _ 11 (omega arith)
+returns-5 c = contents-at _ _ (omega arith)
 
 returns-6 : tie.Need-returns-6
 unfolding contentsRows
-returns-6 c = contents-at _ 12 (omega arith)
+returns-6 c = contents-at _ _ (omega arith)
 
 returns-7 : tie.Need-returns-7
 unfolding contentsRows
-returns-7 c = contents-at _ 0 (omega arith)
+returns-7 c = contents-at _ _ (omega arith)
 
 pub contents-of-spec : {M : Type 1} → statement M
 contents-of-spec =

@@ -13,11 +13,11 @@ among-children-requires c κs = search needs
 
 returns : tie.Need-returns
 unfolding holds applications
-returns c = kind-which _ (c .before .match .keys3) (kind-at 2 _ 8 (omega arith))
+returns c = kind-which _ (c .before .match .keys3) (kind-at 2 _ _ (omega arith))
 
 returns-2 : tie.Need-returns-2
 unfolding holds applications
-returns-2 c = kind-which _ (c .before .match .keys4) (kind-at 3 _ 9 (omega arith))
+returns-2 c = kind-which _ (c .before .match .keys4) (kind-at 3 _ _ (omega arith))
 
 returns-3 : tie.Need-returns-3
 returns-3 c = kind-which _ (c .before .match .keys1) (c .at-root .ensures)
@@ -27,11 +27,11 @@ returns-4 c = kind-which _ (c .before .match .keys2) (c .among-children .ensures
 
 returns-5 : tie.Need-returns-5
 unfolding holds applications
-returns-5 c = kind-which _ (c .before .match .keys3) (kind-at 2 _ 0 (omega arith))
+returns-5 c = kind-which _ (c .before .match .keys3) (kind-at 2 _ _ (omega arith))
 
 returns-6 : tie.Need-returns-6
 unfolding holds applications
-returns-6 c = kind-which _ (c .before .match .keys4) (kind-at 3 _ 0 (omega arith))
+returns-6 c = kind-which _ (c .before .match .keys4) (kind-at 3 _ _ (omega arith))
 
 returns-7 : tie.Need-returns-7
 unfolding holds

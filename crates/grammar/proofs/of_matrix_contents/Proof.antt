@@ -6,27 +6,27 @@ use Rattle.grammar.proofs.of_matrix_contents.Tie as tie
 
 returns : tie.Need-returns
 unfolding members
-returns c = rule-at 12 _ 1 (omega arith)
+returns c = rule-at 12 _ _ (omega arith)
 
 returns-2 : tie.Need-returns-2
 unfolding members
-returns-2 c = rule-at 12 _ 2 (omega arith)
+returns-2 c = rule-at 12 _ _ (omega arith)
 
 returns-3 : tie.Need-returns-3
 unfolding members
-returns-3 c = rule-at 12 _ 11 (omega arith)
+returns-3 c = rule-at 12 _ _ (omega arith)
 
 returns-4 : tie.Need-returns-4
 unfolding members
-returns-4 c = rule-at 12 _ 12 (omega arith)
+returns-4 c = rule-at 12 _ _ (omega arith)
 
 returns-5 : tie.Need-returns-5
 unfolding members
-returns-5 c = rule-at 12 _ 8 (omega arith)
+returns-5 c = rule-at 12 _ _ (omega arith)
 
 returns-6 : tie.Need-returns-6
 unfolding members
-returns-6 c = rule-at 12 _ 0 (omega arith)
+returns-6 c = rule-at 12 _ _ (omega arith)
 
 pub of-matrix-contents-spec : {M : Type 1} → statement M
 of-matrix-contents-spec =

@@ -6,35 +6,35 @@ use Rattle.grammar.proofs.of_parameter.Tie as tie
 
 returns : tie.Need-returns
 unfolding members
-returns c = rule-at 10 _ 1 (omega arith)
+returns c = rule-at 10 _ _ (omega arith)
 
 returns-2 : tie.Need-returns-2
 unfolding members
-returns-2 c = rule-at 10 _ 2 (omega arith)
+returns-2 c = rule-at 10 _ _ (omega arith)
 
 returns-3 : tie.Need-returns-3
 unfolding members
-returns-3 c = rule-at 10 _ 10 (omega arith)
+returns-3 c = rule-at 10 _ _ (omega arith)
 
 returns-4 : tie.Need-returns-4
 unfolding members
-returns-4 c = rule-at 10 _ 9 (omega arith)
+returns-4 c = rule-at 10 _ _ (omega arith)
 
 returns-5 : tie.Need-returns-5
 unfolding members
-returns-5 c = rule-at 10 _ 3 (omega arith)
+returns-5 c = rule-at 10 _ _ (omega arith)
 
 returns-6 : tie.Need-returns-6
 unfolding members
-returns-6 c = rule-at 10 _ 9 (omega arith)
+returns-6 c = rule-at 10 _ _ (omega arith)
 
 returns-7 : tie.Need-returns-7
 unfolding members
-returns-7 c = rule-at 10 _ 8 (omega arith)
+returns-7 c = rule-at 10 _ _ (omega arith)
 
 returns-8 : tie.Need-returns-8
 unfolding members
-returns-8 c = rule-at 10 _ 4 (c .before .match .rest .0 .0 .0 .0 .0 .0 .1, (c .before .match .rest .0 .0 .0 .0 .0 .1, omega arith))
+returns-8 c = rule-at 10 _ _ (c .before .match .rest .0 .0 .0 .0 .0 .0 .1, (c .before .match .rest .0 .0 .0 .0 .0 .1, omega arith))
 
 returns-9 : tie.Need-returns-9
 unfolding members

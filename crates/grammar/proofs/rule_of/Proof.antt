@@ -80,20 +80,12 @@ returns-12 c = rule-row _ (c .before .match .keys12) (c .of-matrix-contents .ens
 
 returns-13 : tie.Need-returns-13
 unfolding members
-returns-13 c = let r = c .match .rest in
-    rule-none _ _ (
-      r .0 .0 .0 .0 .0 .0 .0 .0 .0 .0 .0 .1,
-      (
-        r .0 .0 .0 .0 .0 .0 .0 .0 .0 .0 .1,
-        (
-          r .0 .0 .0 .0 .0 .0 .0 .0 .0 .1,
-          (
-            r .0 .0 .0 .0 .0 .0 .0 .0 .1,
-            (r .0 .0 .0 .0 .0 .0 .0 .1, (r .0 .0 .0 .0 .0 .0 .1, (r .0 .0 .0 .0 .0 .1, (r .0 .0 .0 .0 .1, (r .0 .0 .0 .1, (r .0 .0 .1, (r .0 .1, (r .1, tt)))))))),
-          ),
-        ),
-      ),
-    )
+returns-13 c =
+    let r = c .match .rest in
+    let m = r .0 .0 .0 .0 in
+    let u = m .0 .0 .0 .0 in
+    rule-none _ _
+    (u .0 .0 .0 .1, (u .0 .0 .1, (u .0 .1, (u .1, (m .0 .0 .0 .1, (m .0 .0 .1, (m .0 .1, (m .1, (r .0 .0 .0 .1, (r .0 .0 .1, (r .0 .1, (r .1, tt))))))))))))
 
 pub rule-of-spec : {M : Type 1} → statement M
 rule-of-spec =
