@@ -6,7 +6,7 @@ use std::process::exit;
 
 const USAGE: &str = "usage:
   reference frames|octets|listing|tree|rewrite|desk|sheet < input
-  reference generate frames|octets|listing|messages|desk SEED COUNT
+  reference generate frames|octets|tree|listing|messages|desk SEED COUNT
   reference generate sheet SEED DAMAGES
   reference store [--check] [ROOT]
   reference compare ROOT NAME... [--seed S] [--count N] [--seconds T] [--program PATH]
@@ -30,6 +30,7 @@ fn main() {
                 "frames" => print(&gen::frames::input(seed, count).0),
                 "octets" => print(&gen::octets::input(seed, count).0),
                 "listing" => print(&gen::tree::listing_input(seed, count).0),
+                "tree" => print(&gen::tree::requests::input(seed, count).0),
                 "messages" => print(&gen::tree::messages(seed, count)),
                 "desk" => print(&gen::desk::script(seed, count)),
                 "sheet" => print(&gen::desk::sheet_text(seed, count)),
