@@ -3,6 +3,7 @@
 pub mod compare;
 pub mod desk;
 pub mod framing;
+pub mod gateway;
 pub mod gen;
 pub mod lines;
 pub mod listing;

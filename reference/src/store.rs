@@ -1,6 +1,6 @@
-//! The programs' stored inputs and expected outputs.
+//! The stored inputs and expected outputs of the programs and of a C example.
 
-use crate::{gen, programs, tree_text};
+use crate::{gateway, gen, programs, tree_text};
 use std::path::{Path, PathBuf};
 
 /// Every stored file, from the repository's root, with what it must hold.
@@ -8,6 +8,8 @@ fn files() -> Vec<(&'static str, Vec<u8>)> {
     let frames = gen::frames::stored();
     let octets = gen::octets::stored();
     let tree = gen::tree::requests::stored();
+    let stream = gateway::stream();
+    let (passed, counts) = gateway::gateway(&stream);
     vec![
         ("crates/frames/stdout", programs::frames(&frames).into_bytes()),
         ("crates/frames/stdin", frames),
@@ -15,6 +17,9 @@ fn files() -> Vec<(&'static str, Vec<u8>)> {
         ("crates/octets/stdin", octets),
         ("crates/tree/stdout", tree_text::trees(&tree).into_bytes()),
         ("crates/tree/stdin", tree),
+        ("examples/gateway/check/passed.hex", gateway::hex_lines(&passed)),
+        ("examples/gateway/check/counts", counts.into_bytes()),
+        ("examples/gateway/check/stream.hex", gateway::hex_lines(&stream)),
     ]
 }
 
@@ -42,7 +47,7 @@ pub fn command(words: &[&str]) -> i32 {
     for (name, bytes) in files() {
         let path = root.join(name);
         if !path.parent().is_some_and(Path::is_dir) {
-            println!("skipped  {name}: no such crate");
+            println!("skipped  {name}: no such folder");
             continue;
         }
         if std::fs::read(&path).is_ok_and(|old| old == bytes) {
