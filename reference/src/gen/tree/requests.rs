@@ -243,6 +243,11 @@ fn malformed(random: &mut Random) -> Vec<u8> {
     if random.one_in(2) {
         return random.pick(MALFORMED).as_bytes().to_vec();
     }
+    if random.one_in(40) {
+        // Longer than any request, with one at its end.
+        let digits = 2 * random.pick(&[MESSAGE_MAX + 2, MESSAGE_MAX + 60, 20_000, 32_800, 66_000]);
+        return too_long(digits);
+    }
     let message = rules::notation("60{6B{A0{62{A0{020120}}}}}").0;
     let mut text = line(random, random.clone().pick(&[None, Some(256), Some(3)]), &message);
     let at = random.below(text.len() + 1);
@@ -253,6 +258,11 @@ fn malformed(random: &mut Random) -> Vec<u8> {
         text[at] = byte;
     }
     text
+}
+
+/// A line of that many digits and then what would be a request of its own.
+fn too_long(digits: usize) -> Vec<u8> {
+    format!("read 300 {} read 60026B00", "0".repeat(digits)).into_bytes()
 }
 
 /// An input of `count` requests, and how many there are of each kind.
@@ -305,9 +315,11 @@ pub fn stored() -> Vec<u8> {
     list.extend(MALFORMED.iter().chain(ODD).map(|line| line.as_bytes().to_vec()));
     // One byte more than a request may hold.
     list.push(format!("read {}", "00".repeat(MESSAGE_MAX + 2)).into_bytes());
+    list.push(too_long(2 * MESSAGE_MAX + 400));
+    list.push(b"read 1 60026B00".to_vec());
     let mut requests = Requests::new(301);
     let mut drawn = 0;
-    while drawn < 900 {
+    while drawn < 600 {
         let (line, _) = requests.request();
         if line.len() <= 400 {
             list.push(line);
