@@ -1,9 +1,11 @@
 //! The Glow tree reader: the proved one, if its library is there, beside one in plain safe Rust.
-//! `bench tree [ROUNDS]`: nanoseconds a message and megabytes a second, on each of the inputs.
+//! `bench tree [ROUNDS]`: nanoseconds a message and megabytes a second, on each of the inputs. `bench stack`: the stack
+//! that a call needs.
 mod inputs;
 mod plain;
 #[cfg(glow)]
 mod proved;
+pub mod stack;
 #[cfg(test)]
 mod tests;
 
