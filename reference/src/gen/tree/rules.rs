@@ -660,11 +660,8 @@ fn members(c: &mut Cases) {
     for (tag, numbers) in [("61", 16u8), ("63", 8), ("6D", 10)] {
         for number in 0..numbers {
             for value in values {
-                let (expected, message) = one_member(
-                    contents_rule(tag, number),
-                    |place| contents(tag, &format!("{}A{number:X}{{{}{value}}}", place.0, place.1)),
-                    value,
-                );
+                let (expected, message) =
+                    one_member(contents_rule(tag, number), |mark| contents(tag, &format!("A{number:X}{{{mark}{value}}}")), value);
                 c.add("contents: what stands at each context number", &expected, &message);
             }
         }
@@ -680,13 +677,12 @@ fn members(c: &mut Cases) {
                     ('m', 5) => Some("30"),
                     _ => None,
                 };
-                let (expected, message) =
-                    one_member(rule, |place| element(tag, &format!("{}A{number}{{{}{value}}}", place.0, place.1)), value);
+                let (expected, message) = one_member(rule, |mark| element(tag, &format!("A{number}{{{mark}{value}}}")), value);
                 c.add("elements and commands: what stands at each context number", &expected, &message);
             }
             let rule = [Some("0D"), Some("02"), None][usize::from(number - 1).min(2)];
             let (expected, message) =
-                one_member(rule, |place| connection(&format!("A0{{020101}}{}A{number}{{{}{value}}}", place.0, place.1)), value);
+                one_member(rule, |mark| connection(&format!("A0{{020101}}A{number}{{{mark}{value}}}")), value);
             c.add("connections: what stands at each context number", &expected.replace("elements 1", "elements 2"), &message);
         }
     }
@@ -820,18 +816,18 @@ fn contents_rule(tag: &str, number: u8) -> Option<&'static str> {
     }
 }
 
-/// The expected answer, and the message with its mark, of one member that holds `value`. `build` takes what stands
-/// before the outer tag and before the value.
-fn one_member(rule: Option<&str>, build: impl Fn((&str, &str)) -> String, value: &str) -> (String, String) {
+/// The expected answer, and the message, of one member that holds `value`. `build` takes the mark that stands before the
+/// value, or nothing.
+fn one_member(rule: Option<&str>, build: impl Fn(&str) -> String, value: &str) -> (String, String) {
     let right = match rule {
         None => true,
         Some("any") => ["01", "02", "04", "09", "0C"].iter().any(|tag| value.starts_with(tag)),
         Some(tag) => value.starts_with(tag),
     };
     if right {
-        ("0 elements 1".to_string(), build(("", "")))
+        ("0 elements 1".to_string(), build(""))
     } else {
-        ("33".to_string(), build(("", "^")))
+        ("33".to_string(), build("^"))
     }
 }
 
