@@ -10,4 +10,10 @@ fn main() {
     println!("cargo:rerun-if-changed={}", folder.join("libframing_c.a").display());
     println!("cargo:rustc-link-search=native={}", folder.display());
     println!("cargo:rustc-link-lib=static=framing_c");
+    // The proved tree reader takes part where its library is.
+    println!("cargo:rerun-if-changed={}", folder.join("libglow_c.a").display());
+    if folder.join("libglow_c.a").exists() {
+        println!("cargo:rustc-cfg=glow");
+        println!("cargo:rustc-link-lib=static=glow_c");
+    }
 }

@@ -1,5 +1,7 @@
 //! The proved session (the static library) beside two in safe Rust, a plain one and one with the proved one's strides, on
-//! three streams: megabytes a second of each, and the ratios. `bench [MEGABYTES [CHUNK]]`, 16 and 65,536 if not given.
+//! three streams: megabytes a second of each, and the ratios. `bench [MEGABYTES [CHUNK]]`, 16 and 65,536 if not given;
+//! `bench tree [ROUNDS]` and `bench stack` measure the tree readers.
+mod glow;
 mod inputs;
 mod plain;
 mod proved;
@@ -65,7 +67,15 @@ fn pass<R: Reader>(reader: &mut R, stream: &[u8], chunk: usize) -> f64 {
 }
 
 fn main() {
-    let mut words = std::env::args().skip(1).map(|word| word.parse().expect("a number"));
+    let mut words = std::env::args().skip(1).peekable();
+    if words.next_if(|word| word == "tree").is_some() {
+        let rounds = words.next().map_or(1_000, |word| word.parse().expect("a number"));
+        return glow::main(rounds);
+    }
+    if words.next_if(|word| word == "stack").is_some() {
+        return glow::stack::main(words.map(|word| word.parse().expect("a number")).collect());
+    }
+    let mut words = words.map(|word| word.parse().expect("a number"));
     let megabytes: usize = words.next().unwrap_or(16);
     let chunk: usize = words.next().unwrap_or(65536);
     let passes = 15;

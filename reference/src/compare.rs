@@ -1,7 +1,7 @@
 //! The proved programs beside this decoder, on fresh cases.
 
 use crate::gen::{self, case_seed};
-use crate::{lines, listing, programs};
+use crate::{lines, listing, programs, tree_text};
 use std::collections::BTreeMap;
 use std::io::{Read, Write};
 use std::path::{Path, PathBuf};
@@ -10,10 +10,10 @@ use std::sync::mpsc;
 use std::time::{Duration, Instant};
 
 const USAGE: &str = "usage: reference compare ROOT NAME... [--seed S] [--count N] [--seconds T] [--program PATH]
-NAME is frames, octets or listing; the program is ROOT/target/bin/NAME unless --program names it
+NAME is frames, octets, tree or listing; the program is ROOT/target/bin/NAME unless --program names it
 ";
 
-/// Requests in one run of `octets`.
+/// Requests in one run of `octets` or `tree`.
 const BATCH: usize = 1_000;
 /// The longest that one run of a program may take.
 const RUN_LIMIT: Duration = Duration::from_secs(20);
@@ -95,6 +95,12 @@ fn case(name: &str, seed: u64, left: u64) -> Option<Case> {
             let expected = programs::octets(&input);
             with(input, expected, gen::octets::KINDS.into_iter().zip(kinds).collect(), size as u64, size)
         }
+        "tree" => {
+            let size = BATCH.min(left as usize);
+            let (input, kinds) = gen::tree::requests::input(seed, size);
+            let expected = tree_text::trees(&input);
+            with(input, expected, gen::tree::requests::KINDS.into_iter().zip(kinds).collect(), size as u64, size)
+        }
         "listing" => {
             let size = 1 + (seed % 12) as usize;
             let (input, kinds) = gen::tree::listing_input(seed, size);
@@ -157,6 +163,10 @@ fn one(name: &str, path: &Path, plan: &Plan) -> i32 {
 fn answer_kind(name: &str, line: &str) -> String {
     let words: Vec<&str> = line.split(' ').collect();
     match (name, words.as_slice()) {
+        ("tree", ["0", "elements" | "streams", _]) => format!("{} {}", words[0], words[1]),
+        ("tree", ["1"]) => "1".to_string(),
+        ("tree", [number, _]) if *number != "bad" => number.to_string(),
+        ("tree", [_, _, kind, ..]) => format!("an entry, {kind}"),
         (_, ["bad", "line"]) => "bad line".to_string(),
         (_, ["end", ..]) => "end".to_string(),
         ("frames", [_, number, ..]) => format!("event {number:0>2}"),
@@ -181,6 +191,19 @@ fn show_difference(name: &str, case: &Case, actual: &[u8]) {
     if name == "octets" {
         println!("  request: {}", shown(lines::lines(&case.input).get(at)));
         return;
+    }
+    if name == "tree" {
+        // Answers have several lines.
+        let mut before = 0;
+        for request in lines::lines(&case.input) {
+            let answer = tree_text::answer(request);
+            before += answer.lines().count();
+            if before > at {
+                println!("  request: {}", String::from_utf8_lossy(request));
+                print!("  answer of the decoder: {answer}");
+                return;
+            }
+        }
     }
     println!("--- input");
     println!("{}", String::from_utf8_lossy(&case.input));

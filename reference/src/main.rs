@@ -1,24 +1,12 @@
 //! The command `reference`: an independent reading of document 01.
 
-mod compare;
-mod desk;
-mod framing;
-mod gen;
-mod lines;
-mod listing;
-mod programs;
-mod sheet;
-mod store;
-mod tree;
-mod tree_writer;
-mod values;
-
+use reference::{compare, gen, listing, programs, store, tree_text};
 use std::io::{Read, Write};
 use std::process::exit;
 
 const USAGE: &str = "usage:
-  reference frames|octets|listing|tree|desk|sheet < input
-  reference generate frames|octets|listing|messages|desk SEED COUNT
+  reference frames|octets|listing|tree|rewrite|desk|sheet < input
+  reference generate frames|octets|tree|listing|messages|desk SEED COUNT
   reference generate sheet SEED DAMAGES
   reference store [--check] [ROOT]
   reference compare ROOT NAME... [--seed S] [--count N] [--seconds T] [--program PATH]
@@ -31,7 +19,8 @@ fn main() {
         ["frames"] => print(programs::frames(&input()).as_bytes()),
         ["listing"] => print(listing::listing(&input()).as_bytes()),
         ["octets"] => print(programs::octets(&input()).as_bytes()),
-        ["tree"] => print(programs::trees(&input()).as_bytes()),
+        ["tree"] => print(tree_text::trees(&input()).as_bytes()),
+        ["rewrite"] => print(programs::trees(&input()).as_bytes()),
         ["desk"] => print(programs::desks(&input()).as_bytes()),
         ["sheet"] => print(programs::sheets(&input()).as_bytes()),
         ["generate", kind, seed, count] => {
@@ -41,6 +30,7 @@ fn main() {
                 "frames" => print(&gen::frames::input(seed, count).0),
                 "octets" => print(&gen::octets::input(seed, count).0),
                 "listing" => print(&gen::tree::listing_input(seed, count).0),
+                "tree" => print(&gen::tree::requests::input(seed, count).0),
                 "messages" => print(&gen::tree::messages(seed, count)),
                 "desk" => print(&gen::desk::script(seed, count)),
                 "sheet" => print(&gen::desk::sheet_text(seed, count)),

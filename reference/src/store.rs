@@ -1,17 +1,25 @@
-//! The programs' stored inputs and expected outputs.
+//! The stored inputs and expected outputs of the programs and of a C example.
 
-use crate::{gen, programs};
+use crate::{gateway, gen, programs, tree_text};
 use std::path::{Path, PathBuf};
 
 /// Every stored file, from the repository's root, with what it must hold.
 fn files() -> Vec<(&'static str, Vec<u8>)> {
     let frames = gen::frames::stored();
     let octets = gen::octets::stored();
+    let tree = gen::tree::requests::stored();
+    let stream = gateway::stream();
+    let (passed, counts) = gateway::gateway(&stream);
     vec![
         ("crates/frames/stdout", programs::frames(&frames).into_bytes()),
         ("crates/frames/stdin", frames),
         ("crates/octets/stdout", programs::octets(&octets).into_bytes()),
         ("crates/octets/stdin", octets),
+        ("crates/tree/stdout", tree_text::trees(&tree).into_bytes()),
+        ("crates/tree/stdin", tree),
+        ("examples/gateway/check/passed.hex", gateway::hex_lines(&passed)),
+        ("examples/gateway/check/counts", counts.into_bytes()),
+        ("examples/gateway/check/stream.hex", gateway::hex_lines(&stream)),
     ]
 }
 
@@ -38,6 +46,10 @@ pub fn command(words: &[&str]) -> i32 {
     let mut changed = 0;
     for (name, bytes) in files() {
         let path = root.join(name);
+        if !path.parent().is_some_and(Path::is_dir) {
+            println!("skipped  {name}: no such folder");
+            continue;
+        }
         if std::fs::read(&path).is_ok_and(|old| old == bytes) {
             println!("same     {name} ({} bytes)", bytes.len());
             continue;
@@ -47,8 +59,7 @@ pub fn command(words: &[&str]) -> i32 {
             println!("differs  {name}");
             continue;
         }
-        let written = std::fs::create_dir_all(path.parent().unwrap()).and_then(|()| std::fs::write(&path, &bytes));
-        if let Err(error) = written {
+        if let Err(error) = std::fs::write(&path, &bytes) {
             eprintln!("store: {name}: {error}");
             return 2;
         }

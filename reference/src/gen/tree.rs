@@ -1,5 +1,8 @@
 //! Messages: drawn trees in every legal spelling, and changes of them; streams of them for the listing.
 
+pub mod requests;
+pub mod rules;
+
 use super::{bad_hex_line, chunked, mutate_bytes, Random};
 use crate::framing::{packet, write_frame, write_keep_alive, MESSAGE_MAX};
 use crate::lines::hex;

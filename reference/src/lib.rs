@@ -1,0 +1,16 @@
+//! An independent reading of document 01: the decoder, its programs and their generators.
+
+pub mod compare;
+pub mod desk;
+pub mod framing;
+pub mod gateway;
+pub mod gen;
+pub mod lines;
+pub mod listing;
+pub mod programs;
+pub mod sheet;
+pub mod store;
+pub mod tree;
+pub mod tree_text;
+pub mod tree_writer;
+pub mod values;
