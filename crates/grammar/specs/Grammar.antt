@@ -168,3 +168,19 @@ kindAmong (kind ∷ kinds) number =
 
 unfoldable pub kindIn : ℕ → ℕ → ℕ
 kindIn which number = kindAmong (getD holds which []) number
+
+-- The tag around what a member holds: contents are a set (universal 17), children an ElementCollection (application 4), connections a sequence
+-- (universal 16).
+unfoldable pub innerClass : ℕ → ℕ
+innerClass what = pick (eqb what kids) 1 0
+
+unfoldable pub innerNumber : ℕ → ℕ
+innerNumber what = pick (eqb what body) 17 (pick (eqb what kids) 4 16)
+
+-- the collection that a member holds
+unfoldable pub collectionOf : ℕ → ℕ
+collectionOf what = pick (eqb what kids) children connections
+
+-- Root's collection by its application number: "StreamCollection 5, .. RootElementCollection 11"; 4 is none
+unfoldable pub rootOf : ℕ → ℕ
+rootOf number = pick (eqb number 11) rootElements (pick (eqb number 5) streams 4)

@@ -1,0 +1,4 @@
+pub mod Laws
+pub mod Ways
+pub mod Rooted
+pub mod Held

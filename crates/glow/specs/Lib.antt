@@ -1,0 +1,4 @@
+pub mod Members
+pub mod Tree
+pub mod Message
+pub mod Progress

@@ -1,0 +1,100 @@
+-- A whole message, and what the reader answers (document 01, "Glow" and "Numbers answered").
+use Prim.Native.Nat.{ℕ, suc, _-_}
+use mathlib.Core.List.{List, []}
+use mathlib.Core.Bool.{Bool, true, false}
+use lib.ListN.{length}
+use lib.Dec.{leb, ltb, eqb}
+use Rattle.integers.specs.Digits.{pick}
+use Rattle.containers.specs.declared.Open.{Open}
+use Rattle.containers.specs.declared.Tag.{Tag}
+use Rattle.containers.specs.declared.Stands.{Stands}
+use Rattle.containers.specs.declared.Stands.the-variants.{Ended, Here, Refused}
+use Rattle.containers.specs.declared.Found.{Found}
+use Rattle.containers.specs.declared.Found.the-variants.{Value, Refused as NotFound}
+use Rattle.containers.specs.declared.Onto.{Onto}
+use Rattle.containers.specs.declared.Onto.the-variants.{Next, Refused as Stopped}
+use Rattle.containers.specs.Ends.{no, enterAt, firstAt, isTag}
+use Rattle.entries.specs.Entry.{Entries, Rows, overlay}
+use Rattle.grammar.specs.Grammar.{rootOf}
+use Rattle.glow.specs.declared.Top.{Top}
+use Rattle.glow.specs.declared.Top.the-variants.{Root, Refused as NoRoot}
+use Rattle.glow.specs.declared.Answer.{Answer}
+use Rattle.glow.specs.declared.Answer.the-variants.{Setup, Refused as No, Room, Read}
+use Rattle.glow.specs.Tree.{Out, out, closed, itemsBy}
+
+-- "(the message is none)": the message itself is no container, so nothing passes its end
+abbrev pub unbounded : Open
+unbounded = record { definite = 1; end = 18446744073709551615 }
+
+-- the collection in Root, by its application number; 4 is none
+unfoldable pub rootKind : Tag → ℕ
+rootKind g = pick (isTag g 1 1 (g .number)) (rootOf (g .number)) 4
+
+abbrev pub rootIn : Tag → Found → Top
+rootIn t (Value g) = pick (eqb (rootKind g) 4) (NoRoot (no 33 (t .start))) (Root (rootKind g) (t .inner) g)
+rootIn t (NotFound e) = NoRoot e
+
+-- "Root 0"
+abbrev pub topOf : List ℕ → Stands → Top
+topOf s (Ended next) = NoRoot (no 33 0)
+topOf s (Here t) = pick (isTag t 1 1 0) (rootIn t (firstAt s (t .start) (t .inner) 63)) (NoRoot (no 33 0))
+topOf s (Refused e) = NoRoot e
+
+-- "At most 64 containers, outer tags among them"
+unfoldable pub topAt : List ℕ → Top
+topAt s = topOf s (enterAt s 0 unbounded 64)
+
+-- "30 BER: .. bytes .. left after Root"
+unfoldable pub finished : List ℕ → Onto → Onto
+finished s (Next next) = pick (eqb next (length s)) (Next next) (Stopped (no 30 next))
+finished s (Stopped e) = Stopped e
+
+-- Root's collection, and what was read of it
+pub record Walk : Type 0 where
+  pub which : ℕ
+  pub out : Out
+
+abbrev pub walkOf : List ℕ → Top → Walk
+walkOf s (Root which outer g) =
+    let x : Out = itemsBy (suc (length s)) s 62 (g .inner) which 0 0 (g .start) [] in
+    record { which = which; out = out (finished s (closed s outer 63 (x .answer))) (x .entries) }
+walkOf s (NoRoot e) = record { which = 0; out = out (Stopped e) [] }
+
+unfoldable pub walk : List ℕ → Walk
+walk s = walkOf s (topAt s)
+
+-- What the reader answers, for each case document 01's number and values: "The answer names Root's kind."
+pub record Said : Type 0 where
+  pub number : ℕ
+  pub place : ℕ  -- of a refusal from 30 to 37 (request 09)
+  pub count : ℕ  -- of entries read, or "38 ROOM: .. says how many"
+  pub root : ℕ  -- of a message that is read: 0 elements, 3 streams
+
+abbrev pub saidBy : Answer → Said
+saidBy Setup = record { number = 1; place = 0; count = 0; root = 0 }
+saidBy (No number place) = record { number = number; place = place; count = 0; root = 0 }
+saidBy (Room count) = record { number = 38; place = 0; count = count; root = 0 }
+saidBy (Read root count) = record { number = 0; place = 0; count = count; root = root }
+
+-- the answer, and the lent table after it
+pub record Result : Type 0 where
+  pub answer : Answer
+  pub said : Said
+  pub rows : Rows
+
+abbrev pub result : Answer → Rows → Result
+result a rows = record { answer = a; said = saidBy a; rows = rows }
+
+-- "1 SETUP: .. table over 256 entries, message over 16,384 bytes"
+unfoldable pub setup : ℕ → ℕ → Bool
+setup bytes rows = pick (ltb 256 rows) true (ltb 16384 bytes)
+
+-- "38 ROOM: message right, table too small"; "30 to 38 leave table and desk .. as they were"; "entries past the answer's count are untouched"
+abbrev pub readOf : Rows → ℕ → Entries → Onto → Result
+readOf rows which es (Next next) = pick (ltb (length rows) (length es)) (result (Room (length es)) rows) (result (Read which (length es)) (overlay es rows))
+readOf rows which es (Stopped e) = result (No (e .0) (e .1)) rows
+
+unfoldable pub readAt : List ℕ → Rows → Result
+readAt s rows =
+    let w : Walk = walk s in
+    pick (setup (length s) (length rows)) (result Setup rows) (readOf rows (w .which) (w .out .entries) (w .out .answer))

@@ -1,0 +1,594 @@
+// The Glow tree: a message read into entries, rows of a lent table.
+use containers::Found;
+use containers::No;
+use containers::Onto;
+use containers::Open;
+use containers::Stands;
+use containers::Tag;
+use entries::Cell;
+use grammar::Leaf;
+ghost use Prim.Native.Nat.{_+_, _-_, _≤_, _<_};
+ghost use mathlib.Core.Path.{_≡_};
+ghost use lib.ListN.{length};
+ghost use Rattle.containers.specs.Progress.{Ahead};
+ghost use Rattle.grammar.specs.Grammar.{ruleOf, innerClass, innerNumber, collectionOf, rootOf};
+ghost use Rattle.glow.specs.Members.{marked, mark, due, inOrder, again, afterListed, afterOther, column};
+ghost use Rattle.glow.specs.Members.{plainAt, innerAt, listedAt, ruledAt, memberAt, kindOf, itemAt};
+ghost use Rattle.glow.specs.Message.{rootKind, topAt, result, readAt};
+ghost use Rattle.glow.specs.Progress.{MemberOnward, InnerOnward, ItemOnward, WalkedOnward, Keeps, Closes, Finishes, MembersFill, ItemsFill, MessageFill};
+
+// One turn of the members of a row: the end; a member passed over; a value for a cell; contents or a collection to go into.
+pub enum Member {
+    Done(usize),
+    Over(u64, usize),
+    Leaf(u64, usize, Cell, usize, usize),
+    Contents(u64, Open, Tag, usize),
+    Items(u64, u64, Open, Tag, usize),
+    Refused(No),
+}
+
+// One turn of a collection: the end, or an element to go into.
+pub enum Item {
+    Done(usize),
+    Element(u64, Open, Tag, usize),
+    Refused(No),
+}
+
+// The place after what was read, and the count of entries so far.
+pub enum Walked {
+    Read(usize, usize),
+    Refused(No),
+}
+
+// Root's collection, the outer tag around it, and its own.
+pub enum Top {
+    Root(u64, Open, Tag),
+    Refused(No),
+}
+
+// A whole message: Root's collection and the count of entries.
+pub enum Whole {
+    Read(u64, usize),
+    Refused(No),
+}
+
+// What the reader answers.
+pub enum Answer {
+    Setup,
+    Refused { number: u64, place: usize },
+    Room { count: usize },
+    Read { root: u64, count: usize },
+}
+
+// Whether the listed member n of a set came before.
+fn is_marked(before: u64, n: u64) -> bool
+    requires { ⌜ n < 16 ⌝ }
+    ensures { λ r. ⌜ marked before n ≡ r ⌝ }
+{
+    (before >> n) % 2 == 1
+}
+
+fn marking(before: u64, n: u64) -> u64
+    requires { ⌜ n < 16 ⌝ }
+    ensures { λ r. ⌜ mark before n ≡ r ⌝ }
+{
+    before | (1 << n)
+}
+
+// Whether a required member is missing before number n.
+fn is_due(row: u64, before: u64, n: u64) -> bool
+    ensures { λ r. ⌜ due row before n ≡ r ⌝ }
+{
+    if before < grammar::required_of(row) {
+        return before < n;
+    }
+    false
+}
+
+fn in_order(row: u64, before: u64, n: u64) -> bool
+    ensures { λ r. ⌜ inOrder row before n ≡ r ⌝ }
+{
+    if grammar::is_set(row) {
+        return true;
+    }
+    if before <= n {
+        return !is_due(row, before, n);
+    }
+    false
+}
+
+fn is_again(row: u64, before: u64, n: u64) -> bool
+    requires { ⌜ n < 16 ⌝ }
+    ensures { λ r. ⌜ again row before n ≡ r ⌝ }
+{
+    if grammar::is_set(row) {
+        return is_marked(before, n);
+    }
+    false
+}
+
+fn after_listed(row: u64, before: u64, n: u64) -> u64
+    requires { ⌜ n < 16 ⌝ }
+    ensures { λ r. ⌜ afterListed row before n ≡ r ⌝ }
+{
+    if grammar::is_set(row) {
+        return marking(before, n);
+    }
+    n + 1
+}
+
+fn after_other(row: u64, before: u64, n: u64) -> u64
+    requires { ⌜ n < 268435456 ⌝ }
+    ensures { λ r. ⌜ afterOther row before n ≡ r ⌝ }
+{
+    if grammar::is_set(row) {
+        return before;
+    }
+    n + 1
+}
+
+fn count(x: u64) -> usize
+    ensures { λ r. ⌜ r ≡ x ⌝ }
+{
+    x as usize
+}
+
+// The cell that keeps the member n.
+fn column_of(row: u64, n: u64) -> usize
+    requires { ⌜ n < 16 ⌝ }
+    ensures { λ r. ⌜ column row n ≡ r ⌝ }
+{
+    if grammar::is_set(row) {
+        return count(n) + 1;
+    }
+    count(n)
+}
+
+// The value g of a member t that holds one value.
+fn plain(
+    s: &[u8],
+    t: Tag,
+    k: usize,
+    g: Tag,
+    what: u64,
+    above: usize,
+    after: u64,
+    c: usize,
+) -> Member
+    requires { ⌜ Ahead (now s) (t .start) g ⌝ }
+    ensures { λ r. ⌜ plainAt (now (s .entry)) t k g what above after c ≡ r ⌝ }
+    ensures { λ r. ⌜ MemberOnward (now (s .entry)) (t .start) r ⌝ }
+{
+    let at = t.start;
+    if !containers::is_tag(g, 0, 0, g.number) {
+        return Member::Refused(No(33, at));
+    }
+    let start = g.start;
+    let inner = g.inner;
+    let end = inner.end;
+    match grammar::read_leaf(s, at, g.number, start, end - start, what, above) {
+        Leaf::Refused(number, place) => Member::Refused(No(number, place)),
+        Leaf::Kept(v, path) => {
+            let outer = t.inner;
+            match containers::last(s, end, outer, k) {
+                Onto::Refused(e) => Member::Refused(e),
+                Onto::Next(next) => Member::Leaf(after, c, v, path, next),
+            }
+        }
+    }
+}
+
+fn inner_class(what: u64) -> u64
+    ensures { λ r. ⌜ innerClass what ≡ r ⌝ }
+{
+    if what == 14 { 1 } else { 0 }
+}
+
+fn inner_number(what: u64) -> u64
+    ensures { λ r. ⌜ innerNumber what ≡ r ⌝ }
+{
+    if what == 13 {
+        return 17;
+    }
+    if what == 14 { 4 } else { 16 }
+}
+
+fn collection_of(what: u64) -> u64
+    ensures { λ r. ⌜ collectionOf what ≡ r ⌝ }
+{
+    if what == 14 { 1 } else { 2 }
+}
+
+// The value g of a member t that holds contents or a collection.
+fn inner(t: Tag, k: usize, g: Tag, what: u64, after: u64) -> Member
+    ensures { λ r. ⌜ innerAt t k g what after ≡ r ⌝ }
+    ensures { λ r. ⌜ InnerOnward (g .start) r ⌝ }
+{
+    let outer = t.inner;
+    if !containers::is_tag(g, inner_class(what), 1, inner_number(what)) {
+        return Member::Refused(No(33, t.start));
+    }
+    if what == 13 {
+        return Member::Contents(after, outer, g, k);
+    }
+    Member::Items(after, collection_of(what), outer, g, k)
+}
+
+// A listed member.
+fn listed(s: &[u8], t: Tag, k: usize, what: u64, above: usize, after: u64, c: usize) -> Member
+    ensures { λ r. ⌜ listedAt (now (s .entry)) t k what above after c ≡ r ⌝ }
+    ensures { λ r. ⌜ MemberOnward (now (s .entry)) (t .start) r ⌝ }
+{
+    match containers::first(s, t.start, t.inner, k) {
+        Found::Refused(e) => Member::Refused(e),
+        Found::Value(g) => {
+            if 13 <= what {
+                return inner(t, k, g, what, after);
+            }
+            plain(s, t, k, g, what, above, after, c)
+        }
+    }
+}
+
+// The tag t of a member, at p, by what stands there.
+fn ruled(s: &[u8], p: usize, t: Tag, k: usize, row: u64, above: usize, before: u64) -> Member
+    requires { ⌜ Ahead (now s) p t ⌝ }
+    ensures { λ r. ⌜ ruledAt (now (s .entry)) p t k row above before (ruleOf row (t .number)) ≡ r ⌝ }
+    ensures { λ r. ⌜ MemberOnward (now (s .entry)) p r ⌝ }
+{
+    let n = t.number;
+    let what = grammar::rule_of(row, n);
+    if what == 0 {
+        let after = after_other(row, before, n);
+        match containers::passed(s, t, k) {
+            Onto::Refused(e) => {
+                return Member::Refused(e);
+            }
+            Onto::Next(next) => {
+                return Member::Over(after, next);
+            }
+        }
+    }
+    if t.constructed != 1 {
+        return Member::Refused(No(33, p));
+    }
+    if is_again(row, before, n) {
+        return Member::Refused(No(33, p));
+    }
+    listed(
+        s,
+        t,
+        k,
+        what,
+        above,
+        after_listed(row, before, n),
+        column_of(row, n),
+    )
+}
+
+// One turn of the members of a row.
+fn member_at(s: &[u8], p: usize, o: Open, k: usize, row: u64, above: usize, before: u64) -> Member
+    ensures { λ r. ⌜ memberAt (now (s .entry)) p o k row above before ≡ r ⌝ }
+    ensures { λ r. ⌜ MemberOnward (now (s .entry)) p r ⌝ }
+{
+    match containers::entering(s, p, o, k) {
+        Stands::Refused(e) => Member::Refused(e),
+        Stands::Ended(next) => {
+            if is_due(row, before, 268435456) {
+                return Member::Refused(No(33, p));
+            }
+            Member::Done(next)
+        }
+        Stands::Here(t) => {
+            if t.class != 2 {
+                return Member::Refused(No(33, p));
+            }
+            if in_order(row, before, t.number) {
+                return ruled(s, p, t, containers::less(k), row, above, before);
+            }
+            Member::Refused(No(33, p))
+        }
+    }
+}
+
+fn kind_of(which: u64, g: Tag) -> u64
+    ensures { λ r. ⌜ kindOf which g ≡ r ⌝ }
+{
+    if containers::is_tag(g, 1, 1, g.number) {
+        return grammar::kind_in(which, g.number);
+    }
+    0
+}
+
+// One turn of a collection.
+fn item_at(s: &[u8], p: usize, o: Open, k: usize, which: u64) -> Item
+    ensures { λ r. ⌜ itemAt (now (s .entry)) p o k which ≡ r ⌝ }
+    ensures { λ r. ⌜ ItemOnward (now (s .entry)) p r ⌝ }
+{
+    match containers::entering(s, p, o, k) {
+        Stands::Refused(e) => Item::Refused(e),
+        Stands::Ended(next) => Item::Done(next),
+        Stands::Here(t) => {
+            if !containers::is_tag(t, 2, 1, 0) {
+                return Item::Refused(No(33, p));
+            }
+            let start = t.start;
+            let outer = t.inner;
+            let left = containers::less(k);
+            match containers::first(s, start, outer, left) {
+                Found::Refused(e) => Item::Refused(e),
+                Found::Value(g) => {
+                    let kind = kind_of(which, g);
+                    if kind == 0 {
+                        return Item::Refused(No(33, start));
+                    }
+                    Item::Element(kind, outer, g, left)
+                }
+            }
+        }
+    }
+}
+
+// What was read in an outer tag is the one thing that it holds.
+fn close(s: &[u8], outer: Open, k: usize, w: Walked) -> Walked
+    ensures { λ r. ⌜ Closes (now (s .entry)) outer k w r ⌝ }
+    ensures { λ r. ⌜ Keeps w r ⌝ }
+{
+    match w {
+        Walked::Refused(e) => Walked::Refused(e),
+        Walked::Read(next, count) => match containers::last(s, next, outer, k) {
+            Onto::Refused(e) => Walked::Refused(e),
+            Onto::Next(q) => Walked::Read(q, count),
+        },
+    }
+}
+
+fn word(x: usize) -> u64
+    ensures { λ r. ⌜ r ≡ x ⌝ }
+{
+    x as u64
+}
+
+// The members of a row from a place on, for the entry `me`; n entries before them.
+fn element(
+    s: &[u8],
+    from: usize,
+    o: Open,
+    k: usize,
+    row: u64,
+    me: usize,
+    path: usize,
+    n: usize,
+    table: &mut [[u64; 50]],
+) -> Walked
+    requires { ⌜ (me < n) × (n ≤ from) ⌝ }
+    ensures { λ r. ⌜ MembersFill (now (s .entry)) k o row me path from n (now (table .entry)) (now (table .exit)) r ⌝ }
+    ensures { λ r. ⌜ WalkedOnward from n r ⌝ }
+{
+    let parent = me + 1;
+    let mut p = from;
+    let mut before: u64 = 0;
+    let mut above = path;
+    let mut count = n;
+    loop {
+        match member_at(s, p, o, k, row, above, before) {
+            Member::Done(next) => {
+                return Walked::Read(next, count);
+            }
+            Member::Refused(e) => {
+                return Walked::Refused(e);
+            }
+            Member::Over(after, next) => {
+                before = after;
+                p = next;
+            }
+            Member::Leaf(after, c, v, numbers, next) => {
+                entries::put_cell(table, me, c, v);
+                before = after;
+                above = numbers;
+                p = next;
+            }
+            Member::Contents(after, outer, set, left) => {
+                let w = element(
+                    s,
+                    set.start,
+                    set.inner,
+                    containers::less(left),
+                    grammar::contents_of(row),
+                    me,
+                    above,
+                    count,
+                    table,
+                );
+                match close(s, outer, left, w) {
+                    Walked::Refused(e) => {
+                        return Walked::Refused(e);
+                    }
+                    Walked::Read(next, c) => {
+                        before = after;
+                        p = next;
+                        count = c;
+                    }
+                }
+            }
+            Member::Items(after, which, outer, list, left) => {
+                let w = items(
+                    s,
+                    list.start,
+                    list.inner,
+                    containers::less(left),
+                    which,
+                    parent,
+                    above,
+                    count,
+                    table,
+                );
+                match close(s, outer, left, w) {
+                    Walked::Refused(e) => {
+                        return Walked::Refused(e);
+                    }
+                    Walked::Read(next, c) => {
+                        before = after;
+                        p = next;
+                        count = c;
+                    }
+                }
+            }
+        }
+    }
+}
+
+// The items of a collection from a place on, n entries before them.
+fn items(
+    s: &[u8],
+    from: usize,
+    o: Open,
+    k: usize,
+    which: u64,
+    parent: usize,
+    above: usize,
+    n: usize,
+    table: &mut [[u64; 50]],
+) -> Walked
+    requires { ⌜ n ≤ from ⌝ }
+    ensures { λ r. ⌜ ItemsFill (now (s .entry)) k o which parent above from n (now (table .entry)) (now (table .exit)) r ⌝ }
+    ensures { λ r. ⌜ WalkedOnward from n r ⌝ }
+{
+    let mut p = from;
+    let mut count = n;
+    loop {
+        match item_at(s, p, o, k, which) {
+            Item::Done(next) => {
+                return Walked::Read(next, count);
+            }
+            Item::Refused(e) => {
+                return Walked::Refused(e);
+            }
+            Item::Element(kind, outer, tag, left) => {
+                entries::blank(table, count, kind, word(parent));
+                let w = element(
+                    s,
+                    tag.start,
+                    tag.inner,
+                    containers::less(left),
+                    kind,
+                    count,
+                    above,
+                    count + 1,
+                    table,
+                );
+                match close(s, outer, left, w) {
+                    Walked::Refused(e) => {
+                        return Walked::Refused(e);
+                    }
+                    Walked::Read(next, c) => {
+                        p = next;
+                        count = c;
+                    }
+                }
+            }
+        }
+    }
+}
+
+fn root_number(number: u64) -> u64
+    ensures { λ r. ⌜ rootOf number ≡ r ⌝ }
+{
+    if number == 11 {
+        return 0;
+    }
+    if number == 5 { 3 } else { 4 }
+}
+
+fn root_kind(g: Tag) -> u64
+    ensures { λ r. ⌜ rootKind g ≡ r ⌝ }
+{
+    if containers::is_tag(g, 1, 1, g.number) {
+        return root_number(g.number);
+    }
+    4
+}
+
+// Root and the collection in it.
+fn root_of(s: &[u8]) -> Top
+    ensures { λ r. ⌜ topAt (now (s .entry)) ≡ r ⌝ }
+{
+    let all = Open {
+        definite: 1,
+        end: 18446744073709551615,
+    };
+    match containers::entering(s, 0, all, 64) {
+        Stands::Refused(e) => Top::Refused(e),
+        Stands::Ended(next) => Top::Refused(No(33, 0)),
+        Stands::Here(t) => {
+            if !containers::is_tag(t, 1, 1, 0) {
+                return Top::Refused(No(33, 0));
+            }
+            let start = t.start;
+            let outer = t.inner;
+            match containers::first(s, start, outer, 63) {
+                Found::Refused(e) => Top::Refused(e),
+                Found::Value(g) => {
+                    let which = root_kind(g);
+                    if which == 4 {
+                        return Top::Refused(No(33, start));
+                    }
+                    Top::Root(which, outer, g)
+                }
+            }
+        }
+    }
+}
+
+// Nothing is left after Root.
+fn finish(s: &[u8], which: u64, w: Walked) -> Whole
+    ensures { λ r. ⌜ Finishes (now (s .entry)) which w r ⌝ }
+{
+    match w {
+        Walked::Refused(e) => Whole::Refused(e),
+        Walked::Read(next, count) => {
+            if next == s.len() {
+                return Whole::Read(which, count);
+            }
+            Whole::Refused(No(30, next))
+        }
+    }
+}
+
+// A whole message into the rows that there are.
+fn message(s: &[u8], table: &mut [[u64; 50]]) -> Whole
+    ensures { λ r. ⌜ MessageFill (now (s .entry)) (now (table .entry)) (now (table .exit)) r ⌝ }
+{
+    match root_of(s) {
+        Top::Refused(e) => Whole::Refused(e),
+        Top::Root(which, outer, list) => {
+            let w = items(s, list.start, list.inner, 62, which, 0, 0, 0, table);
+            finish(s, which, close(s, outer, 63, w))
+        }
+    }
+}
+
+// Reads a message into the table's rows, one for each element, connection and stream entry. A refusal leaves the table as it was.
+pub fn read(s: &[u8], table: &mut [[u64; 50]]) -> Answer
+    ensures { λ r. ⌜ readAt (now (s .entry)) (now (table .entry)) ≡ result r (now (table .exit)) ⌝ }
+{
+    if 256 < table.len() {
+        return Answer::Setup;
+    }
+    if 16384 < s.len() {
+        return Answer::Setup;
+    }
+    match message(s, &mut table[..0]) {
+        Whole::Refused(e) => Answer::Refused {
+            number: e.0,
+            place: e.1,
+        },
+        Whole::Read(root, count) => {
+            if table.len() < count {
+                return Answer::Room { count };
+            }
+            let again = message(s, table);
+            Answer::Read { root, count }
+        }
+    }
+}
