@@ -1,6 +1,6 @@
 -- What was put into a row is read again: a law for each sort of member, over the cell, and one for a kind of entry.
-use Prim.Native.Nat.{ℕ, zero, suc, _+_, _-_, _*_, _≤_, _<_, _^_}
-use mathlib.Core.Path.{_≡_, refl, sym, ap, subst, _∙_}
+use Prim.Native.Nat.{ℕ, zero, suc, _+_, _-_, _*_, _≤_, _<_}
+use mathlib.Core.Path.{_≡_, refl, sym, ap, _∙_}
 use mathlib.Core.Bool.{Bool, true, false, not}
 use mathlib.Core.List.{List, [], _∷_, head-eq-of-cons-eq, cons-ne-nil}
 use native.Mathlib.Omega.{arith}

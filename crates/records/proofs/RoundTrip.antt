@@ -2,7 +2,6 @@
 -- entry is the row made of it (`parameter-made`), and a row that is told to be none's is no entry's (`parameter-none`); so for each kind.
 use Prim.Native.Nat.{ℕ}
 use mathlib.Core.Path.{_≡_, refl, sym, ap, _∙_}
-use mathlib.Core.Bool.{true, false}
 use mathlib.Core.List.{List, [], _∷_, cons-ne-nil}
 use native.Mathlib.Omega.{arith}
 use lib.Dec.{eqb}
@@ -53,7 +52,7 @@ parameterIn ParameterOther = []
 parameter-of : (e : Parameter) → HeldParameter e → parameterOf (parameterRow e) ≡ e
 unfolding parameterOf parameterRow
 parameter-of e h =
-    let k : ℕ = (keyKind (e .key) 1 5) in
+    let k : ℕ = keyKind (e .key) 1 5 in
     let p : ℕ = parentWord (e .parent) in
     let cs : List Cell = parameterCells e in
     rw (
@@ -89,7 +88,7 @@ nodeIn NodeOther = []
 node-of : (e : Node) → HeldNode e → nodeOf (nodeRow e) ≡ e
 unfolding nodeOf nodeRow blanks
 node-of e h =
-    let k : ℕ = (keyKind (e .key) 3 6) in
+    let k : ℕ = keyKind (e .key) 3 6 in
     let p : ℕ = parentWord (e .parent) in
     let cs : List Cell = nodeCells e in
     rw (
@@ -119,7 +118,7 @@ matrixIn MatrixOther = []
 matrix-of : (e : Matrix) → HeldMatrix e → matrixOf (matrixRow e) ≡ e
 unfolding matrixOf matrixRow blanks
 matrix-of e h =
-    let k : ℕ = (keyKind (e .key) 4 7) in
+    let k : ℕ = keyKind (e .key) 4 7 in
     let p : ℕ = parentWord (e .parent) in
     let cs : List Cell = matrixCells e in
     rw (

@@ -1,6 +1,6 @@
 -- What the types of an entry's members hold: integers of 64 bits, doubles, places of 32 bits; and a real is a number.
-use Prim.Native.Nat.{ℕ, _<_, _^_}
-use mathlib.Core.Bool.{Bool, true, false, not}
+use Prim.Native.Nat.{_<_, _^_}
+use mathlib.Core.Bool.{not}
 use lib.Dec.{T}
 use lib.IntN.{ℤ, pos, negsuc}
 use lib.Ieee as Ieee

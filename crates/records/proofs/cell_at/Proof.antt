@@ -1,13 +1,8 @@
-use mathlib.Core.Path.{_≡_, sym, ap, _∙_}
+use mathlib.Core.Path.{_∙_}
 use Rattle.records.proofs.Answers.{cell-in, cell-past}
 use borrow.Author.Needs.{needs}
-use mathlib.Core.Path.{_≡_, sym, ap, _∙_}
-use Rattle.records.proofs.Answers.{cell-in, cell-past}
 use Rattle.records.proofs.cell_at.Statement.{statement}
 use Rattle.records.proofs.cell_at.Tie as tie
-use Rattle.records.proofs.cell_at.Reads as reads
-use Rattle.records.proofs.cell_at.Lts as lts
-use Rattle.records.proofs.none.Reads as none-reads
 
 -- src/lib.rt:152:21
 mul-j : tie.Need-mul-j

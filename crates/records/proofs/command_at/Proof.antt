@@ -1,21 +1,10 @@
-use mathlib.Core.Path.{_≡_, sym, ap, _∙_}
-use lib.IntN.{ℤ}
+use mathlib.Core.Path.{_≡_}
 use mir.Val.{toZ, ofZ}
 use mir.Syntax.{w64}
 use Rattle.records.specs.Record.{commandOf}
 use borrow.Author.Needs.{needs}
-use mathlib.Core.Path.{_≡_, sym, ap, _∙_}
-use lib.IntN.{ℤ}
-use mir.Val.{toZ, ofZ}
-use mir.Syntax.{w64}
-use Rattle.records.specs.Record.{commandOf}
 use Rattle.records.proofs.command_at.Statement.{statement}
 use Rattle.records.proofs.command_at.Tie as tie
-use Rattle.records.proofs.command_at.Reads as reads
-use Rattle.records.proofs.command_at.Lts as lts
-use Rattle.records.proofs.int_at.Reads as int-at-reads
-use Rattle.records.proofs.number_at.Reads as number-at-reads
-use Rattle.records.proofs.parent_at.Reads as parent-at-reads
 
 -- src/lib.rt:604:9
 parent-at-requires : tie.Need-parent-at-requires

@@ -1,15 +1,8 @@
 use Rattle.records.specs.Record.{commandRead}
 use Rattle.records.proofs.Answers.{told-is, told-other}
 use borrow.Author.Needs.{needs}
-use Rattle.records.specs.Record.{commandRead}
-use Rattle.records.proofs.Answers.{told-is, told-other}
 use Rattle.records.proofs.command_of.Statement.{statement}
 use Rattle.records.proofs.command_of.Tie as tie
-use Rattle.records.proofs.command_of.Reads as reads
-use Rattle.records.proofs.command_of.Lts as lts
-use Rattle.records.proofs.command_at.Reads as command-at-reads
-use Rattle.records.proofs.command_row.Reads as command-row-reads
-use Rattle.records.proofs.is_same.Reads as is-same-reads
 
 -- src/lib.rt:638:9
 command-at-requires : tie.Need-command-at-requires
@@ -26,12 +19,16 @@ is-same-requires c κs = search needs
 -- src/lib.rt:641:9
 returns : tie.Need-returns
 unfolding commandRead
-returns c = told-is _ _ _ _ _ (c .before .before .before .before .command-at .ensures) (c .before .before .before .command-row .ensures) (c .before .is-same .ensures) (c .if1 .taken)
+returns c =
+    told-is _ _ _ _ _ (c .before .before .before .before .command-at .ensures) (c .before .before .before .command-row .ensures)
+    (c .before .is-same .ensures) (c .if1 .taken)
 
 -- src/lib.rt:635:1
 returns-2 : tie.Need-returns-2
 unfolding commandRead
-returns-2 c = told-other _ _ _ _ _ (c .before .before .before .before .command-at .ensures) (c .before .before .before .command-row .ensures) (c .before .is-same .ensures) (c .if1 .left)
+returns-2 c =
+    told-other _ _ _ _ _ (c .before .before .before .before .command-at .ensures) (c .before .before .before .command-row .ensures)
+    (c .before .is-same .ensures) (c .if1 .left)
 
 pub command-of-spec : {M : Type 1} → statement M
 command-of-spec =

@@ -1,15 +1,8 @@
 use Rattle.records.specs.Record.{connectionRead}
 use Rattle.records.proofs.Answers.{told-is, told-other}
 use borrow.Author.Needs.{needs}
-use Rattle.records.specs.Record.{connectionRead}
-use Rattle.records.proofs.Answers.{told-is, told-other}
 use Rattle.records.proofs.connection_of.Statement.{statement}
 use Rattle.records.proofs.connection_of.Tie as tie
-use Rattle.records.proofs.connection_of.Reads as reads
-use Rattle.records.proofs.connection_of.Lts as lts
-use Rattle.records.proofs.connection_at.Reads as connection-at-reads
-use Rattle.records.proofs.connection_row.Reads as connection-row-reads
-use Rattle.records.proofs.is_same.Reads as is-same-reads
 
 -- src/lib.rt:714:9
 connection-at-requires : tie.Need-connection-at-requires
@@ -26,12 +19,16 @@ is-same-requires c κs = search needs
 -- src/lib.rt:717:9
 returns : tie.Need-returns
 unfolding connectionRead
-returns c = told-is _ _ _ _ _ (c .before .before .before .before .connection-at .ensures) (c .before .before .before .connection-row .ensures) (c .before .is-same .ensures) (c .if1 .taken)
+returns c =
+    told-is _ _ _ _ _ (c .before .before .before .before .connection-at .ensures) (c .before .before .before .connection-row .ensures)
+    (c .before .is-same .ensures) (c .if1 .taken)
 
 -- src/lib.rt:711:1
 returns-2 : tie.Need-returns-2
 unfolding connectionRead
-returns-2 c = told-other _ _ _ _ _ (c .before .before .before .before .connection-at .ensures) (c .before .before .before .connection-row .ensures) (c .before .is-same .ensures) (c .if1 .left)
+returns-2 c =
+    told-other _ _ _ _ _ (c .before .before .before .before .connection-at .ensures) (c .before .before .before .connection-row .ensures)
+    (c .before .is-same .ensures) (c .if1 .left)
 
 pub connection-of-spec : {M : Type 1} → statement M
 connection-of-spec =

@@ -1,15 +1,9 @@
-use mathlib.Core.Path.{_≡_, sym, ap, _∙_}
+use mathlib.Core.Path.{ap, _∙_}
 use Rattle.records.specs.Member.{flagOf}
 use Rattle.records.proofs.Answers.{flag-is, flag-none}
 use borrow.Author.Needs.{needs}
-use mathlib.Core.Path.{_≡_, sym, ap, _∙_}
-use Rattle.records.specs.Member.{flagOf}
-use Rattle.records.proofs.Answers.{flag-is, flag-none}
 use Rattle.records.proofs.flag_at.Statement.{statement}
 use Rattle.records.proofs.flag_at.Tie as tie
-use Rattle.records.proofs.flag_at.Reads as reads
-use Rattle.records.proofs.flag_at.Lts as lts
-use Rattle.records.proofs.cell_at.Reads as cell-at-reads
 
 -- src/lib.rt:175:9
 cell-at-requires : tie.Need-cell-at-requires

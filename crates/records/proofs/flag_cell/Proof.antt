@@ -1,14 +1,8 @@
-use mathlib.Core.Path.{_≡_, sym, ap, _∙_}
+use mathlib.Core.Path.{sym, ap, _∙_}
 use Rattle.records.specs.Member.{flagCell}
 use borrow.Author.Needs.{needs}
-use mathlib.Core.Path.{_≡_, sym, ap, _∙_}
-use Rattle.records.specs.Member.{flagCell}
 use Rattle.records.proofs.flag_cell.Statement.{statement}
 use Rattle.records.proofs.flag_cell.Tie as tie
-use Rattle.records.proofs.flag_cell.Reads as reads
-use Rattle.records.proofs.flag_cell.Lts as lts
-use Rattle.entries.proofs.cell_of.Reads as cell-of-reads
-use Rattle.records.proofs.none.Reads as none-reads
 
 -- src/lib.rt:78:25
 enum-told : tie.Need-enum-told

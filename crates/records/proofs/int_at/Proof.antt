@@ -1,22 +1,11 @@
-use mathlib.Core.Path.{_≡_, sym, ap, _∙_}
-use lib.IntN.{ℤ}
+use mathlib.Core.Path.{_≡_, ap, _∙_}
 use mir.Val.{toZ, ofZ}
 use mir.Syntax.{w64}
 use Rattle.entries.specs.declared.Cell.{Cell}
 use Rattle.records.specs.Member.{intOf}
 use borrow.Author.Needs.{needs}
-use mathlib.Core.Path.{_≡_, sym, ap, _∙_}
-use lib.IntN.{ℤ}
-use mir.Val.{toZ, ofZ}
-use mir.Syntax.{w64}
-use Rattle.entries.specs.declared.Cell.{Cell}
-use Rattle.records.specs.Member.{intOf}
 use Rattle.records.proofs.int_at.Statement.{statement}
 use Rattle.records.proofs.int_at.Tie as tie
-use Rattle.records.proofs.int_at.Reads as reads
-use Rattle.records.proofs.int_at.Lts as lts
-use Rattle.records.proofs.cell_at.Reads as cell-at-reads
-use Rattle.records.proofs.int_of.Reads as int-of-reads
 
 -- src/lib.rt:177:9
 cell-at-requires : tie.Need-cell-at-requires

@@ -3,14 +3,8 @@ use native.Mathlib.Omega.{arith}
 use Rattle.integers.proofs.Signs.{minus-fits}
 use Rattle.records.proofs.Answers.{int-low, int-high}
 use borrow.Author.Needs.{needs}
-use Prim.Native.Nat.{_-_}
-use native.Mathlib.Omega.{arith}
-use Rattle.integers.proofs.Signs.{minus-fits}
-use Rattle.records.proofs.Answers.{int-low, int-high}
 use Rattle.records.proofs.int_of.Statement.{statement}
 use Rattle.records.proofs.int_of.Tie as tie
-use Rattle.records.proofs.int_of.Reads as reads
-use Rattle.records.proofs.int_of.Lts as lts
 
 -- src/lib.rt:144:16
 cast-result : tie.Need-cast-result

@@ -1,23 +1,11 @@
-use mathlib.Core.Path.{_≡_, sym, ap, _∙_}
-use lib.IntN.{ℤ}
+use mathlib.Core.Path.{_≡_, ap, _∙_}
 use mir.Val.{toZ, ofZ}
 use mir.Syntax.{w64}
 use Rattle.records.specs.declared.Key.the-variants.{Number}
 use Rattle.records.proofs.Answers.{key-path, key-number}
 use borrow.Author.Needs.{needs}
-use mathlib.Core.Path.{_≡_, sym, ap, _∙_}
-use lib.IntN.{ℤ}
-use mir.Val.{toZ, ofZ}
-use mir.Syntax.{w64}
-use Rattle.records.specs.declared.Key.the-variants.{Number}
-use Rattle.records.proofs.Answers.{key-path, key-number}
 use Rattle.records.proofs.key_at.Statement.{statement}
 use Rattle.records.proofs.key_at.Tie as tie
-use Rattle.records.proofs.key_at.Reads as reads
-use Rattle.records.proofs.key_at.Lts as lts
-use Rattle.records.proofs.cell_at.Reads as cell-at-reads
-use Rattle.records.proofs.count.Reads as count-reads
-use Rattle.records.proofs.int_of.Reads as int-of-reads
 
 -- src/lib.rt:236:9
 cell-at-requires : tie.Need-cell-at-requires

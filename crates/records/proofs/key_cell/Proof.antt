@@ -5,18 +5,8 @@ use mir.Syntax.{w64}
 use Rattle.entries.specs.Cell.{cell, wordOf}
 use Rattle.records.specs.Member.{keyCell}
 use borrow.Author.Needs.{needs}
-use mathlib.Core.Path.{_≡_, sym, ap, _∙_}
-use lib.IntN.{ℤ}
-use mir.Val.{toZ, ofZ}
-use mir.Syntax.{w64}
-use Rattle.entries.specs.Cell.{cell, wordOf}
-use Rattle.records.specs.Member.{keyCell}
 use Rattle.records.proofs.key_cell.Statement.{statement}
 use Rattle.records.proofs.key_cell.Tie as tie
-use Rattle.records.proofs.key_cell.Reads as reads
-use Rattle.records.proofs.key_cell.Lts as lts
-use Rattle.entries.proofs.cell_of.Reads as cell-of-reads
-use Rattle.records.proofs.word.Reads as word-reads
 
 -- src/lib.rt:100:21
 enum-known-k : tie.Need-enum-known-k

@@ -2,8 +2,6 @@ use mathlib.Core.Path.{refl}
 use Rattle.entries.specs.Entry.{words}
 use Rattle.records.proofs.made.Statement.{statement}
 use Rattle.records.proofs.made.Tie as tie
-use Rattle.records.proofs.made.Reads as reads
-use Rattle.records.proofs.made.Lts as lts
 
 -- src/lib.rt:128:1
 returns : tie.Need-returns

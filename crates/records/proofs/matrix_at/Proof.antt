@@ -1,16 +1,7 @@
-use mathlib.Core.Path.{_≡_, sym, ap, _∙_}
 use Rattle.records.specs.Record.{matrixOf}
 use borrow.Author.Needs.{needs}
-use mathlib.Core.Path.{_≡_, sym, ap, _∙_}
-use Rattle.records.specs.Record.{matrixOf}
 use Rattle.records.proofs.matrix_at.Statement.{statement}
 use Rattle.records.proofs.matrix_at.Tie as tie
-use Rattle.records.proofs.matrix_at.Reads as reads
-use Rattle.records.proofs.matrix_at.Lts as lts
-use Rattle.records.proofs.key_at.Reads as key-at-reads
-use Rattle.records.proofs.number_at.Reads as number-at-reads
-use Rattle.records.proofs.parent_at.Reads as parent-at-reads
-use Rattle.records.proofs.part_at.Reads as part-at-reads
 
 -- src/lib.rt:538:9
 parent-at-requires : tie.Need-parent-at-requires

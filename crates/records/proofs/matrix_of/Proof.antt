@@ -1,15 +1,8 @@
 use Rattle.records.specs.Record.{matrixRead}
 use Rattle.records.proofs.Answers.{told-is, told-other}
 use borrow.Author.Needs.{needs}
-use Rattle.records.specs.Record.{matrixRead}
-use Rattle.records.proofs.Answers.{told-is, told-other}
 use Rattle.records.proofs.matrix_of.Statement.{statement}
 use Rattle.records.proofs.matrix_of.Tie as tie
-use Rattle.records.proofs.matrix_of.Reads as reads
-use Rattle.records.proofs.matrix_of.Lts as lts
-use Rattle.records.proofs.is_same.Reads as is-same-reads
-use Rattle.records.proofs.matrix_at.Reads as matrix-at-reads
-use Rattle.records.proofs.matrix_row.Reads as matrix-row-reads
 
 -- src/lib.rt:566:9
 matrix-at-requires : tie.Need-matrix-at-requires
@@ -26,12 +19,16 @@ is-same-requires c κs = search needs
 -- src/lib.rt:569:9
 returns : tie.Need-returns
 unfolding matrixRead
-returns c = told-is _ _ _ _ _ (c .before .before .before .before .matrix-at .ensures) (c .before .before .before .matrix-row .ensures) (c .before .is-same .ensures) (c .if1 .taken)
+returns c =
+    told-is _ _ _ _ _ (c .before .before .before .before .matrix-at .ensures) (c .before .before .before .matrix-row .ensures)
+    (c .before .is-same .ensures) (c .if1 .taken)
 
 -- src/lib.rt:563:1
 returns-2 : tie.Need-returns-2
 unfolding matrixRead
-returns-2 c = told-other _ _ _ _ _ (c .before .before .before .before .matrix-at .ensures) (c .before .before .before .matrix-row .ensures) (c .before .is-same .ensures) (c .if1 .left)
+returns-2 c =
+    told-other _ _ _ _ _ (c .before .before .before .before .matrix-at .ensures) (c .before .before .before .matrix-row .ensures)
+    (c .before .is-same .ensures) (c .if1 .left)
 
 pub matrix-of-spec : {M : Type 1} → statement M
 matrix-of-spec =

@@ -1,22 +1,10 @@
-use mathlib.Core.Path.{_≡_, refl, sym, ap, _∙_}
-use Rattle.entries.specs.Cell.{cell, wordOf}
+use mathlib.Core.Path.{refl, _∙_}
 use Rattle.entries.specs.Entry.{blanks}
 use Rattle.records.specs.Record.{matrixRow}
 use Rattle.records.proofs.Answers.{next, row-is}
 use borrow.Author.Needs.{needs}
-use mathlib.Core.Path.{_≡_, sym, ap, _∙_}
-use Rattle.entries.specs.Entry.{blanks}
-use Rattle.records.specs.Record.{matrixRow}
 use Rattle.records.proofs.matrix_row.Statement.{statement}
 use Rattle.records.proofs.matrix_row.Tie as tie
-use Rattle.records.proofs.matrix_row.Reads as reads
-use Rattle.records.proofs.matrix_row.Lts as lts
-use Rattle.records.proofs.key_cell.Reads as key-cell-reads
-use Rattle.records.proofs.key_kind.Reads as key-kind-reads
-use Rattle.records.proofs.made.Reads as made-reads
-use Rattle.records.proofs.number_cell.Reads as number-cell-reads
-use Rattle.records.proofs.parent_word.Reads as parent-word-reads
-use Rattle.records.proofs.part_cell.Reads as part-cell-reads
 
 -- src/lib.rt:514:9
 key-kind-requires : tie.Need-key-kind-requires
@@ -71,7 +59,8 @@ returns : tie.Need-returns
 unfolding matrixRow blanks
 returns c =
     c .made .ensures
-    ∙ row-is (c .before .before .before .before .before .before .before .before .before .before .before .key-kind .ensures) (c .before .before .before .before .before .before .before .before .before .before .parent-word .ensures)
+    ∙ row-is (c .before .before .before .before .before .before .before .before .before .before .before .key-kind .ensures)
+    (c .before .before .before .before .before .before .before .before .before .before .parent-word .ensures)
     (next (c .before .before .before .before .before .before .before .before .before .key-cell .ensures)
     (next (c .before .before .before .before .before .before .before .before .part-cell .ensures)
     (next (c .before .before .before .before .before .before .before .part-cell2 .ensures)

@@ -1,16 +1,7 @@
-use mathlib.Core.Path.{_≡_, sym, ap, _∙_}
 use Rattle.records.specs.Record.{nodeOf}
 use borrow.Author.Needs.{needs}
-use mathlib.Core.Path.{_≡_, sym, ap, _∙_}
-use Rattle.records.specs.Record.{nodeOf}
 use Rattle.records.proofs.node_at.Statement.{statement}
 use Rattle.records.proofs.node_at.Tie as tie
-use Rattle.records.proofs.node_at.Reads as reads
-use Rattle.records.proofs.node_at.Lts as lts
-use Rattle.records.proofs.flag_at.Reads as flag-at-reads
-use Rattle.records.proofs.key_at.Reads as key-at-reads
-use Rattle.records.proofs.parent_at.Reads as parent-at-reads
-use Rattle.records.proofs.part_at.Reads as part-at-reads
 
 -- src/lib.rt:436:9
 parent-at-requires : tie.Need-parent-at-requires

@@ -1,15 +1,8 @@
 use Rattle.records.specs.Record.{nodeRead}
 use Rattle.records.proofs.Answers.{told-is, told-other}
 use borrow.Author.Needs.{needs}
-use Rattle.records.specs.Record.{nodeRead}
-use Rattle.records.proofs.Answers.{told-is, told-other}
 use Rattle.records.proofs.node_of.Statement.{statement}
 use Rattle.records.proofs.node_of.Tie as tie
-use Rattle.records.proofs.node_of.Reads as reads
-use Rattle.records.proofs.node_of.Lts as lts
-use Rattle.records.proofs.is_same.Reads as is-same-reads
-use Rattle.records.proofs.node_at.Reads as node-at-reads
-use Rattle.records.proofs.node_row.Reads as node-row-reads
 
 -- src/lib.rt:466:9
 node-at-requires : tie.Need-node-at-requires
@@ -26,12 +19,16 @@ is-same-requires c κs = search needs
 -- src/lib.rt:469:9
 returns : tie.Need-returns
 unfolding nodeRead
-returns c = told-is _ _ _ _ _ (c .before .before .before .before .node-at .ensures) (c .before .before .before .node-row .ensures) (c .before .is-same .ensures) (c .if1 .taken)
+returns c =
+    told-is _ _ _ _ _ (c .before .before .before .before .node-at .ensures) (c .before .before .before .node-row .ensures)
+    (c .before .is-same .ensures) (c .if1 .taken)
 
 -- src/lib.rt:463:1
 returns-2 : tie.Need-returns-2
 unfolding nodeRead
-returns-2 c = told-other _ _ _ _ _ (c .before .before .before .before .node-at .ensures) (c .before .before .before .node-row .ensures) (c .before .is-same .ensures) (c .if1 .left)
+returns-2 c =
+    told-other _ _ _ _ _ (c .before .before .before .before .node-at .ensures) (c .before .before .before .node-row .ensures)
+    (c .before .is-same .ensures) (c .if1 .left)
 
 pub node-of-spec : {M : Type 1} → statement M
 node-of-spec =

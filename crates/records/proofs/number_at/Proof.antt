@@ -1,24 +1,12 @@
-use mathlib.Core.Path.{_≡_, sym, ap, _∙_}
-use lib.IntN.{ℤ}
+use mathlib.Core.Path.{_≡_, ap, _∙_}
 use mir.Val.{toZ, ofZ}
 use mir.Syntax.{w64}
 use Rattle.records.specs.declared.Number.the-variants.{Is}
 use Rattle.records.specs.Member.{numberOf}
 use Rattle.records.proofs.Answers.{number-is, number-none}
 use borrow.Author.Needs.{needs}
-use mathlib.Core.Path.{_≡_, sym, ap, _∙_}
-use lib.IntN.{ℤ}
-use mir.Val.{toZ, ofZ}
-use mir.Syntax.{w64}
-use Rattle.records.specs.declared.Number.the-variants.{Is}
-use Rattle.records.specs.Member.{numberOf}
-use Rattle.records.proofs.Answers.{number-is, number-none}
 use Rattle.records.proofs.number_at.Statement.{statement}
 use Rattle.records.proofs.number_at.Tie as tie
-use Rattle.records.proofs.number_at.Reads as reads
-use Rattle.records.proofs.number_at.Lts as lts
-use Rattle.records.proofs.cell_at.Reads as cell-at-reads
-use Rattle.records.proofs.int_of.Reads as int-of-reads
 
 -- src/lib.rt:165:9
 cell-at-requires : tie.Need-cell-at-requires

@@ -1,15 +1,8 @@
 use Rattle.records.specs.Record.{parameterRead}
 use Rattle.records.proofs.Answers.{told-is, told-other}
 use borrow.Author.Needs.{needs}
-use Rattle.records.specs.Record.{parameterRead}
-use Rattle.records.proofs.Answers.{told-is, told-other}
 use Rattle.records.proofs.parameter_of.Statement.{statement}
 use Rattle.records.proofs.parameter_of.Tie as tie
-use Rattle.records.proofs.parameter_of.Reads as reads
-use Rattle.records.proofs.parameter_of.Lts as lts
-use Rattle.records.proofs.is_same.Reads as is-same-reads
-use Rattle.records.proofs.parameter_at.Reads as parameter-at-reads
-use Rattle.records.proofs.parameter_row.Reads as parameter-row-reads
 
 -- src/lib.rt:382:9
 parameter-at-requires : tie.Need-parameter-at-requires
@@ -26,12 +19,16 @@ is-same-requires c κs = search needs
 -- src/lib.rt:385:9
 returns : tie.Need-returns
 unfolding parameterRead
-returns c = told-is _ _ _ _ _ (c .before .before .before .before .parameter-at .ensures) (c .before .before .before .parameter-row .ensures) (c .before .is-same .ensures) (c .if1 .taken)
+returns c =
+    told-is _ _ _ _ _ (c .before .before .before .before .parameter-at .ensures) (c .before .before .before .parameter-row .ensures)
+    (c .before .is-same .ensures) (c .if1 .taken)
 
 -- src/lib.rt:379:1
 returns-2 : tie.Need-returns-2
 unfolding parameterRead
-returns-2 c = told-other _ _ _ _ _ (c .before .before .before .before .parameter-at .ensures) (c .before .before .before .parameter-row .ensures) (c .before .is-same .ensures) (c .if1 .left)
+returns-2 c =
+    told-other _ _ _ _ _ (c .before .before .before .before .parameter-at .ensures) (c .before .before .before .parameter-row .ensures)
+    (c .before .is-same .ensures) (c .if1 .left)
 
 pub parameter-of-spec : {M : Type 1} → statement M
 parameter-of-spec =

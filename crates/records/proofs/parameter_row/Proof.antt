@@ -1,24 +1,10 @@
-use mathlib.Core.Path.{_≡_, refl, sym, ap, _∙_}
-use Rattle.entries.specs.Cell.{cell, wordOf}
+use mathlib.Core.Path.{refl, _∙_}
 use Rattle.entries.specs.Entry.{blanks}
 use Rattle.records.specs.Record.{parameterRow}
 use Rattle.records.proofs.Answers.{next, row-is}
 use borrow.Author.Needs.{needs}
-use mathlib.Core.Path.{_≡_, sym, ap, _∙_}
-use Rattle.entries.specs.Entry.{blanks}
-use Rattle.records.specs.Record.{parameterRow}
 use Rattle.records.proofs.parameter_row.Statement.{statement}
 use Rattle.records.proofs.parameter_row.Tie as tie
-use Rattle.records.proofs.parameter_row.Reads as reads
-use Rattle.records.proofs.parameter_row.Lts as lts
-use Rattle.entries.proofs.cell_of.Reads as cell-of-reads
-use Rattle.records.proofs.flag_cell.Reads as flag-cell-reads
-use Rattle.records.proofs.key_cell.Reads as key-cell-reads
-use Rattle.records.proofs.key_kind.Reads as key-kind-reads
-use Rattle.records.proofs.made.Reads as made-reads
-use Rattle.records.proofs.number_cell.Reads as number-cell-reads
-use Rattle.records.proofs.parent_word.Reads as parent-word-reads
-use Rattle.records.proofs.part_cell.Reads as part-cell-reads
 
 -- src/lib.rt:326:9
 key-kind-requires : tie.Need-key-kind-requires
@@ -81,7 +67,8 @@ returns : tie.Need-returns
 unfolding parameterRow blanks
 returns c =
     c .made .ensures
-    ∙ row-is (c .before .before .before .before .before .before .before .before .before .before .before .before .before .key-kind .ensures) (c .before .before .before .before .before .before .before .before .before .before .before .before .parent-word .ensures)
+    ∙ row-is (c .before .before .before .before .before .before .before .before .before .before .before .before .before .key-kind .ensures)
+    (c .before .before .before .before .before .before .before .before .before .before .before .before .parent-word .ensures)
     (next (c .before .before .before .before .before .before .before .before .before .before .before .key-cell .ensures)
     (next (c .before .before .before .before .before .before .before .before .before .before .part-cell .ensures)
     (next (c .before .before .before .before .before .before .before .before .before .part-cell2 .ensures)
@@ -89,14 +76,14 @@ returns c =
     (next (c .before .before .before .before .before .before .before .cell-of2 .ensures)
     (next (c .before .before .before .before .before .before .cell-of3 .ensures)
     (next (c .before .before .before .before .before .number-cell .ensures)
-    (next (refl)
-    (next (refl)
+    (next refl
+    (next refl
     (next (c .before .before .before .before .number-cell2 .ensures)
     (next (c .before .before .before .flag-cell .ensures)
-    (next (refl)
+    (next refl
     (next (c .before .before .number-cell3 .ensures)
-    (next (refl)
-    (next (refl)
+    (next refl
+    (next refl
     (next (c .before .number-cell4 .ensures) refl))))))))))))))))
 
 pub parameter-row-spec : {M : Type 1} → statement M

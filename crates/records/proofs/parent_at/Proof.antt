@@ -1,10 +1,7 @@
 use Rattle.records.proofs.Answers.{parent-root, parent-at, parent-past}
 use borrow.Author.Needs.{needs}
-use Rattle.records.proofs.Answers.{parent-root, parent-at, parent-past}
 use Rattle.records.proofs.parent_at.Statement.{statement}
 use Rattle.records.proofs.parent_at.Tie as tie
-use Rattle.records.proofs.parent_at.Reads as reads
-use Rattle.records.proofs.parent_at.Lts as lts
 
 -- src/lib.rt:249:13
 element-copy-out-w : tie.Need-element-copy-out-w

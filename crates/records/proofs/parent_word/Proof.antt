@@ -1,12 +1,8 @@
-use mathlib.Core.Path.{_≡_, sym, ap, _∙_}
+use mathlib.Core.Path.{sym, ap}
 use Rattle.records.specs.Member.{parentWord}
 use borrow.Author.Needs.{needs}
-use mathlib.Core.Path.{_≡_, sym, ap, _∙_}
-use Rattle.records.specs.Member.{parentWord}
 use Rattle.records.proofs.parent_word.Statement.{statement}
 use Rattle.records.proofs.parent_word.Tie as tie
-use Rattle.records.proofs.parent_word.Reads as reads
-use Rattle.records.proofs.parent_word.Lts as lts
 
 -- src/lib.rt:122:25
 enum-told : tie.Need-enum-told

@@ -1,16 +1,9 @@
-use mathlib.Core.Path.{_≡_, sym, ap, _∙_}
+use mathlib.Core.Path.{ap, _∙_}
 use Rattle.records.specs.Member.{partOf}
 use Rattle.records.proofs.Answers.{part-is, part-none}
 use borrow.Author.Needs.{needs}
-use mathlib.Core.Path.{_≡_, sym, ap, _∙_}
-use Rattle.records.specs.Member.{partOf}
-use Rattle.records.proofs.Answers.{part-is, part-none}
 use Rattle.records.proofs.part_at.Statement.{statement}
 use Rattle.records.proofs.part_at.Tie as tie
-use Rattle.records.proofs.part_at.Reads as reads
-use Rattle.records.proofs.part_at.Lts as lts
-use Rattle.records.proofs.cell_at.Reads as cell-at-reads
-use Rattle.records.proofs.count.Reads as count-reads
 
 -- src/lib.rt:185:9
 cell-at-requires : tie.Need-cell-at-requires
@@ -28,11 +21,14 @@ count-requires-2 c κs = search needs
 returns : tie.Need-returns
 returns c =
     rw (c .before .count .ensures, c .count2 .ensures)
-    (part-is _ _ (c .before .before .if1 .taken) ∙ ap (partOf (c .before .before .before .before .before .args .tag)) (c .before .before .before .before .cell-at .ensures))
+    (part-is _ _ (c .before .before .if1 .taken)
+    ∙ ap (partOf (c .before .before .before .before .before .args .tag)) (c .before .before .before .before .cell-at .ensures))
 
 -- src/lib.rt:182:1
 returns-2 : tie.Need-returns-2
-returns-2 c = part-none _ _ (c .if1 .left) ∙ ap (partOf (c .before .before .before .args .tag)) (c .before .before .cell-at .ensures)
+returns-2 c =
+    part-none _ _ (c .if1 .left)
+    ∙ ap (partOf (c .before .before .before .args .tag)) (c .before .before .cell-at .ensures)
 
 pub part-at-spec : {M : Type 1} → statement M
 part-at-spec =

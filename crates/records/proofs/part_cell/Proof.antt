@@ -1,14 +1,8 @@
-use mathlib.Core.Path.{_≡_, sym, ap, _∙_}
+use mathlib.Core.Path.{sym, ap}
 use Rattle.records.specs.Member.{partCell}
 use borrow.Author.Needs.{needs}
-use mathlib.Core.Path.{_≡_, sym, ap, _∙_}
-use Rattle.records.specs.Member.{partCell}
 use Rattle.records.proofs.part_cell.Statement.{statement}
 use Rattle.records.proofs.part_cell.Tie as tie
-use Rattle.records.proofs.part_cell.Reads as reads
-use Rattle.records.proofs.part_cell.Lts as lts
-use Rattle.records.proofs.none.Reads as none-reads
-use Rattle.records.proofs.word.Reads as word-reads
 
 -- src/lib.rt:87:25
 enum-told : tie.Need-enum-told

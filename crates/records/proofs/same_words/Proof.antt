@@ -1,4 +1,4 @@
-use Prim.Native.Nat.{_-_, _≤_}
+use Prim.Native.Nat.{_-_}
 use mathlib.Core.Path.{_≡_, refl, sym, _∙_}
 use native.Mathlib.Omega.{arith}
 use lib.ListN.{length, drop}
@@ -6,8 +6,6 @@ use Rattle.records.specs.Member.{same}
 use Rattle.records.proofs.Answers.{same-lengths, same-not, same-step, same-end}
 use Rattle.records.proofs.same_words.Statement.{statement}
 use Rattle.records.proofs.same_words.Tie as tie
-use Rattle.records.proofs.same_words.Reads as reads
-use Rattle.records.proofs.same_words.Lts as lts
 
 abbrev Inv-loop : tie.InvT-loop
 Inv-loop a b i₀ i = same (drop i a) (drop i b) ≡ same a b
@@ -41,7 +39,10 @@ shared-slice-read-if2-2 c = omega arith
 
 -- src/lib.rt:284:13
 returns-2 : tie.Need-returns-2 Inv-loop μ-loop
-returns-2 c = sym (same-not (c .before .before .before .before .before .before .args .a .now) (c .before .before .before .before .before .before .args .b .now) (c .before .before .before .before .loop .i) (omega arith) (omega arith) (c .if2 .taken)) ∙ c .before .before .before .before .loop .inv
+returns-2 c =
+    let s = c .before .before .before .before .before .before .args in
+    let l = c .before .before .before .before .loop in
+    sym (same-not (s .a .now) (s .b .now) (l .i) (omega arith) (omega arith) (c .if2 .taken)) ∙ l .inv
 
 -- src/lib.rt:286:9
 add-i : tie.Need-add-i Inv-loop μ-loop
@@ -53,11 +54,17 @@ loop-less c = omega arith
 
 -- src/lib.rt:282:5
 loop-again : tie.Need-loop-again Inv-loop μ-loop
-loop-again c = sym (same-step (c .before .before .before .before .before .before .args .a .now) (c .before .before .before .before .before .before .args .b .now) (c .before .before .before .before .loop .i) (omega arith) (omega arith) (c .if2 .left)) ∙ c .before .before .before .before .loop .inv
+loop-again c =
+    let s = c .before .before .before .before .before .before .args in
+    let l = c .before .before .before .before .loop in
+    sym (same-step (s .a .now) (s .b .now) (l .i) (omega arith) (omega arith) (c .if2 .left)) ∙ l .inv
 
 -- src/lib.rt:275:1
 returns-3 : tie.Need-returns-3 Inv-loop μ-loop
-returns-3 c = sym (same-end (c .before .before .before .args .a .now) (c .before .before .before .args .b .now) (c .before .loop .i) (omega arith) (omega arith)) ∙ c .before .loop .inv
+returns-3 c =
+    let s = c .before .before .before .args in
+    let l = c .before .loop in
+    sym (same-end (s .a .now) (s .b .now) (l .i) (omega arith) (omega arith)) ∙ l .inv
 
 pub same-words-spec : {M : Type 1} → statement M
 same-words-spec =

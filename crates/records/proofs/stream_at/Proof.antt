@@ -1,21 +1,10 @@
-use mathlib.Core.Path.{_≡_, sym, ap, _∙_}
-use lib.IntN.{ℤ}
+use mathlib.Core.Path.{_≡_}
 use mir.Val.{toZ, ofZ}
 use mir.Syntax.{w64}
 use Rattle.records.specs.Record.{streamOf}
 use borrow.Author.Needs.{needs}
-use mathlib.Core.Path.{_≡_, sym, ap, _∙_}
-use lib.IntN.{ℤ}
-use mir.Val.{toZ, ofZ}
-use mir.Syntax.{w64}
-use Rattle.records.specs.Record.{streamOf}
 use Rattle.records.proofs.stream_at.Statement.{statement}
 use Rattle.records.proofs.stream_at.Tie as tie
-use Rattle.records.proofs.stream_at.Reads as reads
-use Rattle.records.proofs.stream_at.Lts as lts
-use Rattle.records.proofs.int_at.Reads as int-at-reads
-use Rattle.records.proofs.parent_at.Reads as parent-at-reads
-use Rattle.records.proofs.value_at.Reads as value-at-reads
 
 -- src/lib.rt:742:9
 parent-at-requires : tie.Need-parent-at-requires

@@ -2,16 +2,8 @@ use borrow.Author.Tests.{eq-eqb, ne-eqb}
 use Rattle.records.specs.Record.{streamRead}
 use Rattle.records.proofs.Answers.{told-is, told-other}
 use borrow.Author.Needs.{needs}
-use borrow.Author.Tests.{eq-eqb, ne-eqb}
-use Rattle.records.specs.Record.{streamRead}
-use Rattle.records.proofs.Answers.{told-is, told-other}
 use Rattle.records.proofs.stream_of.Statement.{statement}
 use Rattle.records.proofs.stream_of.Tie as tie
-use Rattle.records.proofs.stream_of.Reads as reads
-use Rattle.records.proofs.stream_of.Lts as lts
-use Rattle.records.proofs.is_same.Reads as is-same-reads
-use Rattle.records.proofs.stream_at.Reads as stream-at-reads
-use Rattle.records.proofs.stream_row.Reads as stream-row-reads
 
 -- src/lib.rt:786:8
 element-copy-out-if1 : tie.Need-element-copy-out-if1
@@ -37,12 +29,18 @@ is-same-requires c κs = search needs
 -- src/lib.rt:792:9
 returns-2 : tie.Need-returns-2
 unfolding streamRead
-returns-2 c = rw (ne-eqb _ _ (c .before .before .before .before .before .if1 .left)) (told-is _ _ _ _ _ (c .before .before .before .before .stream-at .ensures) (c .before .before .before .stream-row .ensures) (c .before .is-same .ensures) (c .if2 .taken))
+returns-2 c =
+    rw (ne-eqb _ _ (c .before .before .before .before .before .if1 .left))
+    (told-is _ _ _ _ _ (c .before .before .before .before .stream-at .ensures) (c .before .before .before .stream-row .ensures)
+    (c .before .is-same .ensures) (c .if2 .taken))
 
 -- src/lib.rt:783:1
 returns-3 : tie.Need-returns-3
 unfolding streamRead
-returns-3 c = rw (ne-eqb _ _ (c .before .before .before .before .before .if1 .left)) (told-other _ _ _ _ _ (c .before .before .before .before .stream-at .ensures) (c .before .before .before .stream-row .ensures) (c .before .is-same .ensures) (c .if2 .left))
+returns-3 c =
+    rw (ne-eqb _ _ (c .before .before .before .before .before .if1 .left))
+    (told-other _ _ _ _ _ (c .before .before .before .before .stream-at .ensures) (c .before .before .before .stream-row .ensures)
+    (c .before .is-same .ensures) (c .if2 .left))
 
 pub stream-of-spec : {M : Type 1} → statement M
 stream-of-spec =

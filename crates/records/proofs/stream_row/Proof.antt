@@ -1,4 +1,4 @@
-use mathlib.Core.Path.{_≡_, refl, sym, ap, _∙_}
+use mathlib.Core.Path.{_≡_, refl, ap, _∙_}
 use lib.IntN.{ℤ}
 use mir.Val.{toZ, ofZ}
 use mir.Syntax.{w64}
@@ -7,16 +7,8 @@ use Rattle.entries.specs.Entry.{blanks}
 use Rattle.records.specs.Record.{streamRow}
 use Rattle.records.proofs.Answers.{next, row-is}
 use borrow.Author.Needs.{needs}
-use mathlib.Core.Path.{_≡_, sym, ap, _∙_}
-use Rattle.entries.specs.Entry.{blanks}
-use Rattle.records.specs.Record.{streamRow}
 use Rattle.records.proofs.stream_row.Statement.{statement}
 use Rattle.records.proofs.stream_row.Tie as tie
-use Rattle.records.proofs.stream_row.Reads as reads
-use Rattle.records.proofs.stream_row.Lts as lts
-use Rattle.entries.proofs.cell_of.Reads as cell-of-reads
-use Rattle.records.proofs.made.Reads as made-reads
-use Rattle.records.proofs.parent_word.Reads as parent-word-reads
 
 -- src/lib.rt:749:9
 parent-word-requires : tie.Need-parent-word-requires
@@ -38,10 +30,13 @@ made-requires c κs = search needs
 returns : tie.Need-returns
 unfolding streamRow blanks
 returns c =
-    let k : toZ w64 (ofZ w64 (c .before .before .before .before .before .args .e .identifier)) ≡ c .before .before .before .before .before .args .e .identifier = search needs in
+    let e = c .before .before .before .before .before .args .e in
+    let k : toZ w64 (ofZ w64 (e .identifier)) ≡ e .identifier = search needs in
+    let i = ap (λ (z : ℤ). cell 2 (wordOf z) 0) k in
     c .made .ensures
-    ∙ row-is (refl) (c .before .before .before .parent-word .ensures)
-    (next (c .before .before .cell-of .ensures ∙ ap (λ (z : ℤ). cell 2 (wordOf z) 0) k)
+    ∙ row-is (refl)
+    (c .before .before .before .parent-word .ensures)
+    (next (c .before .before .cell-of .ensures ∙ i)
     (next (c .before .cell-of2 .ensures) refl))
 
 pub stream-row-spec : {M : Type 1} → statement M

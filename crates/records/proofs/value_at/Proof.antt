@@ -1,14 +1,8 @@
-use mathlib.Core.Path.{_≡_, sym, ap, _∙_}
+use mathlib.Core.Path.{ap, _∙_}
 use Rattle.records.specs.Member.{valueOf}
 use borrow.Author.Needs.{needs}
-use mathlib.Core.Path.{_≡_, sym, ap, _∙_}
-use Rattle.records.specs.Member.{valueOf}
 use Rattle.records.proofs.value_at.Statement.{statement}
 use Rattle.records.proofs.value_at.Tie as tie
-use Rattle.records.proofs.value_at.Reads as reads
-use Rattle.records.proofs.value_at.Lts as lts
-use Rattle.records.proofs.cell_at.Reads as cell-at-reads
-use Rattle.records.proofs.value_of.Reads as value-of-reads
 
 -- src/lib.rt:229:9
 cell-at-requires : tie.Need-cell-at-requires

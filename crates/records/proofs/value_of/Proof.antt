@@ -1,22 +1,12 @@
-use mathlib.Core.Path.{_≡_, sym, ap, _∙_}
-use lib.IntN.{ℤ}
+use mathlib.Core.Path.{_≡_, ap, _∙_}
 use mir.Val.{toZ, ofZ}
 use mir.Syntax.{w64}
 use Rattle.values.specs.declared.Value.the-variants.{Int}
+use native.Mathlib.Omega.{arith}
 use Rattle.records.proofs.Answers.{value-int, value-nan, no-nan, value-real, value-text, value-bool, value-octets, value-none}
 use borrow.Author.Needs.{needs}
-use mathlib.Core.Path.{_≡_, sym, ap, _∙_}
-use lib.IntN.{ℤ}
-use mir.Val.{toZ, ofZ}
-use mir.Syntax.{w64}
-use Rattle.values.specs.declared.Value.the-variants.{Int}
-use Rattle.records.proofs.Answers.{value-int, value-nan, no-nan, value-real, value-text, value-bool, value-octets, value-none}
 use Rattle.records.proofs.value_of.Statement.{statement}
 use Rattle.records.proofs.value_of.Tie as tie
-use Rattle.records.proofs.value_of.Reads as reads
-use Rattle.records.proofs.value_of.Lts as lts
-use Rattle.records.proofs.count.Reads as count-reads
-use Rattle.records.proofs.int_of.Reads as int-of-reads
 
 -- src/lib.rt:209:27
 int-of-requires : tie.Need-int-of-requires
@@ -34,7 +24,7 @@ returns-2 c = value-nan _ (c .before .before .if2 .taken) (c .if3 .taken)
 
 -- src/lib.rt:215:28
 float-from-bits-t6 : tie.Need-float-from-bits-t6
-float-from-bits-t6 c = no-nan _ (c .before .if3 .left)
+float-from-bits-t6 c = no-nan (c .before .before .before .before .before .before .before .args .v .first) (omega arith)
 
 -- src/lib.rt:215:9
 returns-3 : tie.Need-returns-3
@@ -71,8 +61,8 @@ returns-6 c = rw (c .before .count3 .ensures, c .count4 .ensures) (value-octets 
 -- src/lib.rt:205:1
 returns-7 : tie.Need-returns-7
 returns-7 c =
-    value-none _ (c .before .before .before .before .before .before .before .before .if1 .left) (c .before .before .before .before .before .before .if2 .left) (c .before .before .before .before .if4 .left)
-    (c .before .before .if5 .left) (c .if6 .left)
+    value-none _ (c .before .before .before .before .before .before .before .before .if1 .left) (c .before .before .before .before .before .before .if2 .left)
+    (c .before .before .before .before .if4 .left) (c .before .before .if5 .left) (c .if6 .left)
 
 pub value-of-spec : {M : Type 1} → statement M
 value-of-spec =
