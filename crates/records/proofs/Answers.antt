@@ -5,9 +5,9 @@ use mathlib.Core.Bool.{Bool, true, false, not}
 use mathlib.Core.List.{List, [], _∷_}
 use native.Mathlib.Omega.{arith}
 use borrow.Author.Tests.{lt-ltb, le-ltb, le-leb, lt-leb, eq-eqb, ne-eqb}
-use lib.Dec.{T}
+use lib.Dec.{T, ltb, ltb→lt}
 use lib.IntN.{negsuc, _-ℤ_}
-use lib.ListN.{length, getD, drop, drop-of-length-le}
+use lib.ListN.{length, getD, set, drop, drop-of-length-le}
 use lib.Seq.{drop-cons}
 use lib.Ieee as Ieee
 use lib.Ieee.{binary64}
@@ -20,13 +20,14 @@ use Rattle.integers.proofs.Signs.{minus-is}
 use Rattle.values.specs.declared.Value.the-variants.{Absent, Int, Real, Text, Bool as Truth, Octets}
 use Rattle.entries.specs.declared.Cell.{Cell}
 use Rattle.entries.specs.Cell.{cell, absent}
-use Rattle.entries.specs.Entry.{row}
+use Rattle.entries.specs.Entry.{row, blank, blanks}
+use Rattle.entries.proofs.Laws.{row-set}
 use Rattle.records.specs.declared.Number.the-variants.{Absent as NoNumber, Is as IsNumber}
 use Rattle.records.specs.declared.Flag.the-variants.{Absent as NoFlag, Is as IsFlag}
 use Rattle.records.specs.declared.Part.the-variants.{Absent as NoPart, At as PartAt}
 use Rattle.records.specs.declared.Key.the-variants.{Number as ByNumber, Path as ByPath}
 use Rattle.records.specs.declared.Parent.the-variants.{Root, At}
-use Rattle.records.specs.Member.{intOf, numberOf, flagOf, partOf, valueOf, cellAt, keyOf, parentOf, same}
+use Rattle.records.specs.Member.{intOf, numberOf, flagOf, partOf, valueOf, cellAt, putAt, keyOf, parentOf, same}
 use Rattle.records.specs.Record.{entry, told}
 
 module _ (a : ℕ) where
@@ -153,13 +154,34 @@ same-lengths (x ∷ xs) (y ∷ ys) h = go (lib.Dec.eqb x y) (same-lengths xs ys 
     go true e = e
     go false e = refl
 
--- equal cells make equal rows
-pub next : {v w : Cell} {vs ws : List Cell} → v ≡ w → vs ≡ ws → v ∷ vs ≡ w ∷ ws
-next {v} {w} {vs} {ws} e f = ap (λ (x : Cell). x ∷ vs) e ∙ ap (λ (xs : List Cell). w ∷ xs) f
+-- a list is the row of an entry
+pub record Row (l : List ℕ) (k p : ℕ) (cs : List Cell) : Type 0 where
+  pub is : l ≡ row (entry k p cs)
 
-pub row-is : {k k′ p p′ : ℕ} {vs ws : List Cell} → k ≡ k′ → p ≡ p′ → vs ≡ ws → row (entry k p vs) ≡ row (entry k′ p′ ws)
-row-is {k} {k′} {p} {p′} {vs} {ws} e f g =
-    ap (λ (x : ℕ). row (entry x p vs)) e ∙ ap (λ (x : ℕ). row (entry k′ x vs)) f ∙ ap (λ (xs : List Cell). row (entry k′ p′ xs)) g
+-- a row that is begun, and its cells put one by one
+pub begun-is : {k k′ p p′ : ℕ} {l : List ℕ} → k ≡ k′ → p ≡ p′ → l ≡ row (blank k p) → Row l k′ p′ (blanks 16)
+begun-is {k} {k′} {p} {p′} e f q = record { is = q ∙ ap (λ (x : ℕ). row (blank x p)) e ∙ ap (λ (x : ℕ). row (blank k′ x)) f }
+
+pub put-in : (r : List ℕ) (c : ℕ) (v : Cell) → c < 16
+    → set (set (set r (2 + c * 3) (v .kind)) (2 + c * 3 + 1) (v .first)) (2 + c * 3 + 2) (v .second) ≡ putAt r c v
+unfolding putAt
+put-in r c v h =
+    let one : 2 + c * 3 + 1 ≡ 3 + c * 3 = omega arith in
+    let two : 2 + c * 3 + 2 ≡ 4 + c * 3 = omega arith in
+    rw (lt-ltb _ _ h, one, two)
+
+pub put-past : (r : List ℕ) (c : ℕ) (v : Cell) → 16 ≤ c → r ≡ putAt r c v
+unfolding putAt
+put-past r c v h = rw (le-ltb _ _ h)
+
+put-row : (k p : ℕ) (cs : List Cell) (c : ℕ) (v : Cell) → c < 16 → putAt (row (entry k p cs)) c v ≡ row (entry k p (set cs c v))
+unfolding putAt
+put-row k p cs c v h = rw (lt-ltb _ _ h) (row-set k p cs c v)
+
+pub put-cell : (c : ℕ) → T (ltb c 16) → {k p : ℕ} {cs : List Cell} {l l′ : List ℕ} {v w : Cell}
+    → Row l k p cs → v ≡ w → l′ ≡ putAt l c v → Row l′ k p (set cs c w)
+put-cell c h {k} {p} {cs} {l} {l′} {v} {w} e f q =
+    record { is = q ∙ ap (λ (x : List ℕ). putAt x c v) (e .is) ∙ ap (putAt (row (entry k p cs)) c) f ∙ put-row k p cs c w (ltb→lt c 16 h) }
 
 -- a row that is made again of what it stands for
 module _ {E R : Type 0} (of : List ℕ → E) (made : E → List ℕ) (is : E → R) (other : R) (r : List ℕ) where

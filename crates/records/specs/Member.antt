@@ -4,7 +4,7 @@ use mathlib.Core.Bool.{Bool, true, false}
 use mathlib.Core.List.{List, [], _∷_}
 use lib.Dec.{ltb, leb, eqb}
 use lib.IntN.{ℤ, pos, negsuc}
-use lib.ListN.{getD}
+use lib.ListN.{getD, set}
 use lib.Ieee as Ieee
 use lib.Ieee.{binary64}
 use Rattle.integers.specs.Digits.{pick}
@@ -75,6 +75,10 @@ valueOf v =
 -- cell c of a row
 unfoldable pub cellAt : List ℕ → ℕ → Cell
 cellAt r c = pick (ltb c 16) (cell (getD r (2 + c * 3) 0) (getD r (3 + c * 3) 0) (getD r (4 + c * 3) 0)) absent
+
+-- a row with a cell put; there are sixteen
+unfoldable pub putAt : List ℕ → ℕ → Cell → List ℕ
+putAt r c v = pick (ltb c 16) (set (set (set r (2 + c * 3) (v .kind)) (3 + c * 3) (v .first)) (4 + c * 3) (v .second)) r
 
 unfoldable pub keyOf : ℕ → List ℕ → Key
 keyOf qualified r =

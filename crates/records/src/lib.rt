@@ -2,12 +2,11 @@
 use entries::Cell;
 use values::Value;
 ghost use mathlib.Core.Path.{_≡_};
-ghost use mathlib.Core.List.{[], _∷_};
 ghost use lib.Dec.{eqb};
 ghost use Rattle.entries.specs.Cell.{cellOf};
-ghost use Rattle.entries.specs.Entry.{row};
-ghost use Rattle.records.specs.Member.{intOf, numberCell, numberOf, flagCell, flagOf, partCell, partOf, valueOf, cellAt, parentWord, parentOf};
-ghost use Rattle.records.specs.Record.{entry, parameterRow, parameterOf, parameterRead, nodeRow, nodeOf, nodeRead, matrixRow, matrixOf, matrixRead};
+ghost use Rattle.entries.specs.Entry.{row, blank};
+ghost use Rattle.records.specs.Member.{intOf, numberCell, numberOf, flagCell, flagOf, partCell, partOf, valueOf, cellAt, parentWord, parentOf, putAt};
+ghost use Rattle.records.specs.Record.{parameterRow, parameterOf, parameterRead, nodeRow, nodeOf, nodeRead, matrixRow, matrixOf, matrixRead};
 ghost use Rattle.records.specs.Record.{commandRow, commandOf, commandRead, connectionRow, connectionOf, connectionRead, streamRow, streamOf, streamRead};
 ghost use Rattle.records.specs.Member.{keyKind, keyCell, keyOf, same};
 
@@ -125,81 +124,26 @@ fn parent_word(p: Parent) -> u64
     }
 }
 
-// The row of an entry with sixteen cells.
-fn made(
-    kind: u64,
-    parent: u64,
-    a: Cell,
-    b: Cell,
-    c: Cell,
-    d: Cell,
-    e: Cell,
-    f: Cell,
-    g: Cell,
-    h: Cell,
-    i: Cell,
-    j: Cell,
-    k: Cell,
-    l: Cell,
-    m: Cell,
-    n: Cell,
-    o: Cell,
-    p: Cell,
-) -> [u64; 50]
-    ensures { λ r. ⌜ r ≡ row (entry kind parent (a ∷ b ∷ c ∷ d ∷ e ∷ f ∷ g ∷ h ∷ i ∷ j ∷ k ∷ l ∷ m ∷ n ∷ o ∷ p ∷ [])) ⌝ }
+// The row of an entry with no member yet.
+fn begun(kind: u64, parent: u64) -> [u64; 50]
+    ensures { λ r. ⌜ r ≡ row (blank kind parent) ⌝ }
 {
-    [
-        kind,
-        parent,
-        a.kind,
-        a.first,
-        a.second,
-        b.kind,
-        b.first,
-        b.second,
-        c.kind,
-        c.first,
-        c.second,
-        d.kind,
-        d.first,
-        d.second,
-        e.kind,
-        e.first,
-        e.second,
-        f.kind,
-        f.first,
-        f.second,
-        g.kind,
-        g.first,
-        g.second,
-        h.kind,
-        h.first,
-        h.second,
-        i.kind,
-        i.first,
-        i.second,
-        j.kind,
-        j.first,
-        j.second,
-        k.kind,
-        k.first,
-        k.second,
-        l.kind,
-        l.first,
-        l.second,
-        m.kind,
-        m.first,
-        m.second,
-        n.kind,
-        n.first,
-        n.second,
-        o.kind,
-        o.first,
-        o.second,
-        p.kind,
-        p.first,
-        p.second,
-    ]
+    let mut row = [0; 50];
+    row[0] = kind;
+    row[1] = parent;
+    row
+}
+
+// Puts a cell into a row; past the sixteen cells it does nothing.
+fn put(row: &mut [u64; 50], c: usize, v: Cell)
+    ensures { λ _. ⌜ now (row .exit) ≡ putAt (now (row .entry)) c v ⌝ }
+{
+    if c < 16 {
+        let j = 2 + c * 3;
+        row[j] = v.kind;
+        row[j + 1] = v.first;
+        row[j + 2] = v.second;
+    }
 }
 
 // What a word stands for as an integer.
@@ -392,31 +336,19 @@ pub fn parameter_row(e: Parameter) -> [u64; 50]
     let online = e.online;
     let step = e.step;
     let stream = e.stream;
-    let z = Cell {
-        kind: 0,
-        first: 0,
-        second: 0,
-    };
-    made(
-        key_kind(key, 1, 5),
-        parent_word(parent),
-        key_cell(key),
-        part_cell(12, identifier),
-        part_cell(12, description),
-        entries::cell_of(value),
-        entries::cell_of(minimum),
-        entries::cell_of(maximum),
-        number_cell(access),
-        z,
-        z,
-        number_cell(factor),
-        flag_cell(online),
-        z,
-        number_cell(step),
-        z,
-        z,
-        number_cell(stream),
-    )
+    let mut row = begun(key_kind(key, 1, 5), parent_word(parent));
+    put(&mut row, 0, key_cell(key));
+    put(&mut row, 1, part_cell(12, identifier));
+    put(&mut row, 2, part_cell(12, description));
+    put(&mut row, 3, entries::cell_of(value));
+    put(&mut row, 4, entries::cell_of(minimum));
+    put(&mut row, 5, entries::cell_of(maximum));
+    put(&mut row, 6, number_cell(access));
+    put(&mut row, 9, number_cell(factor));
+    put(&mut row, 10, flag_cell(online));
+    put(&mut row, 12, number_cell(step));
+    put(&mut row, 15, number_cell(stream));
+    row
 }
 
 fn parameter_at(row: &[u64; 50]) -> Parameter
@@ -488,31 +420,13 @@ pub fn node_row(e: Node) -> [u64; 50]
     let description = e.description;
     let root = e.root;
     let online = e.online;
-    let z = Cell {
-        kind: 0,
-        first: 0,
-        second: 0,
-    };
-    made(
-        key_kind(key, 3, 6),
-        parent_word(parent),
-        key_cell(key),
-        part_cell(12, identifier),
-        part_cell(12, description),
-        flag_cell(root),
-        flag_cell(online),
-        z,
-        z,
-        z,
-        z,
-        z,
-        z,
-        z,
-        z,
-        z,
-        z,
-        z,
-    )
+    let mut row = begun(key_kind(key, 3, 6), parent_word(parent));
+    put(&mut row, 0, key_cell(key));
+    put(&mut row, 1, part_cell(12, identifier));
+    put(&mut row, 2, part_cell(12, description));
+    put(&mut row, 3, flag_cell(root));
+    put(&mut row, 4, flag_cell(online));
+    row
 }
 
 fn node_at(row: &[u64; 50]) -> Node
@@ -580,31 +494,17 @@ pub fn matrix_row(e: Matrix) -> [u64; 50]
     let sources = e.sources;
     let total_limit = e.total_limit;
     let target_limit = e.target_limit;
-    let z = Cell {
-        kind: 0,
-        first: 0,
-        second: 0,
-    };
-    made(
-        key_kind(key, 4, 7),
-        parent_word(parent),
-        key_cell(key),
-        part_cell(12, identifier),
-        part_cell(12, description),
-        number_cell(matrix_type),
-        number_cell(mode),
-        number_cell(targets),
-        number_cell(sources),
-        number_cell(total_limit),
-        number_cell(target_limit),
-        z,
-        z,
-        z,
-        z,
-        z,
-        z,
-        z,
-    )
+    let mut row = begun(key_kind(key, 4, 7), parent_word(parent));
+    put(&mut row, 0, key_cell(key));
+    put(&mut row, 1, part_cell(12, identifier));
+    put(&mut row, 2, part_cell(12, description));
+    put(&mut row, 3, number_cell(matrix_type));
+    put(&mut row, 4, number_cell(mode));
+    put(&mut row, 5, number_cell(targets));
+    put(&mut row, 6, number_cell(sources));
+    put(&mut row, 7, number_cell(total_limit));
+    put(&mut row, 8, number_cell(target_limit));
+    row
 }
 
 fn matrix_at(row: &[u64; 50]) -> Matrix
@@ -666,31 +566,10 @@ pub fn command_row(e: Command) -> [u64; 50]
     let parent = e.parent;
     let number = e.number;
     let mask = e.mask;
-    let z = Cell {
-        kind: 0,
-        first: 0,
-        second: 0,
-    };
-    made(
-        2,
-        parent_word(parent),
-        entries::cell_of(Value::Int(number)),
-        number_cell(mask),
-        z,
-        z,
-        z,
-        z,
-        z,
-        z,
-        z,
-        z,
-        z,
-        z,
-        z,
-        z,
-        z,
-        z,
-    )
+    let mut row = begun(2, parent_word(parent));
+    put(&mut row, 0, entries::cell_of(Value::Int(number)));
+    put(&mut row, 1, number_cell(mask));
+    row
 }
 
 fn command_at(row: &[u64; 50]) -> Command
@@ -740,31 +619,11 @@ pub fn connection_row(e: Connection) -> [u64; 50]
     let target = e.target;
     let sources = e.sources;
     let operation = e.operation;
-    let z = Cell {
-        kind: 0,
-        first: 0,
-        second: 0,
-    };
-    made(
-        8,
-        parent_word(parent),
-        entries::cell_of(Value::Int(target)),
-        part_cell(13, sources),
-        number_cell(operation),
-        z,
-        z,
-        z,
-        z,
-        z,
-        z,
-        z,
-        z,
-        z,
-        z,
-        z,
-        z,
-        z,
-    )
+    let mut row = begun(8, parent_word(parent));
+    put(&mut row, 0, entries::cell_of(Value::Int(target)));
+    put(&mut row, 1, part_cell(13, sources));
+    put(&mut row, 2, number_cell(operation));
+    row
 }
 
 fn connection_at(row: &[u64; 50]) -> Connection
@@ -814,31 +673,10 @@ pub fn stream_row(e: Stream) -> [u64; 50]
     let parent = e.parent;
     let identifier = e.identifier;
     let value = e.value;
-    let z = Cell {
-        kind: 0,
-        first: 0,
-        second: 0,
-    };
-    made(
-        9,
-        parent_word(parent),
-        entries::cell_of(Value::Int(identifier)),
-        entries::cell_of(value),
-        z,
-        z,
-        z,
-        z,
-        z,
-        z,
-        z,
-        z,
-        z,
-        z,
-        z,
-        z,
-        z,
-        z,
-    )
+    let mut row = begun(9, parent_word(parent));
+    put(&mut row, 0, entries::cell_of(Value::Int(identifier)));
+    put(&mut row, 1, entries::cell_of(value));
+    row
 }
 
 fn stream_at(row: &[u64; 50]) -> Stream
