@@ -1,5 +1,5 @@
 -- The words of a cell, as the code finds them.
-use Prim.Native.Nat.{ℕ, zero, suc, _+_, _-_, _*_, _≤_, _<_, _^_}
+use Prim.Native.Nat.{ℕ, _+_, _-_, _*_, _≤_, _<_, _^_}
 use mathlib.Core.Path.{_≡_, refl, sym, ap, subst, _∙_}
 use mathlib.Core.Bool.{Bool, true, false, not}
 use mathlib.Core.List.{List, []}
@@ -8,7 +8,7 @@ use borrow.Author.Tests.{lt-ltb, le-ltb}
 use lib.Dec.{T}
 use lib.IntN.{ℤ, pos, negsuc, natAbs}
 use lib.Signed.{ltZ, nonNeg}
-use lib.ListN.{length, length-set, getD, set}
+use lib.ListN.{length, getD, set}
 use lib.Seq.{getD-set-same, set-set, set-out}
 use lib.Ieee as Ieee
 use lib.Ieee.{Float, nan, inf, fin, binary64}
@@ -19,7 +19,7 @@ use Rattle.integers.specs.Digits.{pick}
 use Rattle.integers.proofs.Signs.{negative, natural-sign, word}
 use Rattle.entries.specs.declared.Cell.{Cell}
 use Rattle.entries.specs.Cell.{cell, wordOf, bitOf, absent}
-use Rattle.entries.specs.Entry.{Rows, row, blank}
+use Rattle.entries.specs.Entry.{Rows, row}
 use Rattle.entries.specs.Row.{cellPut, blanked}
 
 word-is : (z : ℤ) → SFits w64 z → ofZ w64 z ≡ wordOf z

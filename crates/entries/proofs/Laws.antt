@@ -1,16 +1,13 @@
 -- Entries in a lent table: what putting a cell or a new entry does to the rows.
 use Prim.Native.Nat.{ℕ, zero, suc, _+_, _*_, _≤_, _<_}
-use mathlib.Core.Path.{_≡_, refl, sym, ap, subst, _∙_}
-use mathlib.Core.Bool.{Bool, true, false}
+use mathlib.Core.Path.{_≡_, refl, sym, ap, _∙_}
 use mathlib.Core.List.{List, [], _∷_, _++_}
 use mathlib.Core.Logic.{⊎-elim}
 use native.Mathlib.Omega.{arith}
 use Rattle.integers.proofs.Radix.{lt-or-le}
 use borrow.Author.Tests.{lt-ltb, le-ltb}
-use lib.Dec.{ltb}
 use lib.ListN.{length, length-set, getD, set}
 use lib.Seq.{set-getD, set-out}
-use Rattle.integers.specs.Digits.{pick}
 use Rattle.entries.specs.declared.Cell.{Cell}
 use Rattle.entries.specs.Entry.{Entry, Entries, blank, withCell, putCell, words, row, Rows, overlay}
 use Rattle.entries.specs.Row.{cellPut, blanked}
