@@ -1,2 +1,4 @@
--- The claim over every list of offers.
+-- The claim over every list of offers; its calls, and that there are such lists.
 pub mod Chunks
+pub mod Sayable
+pub mod Calls

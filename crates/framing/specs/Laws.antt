@@ -394,16 +394,19 @@ module _ (o : Step) (t : List ℕ) (room : length t ≡ storeLength) (w : Within
   unfolding kept
   kept-length = length-sets (sets t 0 ys) contentStart xs ∙ length-sets t 0 ys ∙ room
 
+  -- the message stands in the store from 0
+  pub kept-message : take (length ys) (kept o t) ≡ ys
+  unfolding kept
+  kept-message = take-sets-le xs (sets t 0 ys) contentStart (length ys) (w .message) ∙ part-sets ys t 0 (omega (arith, w .message))
+
   -- the next session and the store hold the next state
   pub kept-state : stateOf (sessionOf (o .next)) (kept o t) ≡ o .next
   unfolding kept
   kept-state =
       let l : length (sets t 0 ys) ≡ storeLength = length-sets t 0 ys ∙ room in
       let e : contentIn (length xs) (kept o t) ≡ xs = part-sets xs (sets t 0 ys) contentStart (omega (arith, w .frame)) in
-      let f : take (length ys) (kept o t) ≡ ys =
-      take-sets-le xs (sets t 0 ys) contentStart (length ys) (w .message) ∙ part-sets ys t 0 (omega (arith, w .message)) in
       ap (λ (p : Place). record { place = p; message = messageOf (pendingOf (o .next .message)) (kept o t) }) (place-back (o .next .place) (kept o t) e)
-      ∙ ap (λ (m : Message). record { place = o .next .place; message = m }) (message-back (o .next .message) (o .said .message) (kept o t) f)
+      ∙ ap (λ (m : Message). record { place = o .next .place; message = m }) (message-back (o .next .message) (o .said .message) (kept o t) kept-message)
 
 -- ---- the session of a bounded state is legal
 
