@@ -27,8 +27,8 @@ use Rattle.framing.specs.Numbers.{storeLength, pick}
 use Rattle.framing.specs.Rules.{State, Said, begin, Happening, noted, happens, after}
 use Rattle.framing.specs.Session.{saidBy, stateOf, sessionOf, legal, Legal, Whole, answers, run, feeds}
 use Rattle.framing.specs.Offers.{Turn, Turns, none, turn, eaten, told, joined, Serves, done, whole, part, Consumed}
-use Rattle.framing.specs.Laws.{pick-by, legal-true, bounded-state}
-use Rattle.framing.specs.Stream.{Ran}
+use Rattle.framing.proofs.Laws.{pick-by, legal-true, bounded-state}
+use Rattle.framing.proofs.Stream.{Ran}
 use Rattle.framing.proofs.Sayable.{Sayable, run-sayable}
 use Rattle.framing.proofs.Chunks.{call-ran, as-rules, fresh-legal}
 

@@ -12,8 +12,8 @@ use Rattle.framing.specs.Numbers.{storeLength}
 use Rattle.framing.specs.Rules.{State, Said, begin, Happening, noted, happens, after}
 use Rattle.framing.specs.Session.{saidBy, stateOf, sessionOf, Legal, Whole, answers, run, feeds}
 use Rattle.framing.specs.Offers.{Turn, Turns, none, turn, eaten, told, AsRules}
-use Rattle.framing.specs.Laws.{true-legal, bounded-state, session-back}
-use Rattle.framing.specs.Stream.{Ran, ran, noted-append, happens-append, after-append}
+use Rattle.framing.proofs.Laws.{true-legal, bounded-state, session-back}
+use Rattle.framing.proofs.Stream.{Ran, ran, noted-append, happens-append, after-append}
 
 -- the run that a call with a legal session makes
 pub call-ran : {s : Session} {t c : List ℕ} (r : Fed) {t′ : List ℕ} → feeds s t c ≡ answers r t′ → Legal s t

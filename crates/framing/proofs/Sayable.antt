@@ -17,7 +17,7 @@ use Rattle.framing.specs.Numbers.{BOF, EOF, CE, contentLimit, messageLim
 use Rattle.framing.specs.Rules.{Place, outside, stray, inside, escaped, badByte, tooLong, Message, none, part, isOpen, State, Said, Step}
 use Rattle.framing.specs.Rules.{goes, refuses, adds, joins, pieces, reads, ends, faulted, cuts, inPlace, step}
 use Rattle.framing.specs.Session.{saidBy, stateOf, sessionOf, held, kept, Whole, run}
-use Rattle.framing.specs.Laws.{pick-by, Bounded, Within, within-step, bounded-next, kept-length, kept-message}
+use Rattle.framing.proofs.Laws.{pick-by, Bounded, Within, within-step, bounded-next, kept-length, kept-message}
 
 -- the message that a step leaves, or has finished
 abbrev messageAfter : Step → List ℕ

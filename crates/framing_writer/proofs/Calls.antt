@@ -17,14 +17,14 @@ use Rattle.framing.specs.Numbers.{messageLimit, storeLength}
 use Rattle.framing.specs.Rules.{none, State, Said, Happening, begin, ends}
 use Rattle.framing.specs.Session.{sessionOf}
 use Rattle.framing.specs.Offers.{Turns, joined, Consumed}
-use Rattle.framing.specs.Laws.{pick-by}
+use Rattle.framing.proofs.Laws.{pick-by}
 use Rattle.framing.proofs.Chunks.{fresh-legal}
 use Rattle.framing.proofs.Calls.{some-turns}
 use Rattle.framing_writer.specs.declared.Written.{Written}
 use Rattle.framing_writer.specs.declared.Written.the-variants.{Done, Out}
 use Rattle.framing_writer.specs.Written.{sealed, frame, bodyLimit, requestBody, responseBody, inPackets}
 use Rattle.framing_writer.specs.Written.{Outcome, outcome, into, limited, frameInto, messageInto}
-use Rattle.framing_writer.specs.Laws.{limited-fits}
+use Rattle.framing_writer.proofs.Laws.{limited-fits}
 use Rattle.framing_writer.specs.Read.{Bytes, Gives, happening, messageEvents, ReadAs}
 use Rattle.framing_writer.proofs.Chunks.{fresh-opens, in-chunks, written-frame, written-message, written-request, written-response}
 use Rattle.framing_writer.proofs.write_frame

@@ -13,7 +13,7 @@ use Rattle.framing.specs.Offers.{Turn, Turns}
 use Rattle.framing.proofs.Calls.{told-whole}
 use Rattle.framing_writer.specs.declared.Written.the-variants.{Done}
 use Rattle.framing_writer.specs.Written.{escapes, sealed, frame, bodyLimit, requestBody, responseBody, outcome, into, frameInto, messageInto}
-use Rattle.framing_writer.specs.Laws.{into-back, limited-done}
+use Rattle.framing_writer.proofs.Laws.{into-back, limited-done}
 use Rattle.framing_writer.specs.Read.{Bytes, Opens, Gives, happening, messageEvents, ReadAs}
 use Rattle.framing_writer.proofs.Reading.{state, opens-outside}
 use Rattle.framing_writer.proofs.Back.{content-back, frame-back, request-back, response-back, message-back}

@@ -1,4 +1,6 @@
--- What the writer writes, the rules of framing read back; a session in any chunks; the calls, and that there are such.
+-- Laws of the definitions (Laws); what the writer writes, the rules of framing read back (Reading, Back), and a session in any chunks (Chunks); the calls, and that
+-- there are such (Calls).
+pub mod Laws
 pub mod Reading
 pub mod Back
 pub mod Chunks

@@ -20,8 +20,8 @@ use Rattle.reals.specs.declared.Read.the-variants.{Real, Refused}
 use Rattle.reals.specs.Number.{number}
 use Rattle.reals.specs.Real.{binary, base, exponentOctets, wellFormed, negative, mantissa, power, binaryReal, nonEmpty, real}
 use Rattle.reals.specs.Means.{Equals, Means}
-use Rattle.reals.specs.Laws.{number-zero}
-use Rattle.reals.specs.Exact.{accepted, complete}
+use Rattle.reals.proofs.Laws.{number-zero}
+use Rattle.reals.proofs.Doubles.{accepted, complete}
 
 never : (r : Read) (x : Float) → r ≡ Refused → r ≡ Real x → ⊥
 never r x p q = let z : _≡_ {A = ℕ} 0 1 = cc in omega arith

@@ -13,7 +13,8 @@ use lib.ListN.{length}
 use Rattle.framing.specs.declared.Event.{Event}
 use Rattle.framing.specs.declared.Event.the-variants.{More, Setup, Piece, Message, Request, Response, Refused}
 use Rattle.framing.specs.Session.{saidBy}
-use Rattle.framing.specs.Laws.{legal-true, number-not-zero, turn-legal, turn-event, turn-end, Reaches, reaches-here, reaches-on, reaches-more}
+use Rattle.framing.proofs.Laws.{legal-true, number-not-zero, turn-legal, turn-event, turn-end, reaches-here, reaches-on, reaches-more}
+use Rattle.framing.specs.Steps.{Reaches}
 use Rattle.framing.proofs.Event as event
 use Rattle.framing.proofs.runs.Statement.{statement}
 use Rattle.framing.proofs.runs.Tie as tie
