@@ -81,6 +81,11 @@ called {s} {t} {c} r {t′} e =
       ensured = e;
     }
 
+-- A turn is a call of `feed`.
+pub turn-is-call : {s s″ : Session} {t t″ rest rest″ : List ℕ} {x : Turn} {ts : List Turn} → Turns s t rest (x ∷ ts) s″ t″ rest″
+    → Call s t (x .offered) (x .fed) (x .store)
+turn-is-call (turn c later r e more) = called r e
+
 -- ---- there is a call
 
 -- what `feeds` says, some answer of `feed` says
