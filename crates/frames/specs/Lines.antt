@@ -1,4 +1,4 @@
--- Lines of hexadecimal digits (issue 2, item 7), read byte by byte.
+-- Lines of hexadecimal digits, read byte by byte.
 use Prim.Native.Nat.{ℕ, _+_, _-_, _*_}
 use mathlib.Core.Bool.{Bool, true, false}
 use mathlib.Core.List.{List, [], _∷_}

@@ -1,4 +1,4 @@
--- What the program prints, line by line (issue 2, item 7).
+-- What the program prints, line by line.
 use Prim.Native.Nat.{ℕ, zero, suc, _+_, _/_, _%_}
 use mathlib.Core.Bool.{Bool, cond}
 use mathlib.Core.List.{List, [], _∷_, _++_}

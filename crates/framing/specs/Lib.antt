@@ -1,4 +1,3 @@
-pub mod Lists
 pub mod Numbers
 pub mod Checksum
 pub mod Content
@@ -7,5 +6,3 @@ pub mod Session
 pub mod Offers
 pub mod Vectors
 pub mod Steps
-pub mod Laws
-pub mod Stream

@@ -1,20 +1,28 @@
 -- The words of the claim over every list of offers: calls one after another, what they told, and what the rules say of it.
-use Prim.Native.Nat.{ℕ, _+_, _≤_}
+use Prim.Native.Nat.{ℕ, _+_, _≤_, _<_}
 use mathlib.Core.Bool.{true}
 use mathlib.Core.List.{List, [], _∷_, _++_}
 use mathlib.Core.Path.{_≡_}
 use lib.Dec.{eqb}
-use lib.ListN.{length, take}
+use lib.ListN.{length, take, drop}
 use Rattle.framing.specs.declared.Fed.{Fed}
 use Rattle.framing.specs.declared.Session.{Session}
 use Rattle.framing.specs.Rules.{State, Happening, noted, happens, after}
-use Rattle.framing.specs.Session.{saidBy, stateOf, Legal}
+use Rattle.framing.specs.Session.{saidBy, stateOf, Legal, answers, feeds}
 
 -- One call: what was offered, what it gave, and the store as it left it.
 pub record Turn : Type 0 where
   pub offered : List ℕ
   pub fed : Fed
   pub store : List ℕ
+
+-- A list of turns from the session s and the store t, with the bytes rest yet to come. Each turn is a session call, "offered 0 or more bytes from the
+-- first not yet consumed", with the session and the store that the call before it left. What a call gives is what `feeds` says: the contract of `feed`.
+pub data Turns : Session → List ℕ → List ℕ → List Turn → Session → List ℕ → List ℕ → Type 0 where
+  none : {s : Session} {t rest : List ℕ} → Turns s t rest [] s t rest
+  turn : {s s″ : Session} {t t′ t″ rest″ : List ℕ} {ts : List Turn} (c later : List ℕ) (r : Fed)
+      → feeds s t c ≡ answers r t′ → Turns (r .session) t′ (drop (r .consumed) (c ++ later)) ts s″ t″ rest″
+      → Turns s t (c ++ later) (record { offered = c; fed = r; store = t′ } ∷ ts) s″ t″ rest″
 
 -- The bytes that the calls consumed.
 abbrev pub eaten : List Turn → List ℕ
@@ -40,3 +48,25 @@ pub record AsRules (s : State) (n : ℕ) (ts : List Turn) (s″ : Session) (t″
   pub bytes-are : eaten ts ++ rest ≡ bytes
   pub counted : Counted ts
   pub legal : Legal s″ t″
+
+-- ---- a stream that is cut into chunks
+
+-- The stream.
+abbrev pub joined : List (List ℕ) → List ℕ
+joined [] = []
+joined (c ∷ cs) = c ++ joined cs
+
+-- The turns offer these chunks in order, each until it is consumed: what a call leaves of a chunk is offered next.
+pub data Serves : List (List ℕ) → List Turn → Type 0 where
+  done : Serves [] []
+  whole : {cs : List (List ℕ)} {ts : List Turn} (x : Turn) → x .fed .consumed ≡ length (x .offered) → Serves cs ts → Serves (x .offered ∷ cs) (x ∷ ts)
+  part : {cs : List (List ℕ)} {ts : List Turn} (x : Turn) → x .fed .consumed < length (x .offered)
+      → Serves (drop (x .fed .consumed) (x .offered) ∷ cs) ts → Serves (x .offered ∷ cs) (x ∷ ts)
+
+-- Some list of turns, from the session s and the store t, offers these chunks and consumes them whole.
+pub record Consumed (s : Session) (t : List ℕ) (chunks : List (List ℕ)) : Type 0 where
+  pub turns : List Turn
+  pub session : Session
+  pub store : List ℕ
+  pub made : Turns s t (joined chunks) turns session store []
+  pub served : Serves chunks turns

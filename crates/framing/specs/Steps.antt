@@ -1,8 +1,10 @@
--- The answers of the private functions of a step.
-use Prim.Native.Nat.{ℕ}
+-- For the private functions alone: the answers of a step's functions, and what a stride over many bytes does.
+use Prim.Native.Nat.{ℕ, _≤_}
 use mathlib.Core.Bool.{Bool, true, false}
 use mathlib.Core.List.{List}
+use mathlib.Core.Path.{_≡_}
 use lib.Dec.{eqb}
+use lib.ListN.{length, drop}
 use Rattle.framing.specs.declared.Event.{Event}
 use Rattle.framing.specs.declared.Event.the-variants as ev
 use Rattle.framing.specs.declared.Fault.{Fault}
@@ -10,10 +12,12 @@ use Rattle.framing.specs.declared.Frame.{Frame}
 use Rattle.framing.specs.declared.Frame.the-variants.{Outside, Inside}
 use Rattle.framing.specs.declared.Pending.{Pending}
 use Rattle.framing.specs.declared.Pending.the-variants.{Nothing, Part}
+use Rattle.framing.specs.declared.Session.{Session}
 use Rattle.framing.specs.declared.step.Progress.{Progress}
 use Rattle.framing.specs.declared.step.Stepped.{Stepped}
 use Rattle.framing.specs.Numbers.{BOF, EOF, pick}
-use Rattle.framing.specs.Session.{Kept, saidBy}
+use Rattle.framing.specs.Rules.{step}
+use Rattle.framing.specs.Session.{Kept, saidBy, stateOf, Legal, keeps, run}
 
 -- what an answer says beside the store that it leaves
 abbrev pub gives : Stepped → List ℕ → Kept
@@ -41,3 +45,14 @@ pastFault x f b m = pick (eqb b BOF) (refusing x (Inside 0) m) (pick (eqb b EOF)
 
 abbrev pub arriving : ℕ → Pending → ℕ → Progress
 arriving n m i = record { session = record { frame = Inside n; message = m }; at = i }
+
+-- From byte i of a chunk, the session s and the store t, a call comes to byte j, s′ and t′ with no event: what is left gives the same.
+pub record Reaches (c : List ℕ) (i : ℕ) (s : Session) (t : List ℕ) (j : ℕ) (s′ : Session) (t′ : List ℕ) : Type 0 where
+  pub legal : Legal s′ t′
+  pub forward : i ≤ j
+  pub inside : j ≤ length c
+  pub rest : run (drop i c) (stateOf s t) t i ≡ run (drop j c) (stateOf s′ t′) t′ j
+
+-- Any byte but BOF and another leaves the session and the store as they are.
+unfoldable pub Stays : Session → ℕ → Type 0
+Stays s other = (b : ℕ) (t : List ℕ) → (b ≡ BOF → ⊥) → (b ≡ other → ⊥) → Legal s t → keeps (step (stateOf s t) b) t ≡ gives (going (s .frame) (s .message)) t

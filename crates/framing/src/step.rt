@@ -19,9 +19,8 @@ ghost use mathlib.Core.List.{List};
 ghost use lib.ListN.{length, take, drop};
 ghost use lib.Seq.{sets};
 ghost use Rattle.framing.specs.Numbers.{contentLimit, messageLimit, storeLength, contentStart};
-ghost use Rattle.framing.specs.Steps.{gives, arriving, isPart, going, staying, refusing, joining, pastFault};
+ghost use Rattle.framing.specs.Steps.{gives, arriving, isPart, going, staying, refusing, joining, pastFault, Reaches, Stays};
 ghost use Rattle.framing.specs.Rules.{adds as ruleAdds, pieces as rulePieces, ends as ruleEnds, inPlace, step as ruleStep, inside as insidePlace, escaped as escapedPlace};
-ghost use Rattle.framing.specs.Laws.{Reaches, Stays};
 ghost use Rattle.framing.specs.Session.{frameLength, messageLength, contentIn, messageOf, stateOf, Legal, keeps};
 
 pub struct Stepped {

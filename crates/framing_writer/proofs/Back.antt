@@ -12,7 +12,7 @@ use Rattle.framing.specs.declared.Content.{Content}
 use Rattle.framing.specs.declared.Content.the-variants.{Refused, Request, Response, Piece}
 use Rattle.framing.specs.declared.Fault.{Fault}
 use Rattle.framing.specs.declared.Fault.the-variants.{Short, Big}
-use Rattle.framing.specs.Laws.{number-not-zero}
+use Rattle.framing.proofs.Laws.{number-not-zero}
 use Rattle.framing.specs.Checksum.{checksum, octetsOf}
 use Rattle.framing.specs.Content.{isFirst, isLast, emptyBit, packetOf, commandOf, bodyOf, body, crcOf, contentOf, payload}
 use Rattle.framing.specs.Numbers.{BOF, EOF, messageLimit, number, pick}

@@ -1,23 +1,32 @@
--- Calls of the writer's functions, through their own contracts: what a call answered as done, the rules of framing read back.
+-- Calls of the writer's functions. Their contracts say what the claims of Chunks.antt speak of; and the claims speak of something: there is a call for
+-- everything that can be handed in, and what fits is written, and read back by calls of the session however it is cut, with nothing left open.
 use Prim.Native.Nat.{ℕ, _+_, _≤_}
 use mathlib.Core.Bool.{false}
-use mathlib.Core.List.{List, [], _∷_}
-use mathlib.Core.Path.{_≡_, refl}
-use denote.Ref.{now}
+use mathlib.Core.List.{List, [], _∷_, _++_}
+use mathlib.Core.Path.{_≡_, refl, subst, _∙_}
+use native.Mathlib.Nat.{zero-add}
+use borrow.Author.Tests.{le-leb}
+use denote.Ref.{RefT, now}
 use contract.Lifetimes.{Lfts}
 use borrow.Fn.World as World
 use borrow.Fn.Kinds as K
 use denote.Triple.Clauses as Clauses
-use lib.ListN.{length, take}
-use Rattle.framing.specs.Numbers.{messageLimit}
-use Rattle.framing.specs.Rules.{outside, State, begin, isOpen, ends}
+use lib.Dec.{leb}
+use lib.ListN.{length, take, drop}
+use Rattle.framing.specs.Numbers.{messageLimit, storeLength}
+use Rattle.framing.specs.Rules.{none, State, Said, Happening, begin, ends}
+use Rattle.framing.specs.Session.{sessionOf}
+use Rattle.framing.specs.Offers.{Turns, joined, Consumed}
+use Rattle.framing.proofs.Laws.{pick-by}
+use Rattle.framing.proofs.Chunks.{fresh-legal}
+use Rattle.framing.proofs.Calls.{some-turns}
 use Rattle.framing_writer.specs.declared.Written.{Written}
-use Rattle.framing_writer.specs.declared.Written.the-variants.{Done}
-use Rattle.framing_writer.specs.Written.{sealed, frame, bodyLimit, requestBody, responseBody, inPackets, outcome, into, frameInto, messageInto}
-use Rattle.framing_writer.specs.Laws.{into-back, limited-done}
-use Rattle.framing_writer.specs.Read.{Bytes, Opens, Gives, happening, messageEvents}
-use Rattle.framing_writer.proofs.Reading.{state}
-use Rattle.framing_writer.proofs.Back.{frame-back, request-back, response-back, message-back}
+use Rattle.framing_writer.specs.declared.Written.the-variants.{Done, Out}
+use Rattle.framing_writer.specs.Written.{sealed, frame, bodyLimit, requestBody, responseBody, inPackets}
+use Rattle.framing_writer.specs.Written.{Outcome, outcome, into, limited, frameInto, messageInto}
+use Rattle.framing_writer.proofs.Laws.{limited-fits}
+use Rattle.framing_writer.specs.Read.{Bytes, Gives, happening, messageEvents, ReadAs}
+use Rattle.framing_writer.proofs.Chunks.{fresh-opens, in-chunks, written-frame, written-message, written-request, written-response}
 use Rattle.framing_writer.proofs.write_frame
 use Rattle.framing_writer.proofs.write_frame.Kinds as write-frame-kinds
 use Rattle.framing_writer.proofs.write_frame.Reads as write-frame-reads
@@ -29,8 +38,19 @@ use Rattle.framing_writer.proofs.write_response.Reads as write-response
 use Rattle.framing_writer.proofs.write_message
 use Rattle.framing_writer.proofs.write_message.Reads as write-message-reads
 
+-- ---- the contracts
+
+-- What `write_frame` and `write_message` ensure, of their arguments, answer and slices at exit; what `write_request` and `write_response` do.
+abbrev Ensures : Type 1
+Ensures =
+    (κs : Lfts 2) → World.ArgsD write_frame.signature κs → Written → Clauses.AtExit (K.endedOf 2 write-frame-kinds.ps write-frame-kinds.r) κs → Type 0
+
+abbrev KeepAliveEnsures : Type 1
+KeepAliveEnsures =
+    (κs : Lfts 1) → World.ArgsD write_request.signature κs → Written → Clauses.AtExit (K.endedOf 1 write-request-kinds.ps write-request-kinds.r) κs → Type 0
+
 -- A call of `write_frame` or `write_message`, by what its contract ensures: xs and the output o handed in, the answer r, the output left p.
-pub record Call (Post : (κs : Lfts 2) → World.ArgsD write_frame.signature κs → Written → Clauses.AtExit (K.endedOf 2 write-frame-kinds.ps write-frame-kinds.r) κs → Type 0) (xs o : List ℕ) (r : Written) (p : List ℕ) : Type 0 where
+pub record Call (Post : Ensures) (xs o : List ℕ) (r : Written) (p : List ℕ) : Type 0 where
   pub κs : Lfts 2
   pub args : World.ArgsD write_frame.signature κs
   pub exits : Clauses.AtExit (K.endedOf 2 write-frame-kinds.ps write-frame-kinds.r) κs
@@ -40,7 +60,7 @@ pub record Call (Post : (κs : Lfts 2) → World.ArgsD write_frame.signature κs
   pub ensured : Post κs args r exits
 
 -- The same of `write_request` or `write_response`, which are handed the output alone.
-pub record KeepAliveCall (Post : (κs : Lfts 1) → World.ArgsD write_request.signature κs → Written → Clauses.AtExit (K.endedOf 1 write-request-kinds.ps write-request-kinds.r) κs → Type 0) (o : List ℕ) (r : Written) (p : List ℕ) : Type 0 where
+pub record KeepAliveCall (Post : KeepAliveEnsures) (o : List ℕ) (r : Written) (p : List ℕ) : Type 0 where
   pub κs : Lfts 1
   pub args : World.ArgsD write_request.signature κs
   pub exits : Clauses.AtExit (K.endedOf 1 write-request-kinds.ps write-request-kinds.r) κs
@@ -48,37 +68,152 @@ pub record KeepAliveCall (Post : (κs : Lfts 1) → World.ArgsD write_request.si
   pub left-is : now (exits .0) ≡ p
   pub ensured : Post κs args r exits
 
-module _ (o p : List ℕ) (n : ℕ) where
-  -- what a call that is done left in the output
-  frame-left : {xs : List ℕ} → Call write-frame-reads.Post xs o (Done n) p → (length xs ≤ bodyLimit) × (take n p ≡ frame xs)
-  frame-left {xs} c =
-      let e : frameInto xs o ≡ outcome (Done n) p = cc (c .ensured) in
-      limited-done _ _ _ _ e
+abbrev pub FrameCall : List ℕ → List ℕ → Written → List ℕ → Type 0
+FrameCall xs o r p = Call write-frame-reads.Post xs o r p
 
-  message-left : {m : List ℕ} → Call write-message-reads.Post m o (Done n) p → (length m ≤ messageLimit) × (take n p ≡ inPackets m)
-  message-left {m} c =
-      let e : messageInto m o ≡ outcome (Done n) p = cc (c .ensured) in
-      limited-done _ _ _ _ e
+abbrev pub MessageCall : List ℕ → List ℕ → Written → List ℕ → Type 0
+MessageCall m o r p = Call write-message-reads.Post m o r p
 
-  request-left : KeepAliveCall write-request-reads.Post o (Done n) p → take n p ≡ frame requestBody
-  request-left c = into-back (frame requestBody) o p n (cc (c .ensured))
+abbrev pub RequestCall : List ℕ → Written → List ℕ → Type 0
+RequestCall o r p = KeepAliveCall write-request-reads.Post o r p
 
-  response-left : KeepAliveCall write-response-reads.Post o (Done n) p → take n p ≡ frame responseBody
-  response-left c = into-back (frame responseBody) o p n (cc (c .ensured))
+abbrev pub ResponseCall : List ℕ → Written → List ℕ → Type 0
+ResponseCall o r p = KeepAliveCall write-response-reads.Post o r p
 
-  module _ (s : State) (q : Opens s) (k : ℕ) where
-    pub written-frame : {xs : List ℕ} → Call write-frame-reads.Post xs o (Done n) p → Bytes xs
-        → Gives s k (take n p) (record { offset = k + length (frame xs); said = ends (sealed xs) (s .message) .said } ∷ []) (ends (sealed xs) (s .message) .next)
-    written-frame {xs} c h = let d = frame-left c in rw (d .1) (frame-back xs h (d .0) s q k refl)
+-- a lent slice that holds xs
+lent : List ℕ → RefT (List ℕ)
+lent xs = record { ptr = (0, 0); name = 0; now = xs }
 
-    pub written-message : {m : List ℕ} → Call write-message-reads.Post m o (Done n) p → Bytes m
-        → Gives s k (take n p) (messageEvents (isOpen (s .message)) m k) begin
-    written-message {m} c h = let d = message-left c in rw (d .1) (message-back m h (d .0) s q k)
+-- What a call gives is what its function's definition says, and nothing else.
+module _ {o : List ℕ} (r : Written) {p : List ℕ} where
+  module _ (xs : List ℕ) where
+    pub frame-says : FrameCall xs o r p → frameInto xs o ≡ outcome r p
+    frame-says c = cc (c .ensured)
 
-    pub written-request : KeepAliveCall write-request-reads.Post o (Done n) p
-        → Gives s k (take n p) (happening (k + length (frame requestBody)) 4 false [] ∷ []) (state outside (s .message))
-    written-request c = rw (request-left c) (request-back s q k)
+    pub frame-called : frameInto xs o ≡ outcome r p → FrameCall xs o r p
+    unfolding lent
+    frame-called e =
+        record {
+          κs = ([], ([], tt));
+          args = (lent xs, (lent o, tt));
+          exits = (lent xs, (lent p, tt));
+          given-is = refl;
+          output-is = refl;
+          left-is = refl;
+          ensured = e;
+        }
 
-    pub written-response : KeepAliveCall write-response-reads.Post o (Done n) p
-        → Gives s k (take n p) (happening (k + length (frame responseBody)) 5 false [] ∷ []) (state outside (s .message))
-    written-response c = rw (response-left c) (response-back s q k)
+    pub message-says : MessageCall xs o r p → messageInto xs o ≡ outcome r p
+    message-says c = cc (c .ensured)
+
+    pub message-called : messageInto xs o ≡ outcome r p → MessageCall xs o r p
+    unfolding lent
+    message-called e =
+        record {
+          κs = ([], ([], tt));
+          args = (lent xs, (lent o, tt));
+          exits = (lent xs, (lent p, tt));
+          given-is = refl;
+          output-is = refl;
+          left-is = refl;
+          ensured = e;
+        }
+
+  pub request-says : RequestCall o r p → into (frame requestBody) o ≡ outcome r p
+  request-says c = cc (c .ensured)
+
+  pub request-called : into (frame requestBody) o ≡ outcome r p → RequestCall o r p
+  unfolding lent
+  request-called e =
+      record { κs = ([], tt); args = (lent o, tt); exits = (lent p, tt); output-is = refl; left-is = refl; ensured = e }
+
+  pub response-says : ResponseCall o r p → into (frame responseBody) o ≡ outcome r p
+  response-says c = cc (c .ensured)
+
+  pub response-called : into (frame responseBody) o ≡ outcome r p → ResponseCall o r p
+  unfolding lent
+  response-called e =
+      record { κs = ([], tt); args = (lent o, tt); exits = (lent p, tt); output-is = refl; left-is = refl; ensured = e }
+
+-- ---- there is a call
+
+-- an answer of the enum, with an output, that says this
+abbrev Answered : Outcome → Type 0
+Answered w = (r : Written) × ((p : List ℕ) × (w ≡ outcome r p))
+
+into-answered : (bs o : List ℕ) → Answered (into bs o)
+unfolding into
+into-answered bs o =
+    pick-by Answered (leb (length bs) (length o)) (λ e. (Done (length bs), (bs ++ drop (length bs) o, refl))) (λ e. (Out, (o, refl)))
+
+limited-answered : (n limit : ℕ) (bs o : List ℕ) → Answered (limited n limit bs o)
+unfolding limited
+limited-answered n limit bs o = pick-by Answered (leb n limit) (λ e. into-answered bs o) (λ e. (Out, (o, refl)))
+
+-- FOR EVERYTHING that can be handed in there is a call.
+pub some-frame-call : (xs o : List ℕ) → (r : Written) × ((p : List ℕ) × FrameCall xs o r p)
+some-frame-call xs o = let k = limited-answered (length xs) bodyLimit (frame xs) o in (k .0, (k .1 .0, frame-called (k .0) xs (k .1 .1)))
+
+pub some-message-call : (m o : List ℕ) → (r : Written) × ((p : List ℕ) × MessageCall m o r p)
+some-message-call m o =
+    let k = limited-answered (length m) messageLimit (inPackets m) o in (k .0, (k .1 .0, message-called (k .0) m (k .1 .1)))
+
+pub some-request-call : (o : List ℕ) → (r : Written) × ((p : List ℕ) × RequestCall o r p)
+some-request-call o = let k = into-answered (frame requestBody) o in (k .0, (k .1 .0, request-called (k .0) (k .1 .1)))
+
+pub some-response-call : (o : List ℕ) → (r : Written) × ((p : List ℕ) × ResponseCall o r p)
+some-response-call o = let k = into-answered (frame responseBody) o in (k .0, (k .1 .0, response-called (k .0) (k .1 .1)))
+
+-- ---- the claims, with nothing left open
+
+-- Some call is answered as done; and however the bytes that it wrote are cut into chunks, some list of turns offers the chunks to a fresh session with
+-- the store t, each until it is consumed, and tells exactly the events hs; session and store then hold the state e.
+pub record WrittenRead (Called : Written → List ℕ → Type 0) (t : List ℕ) (hs : List Happening) (e : State) : Type 0 where
+  pub count : ℕ
+  pub output : List ℕ
+  pub call : Called (Done count) output
+  pub read : (chunks : List (List ℕ)) → joined chunks ≡ take count output
+      → (k : Consumed (sessionOf begin) t chunks) × ReadAs 0 (k .turns) (k .session) (k .store) hs e
+
+into-fits : (bs o : List ℕ) → length bs ≤ length o → into bs o ≡ outcome (Done (length bs)) (bs ++ drop (length bs) o)
+unfolding into
+into-fits bs o h = simp (le-leb _ _ h)
+
+-- an event at n bytes from the beginning
+from-zero : {bytes : List ℕ} {n : ℕ} {x : Said} {e : State} → Gives begin 0 bytes (record { offset = 0 + n; said = x } ∷ []) e
+    → Gives begin 0 bytes (record { offset = n; said = x } ∷ []) e
+from-zero {bytes} {n} {x} {e} g = subst (λ (k : ℕ). Gives begin 0 bytes (record { offset = k; said = x } ∷ []) e) (zero-add n) g
+
+module _ (o t : List ℕ) (room : length t ≡ storeLength) where
+  read-any : {bytes : List ℕ} {hs : List Happening} {e : State} → Gives begin 0 bytes hs e → (chunks : List (List ℕ)) → joined chunks ≡ bytes
+      → (k : Consumed (sessionOf begin) t chunks) × ReadAs 0 (k .turns) (k .session) (k .store) hs e
+  read-any g chunks e =
+      let k = some-turns chunks (sessionOf begin) t (fresh-legal room) in
+      (k, in-chunks (fresh-legal room) 0 g (subst (λ (bs : List ℕ). Turns (sessionOf begin) t bs (k .turns) (k .session) (k .store) []) e (k .made)))
+
+  -- every message of at most 16,384 bytes whose packets fit: 2 for each packet but the last, then 3 with these very bytes
+  pub message-written-read : (m : List ℕ) → Bytes m → length m ≤ messageLimit → length (inPackets m) ≤ length o
+      → WrittenRead (MessageCall m o) t (messageEvents false m 0) begin
+  message-written-read m b l f =
+      let e = limited-fits (length m) messageLimit (inPackets m) o l ∙ into-fits (inPackets m) o f in
+      record { count = _; output = _; call = message-called _ m e; read = read-any (written-message o _ _ begin (fresh-opens t) 0 m e b) }
+
+  -- every body of at most 1,022 bytes whose frame fits: one event, at its last byte, which its content decides
+  pub frame-written-read : (xs : List ℕ) → Bytes xs → length xs ≤ bodyLimit → length (frame xs) ≤ length o
+      → WrittenRead (FrameCall xs o) t (record { offset = length (frame xs); said = ends (sealed xs) none .said } ∷ []) (ends (sealed xs) none .next)
+  frame-written-read xs b l f =
+      let e = limited-fits (length xs) bodyLimit (frame xs) o l ∙ into-fits (frame xs) o f in
+      record { count = _; output = _; call = frame-called _ xs e; read = read-any (from-zero (written-frame o _ _ begin (fresh-opens t) 0 xs e b)) }
+
+  -- the keep-alives: 4 and 5
+  pub request-written-read : length (frame requestBody) ≤ length o
+      → WrittenRead (RequestCall o) t (happening (length (frame requestBody)) 4 false [] ∷ []) begin
+  request-written-read f =
+      let e = into-fits (frame requestBody) o f in
+      record { count = _; output = _; call = request-called _ e; read = read-any (from-zero (written-request o _ _ begin (fresh-opens t) 0 e)) }
+
+  pub response-written-read : length (frame responseBody) ≤ length o
+      → WrittenRead (ResponseCall o) t (happening (length (frame responseBody)) 5 false [] ∷ []) begin
+  response-written-read f =
+      let e = into-fits (frame responseBody) o f in
+      record { count = _; output = _; call = response-called _ e; read = read-any (from-zero (written-response o _ _ begin (fresh-opens t) 0 e)) }

@@ -11,9 +11,9 @@ use lib.Dec.{ltb, eqb}
 use lib.ListN.{length, length-append}
 use Rattle.framing.specs.Numbers.{BOF, EOF, CE, contentLimit, pick}
 use Rattle.framing.specs.Rules.{Place, outside, stray, inside, escaped, Message, State, Said, Step, Happening, goes, adds, ends, cuts, inPlace, step, noted, happens, after}
-use Rattle.framing.specs.Stream.{happens-append, after-append}
+use Rattle.framing.proofs.Stream.{happens-append, after-append}
 use Rattle.framing_writer.specs.Written.{escape, escapes}
-use Rattle.framing_writer.specs.Laws.{escape-plain, escape-high}
+use Rattle.framing_writer.proofs.Laws.{escape-plain, escape-high}
 use Rattle.framing_writer.specs.Read.{Bytes, Opens, Gives}
 
 abbrev pub state : Place → Message → State

@@ -4,8 +4,11 @@ use mathlib.Core.Bool.{Bool, true, false}
 use mathlib.Core.List.{List, [], _∷_}
 use mathlib.Core.Path.{_≡_}
 use lib.ListN.{length, take, drop}
+use Rattle.framing.specs.declared.Session.{Session}
 use Rattle.framing.specs.Numbers.{BOF}
+use Rattle.framing.specs.Offers.{Turn, told}
 use Rattle.framing.specs.Rules.{inside, State, Happening, goes, step, happens, after}
+use Rattle.framing.specs.Session.{stateOf}
 use Rattle.framing_writer.specs.Written.{packet, payloadLimit, earlier}
 
 -- Every element is a byte, as in each list that stands for a slice of u8.
@@ -35,3 +38,8 @@ packetEvents (suc k) first d m w n =
 
 abbrev pub messageEvents : Bool → List ℕ → ℕ → List Happening
 messageEvents d m n = packetEvents (earlier (length m)) true d m m n
+
+-- From n bytes on, the calls told exactly the events hs, and session and store hold the state e at the end.
+pub record ReadAs (n : ℕ) (ts : List Turn) (s : Session) (t : List ℕ) (hs : List Happening) (e : State) : Type 0 where
+  pub events : told ts n ≡ hs
+  pub state-is : stateOf s t ≡ e

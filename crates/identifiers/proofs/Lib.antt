@@ -1,3 +1,4 @@
--- What the proofs share (Within), and the theorems on relative identifiers: `written-read`, `read-written` (RoundTrip).
+-- What the proofs share (Laws, Within), and the theorems on relative identifiers: `written-read`, `read-written` (RoundTrip).
+pub mod Laws
 pub mod Within
 pub mod RoundTrip

@@ -8,7 +8,7 @@ use native.Mathlib.Omega.{arith}
 use native.Mathlib.Nat.{mul-le-mul-right}
 use lib.ListN.{length, take, drop, getD, length-append, take-append-drop}
 use lib.Seq.{take-append-add, drop-drop, take-add, take-at, take-take, getD-take, getD-drop}
-use Rattle.integers.specs.Laws.{length-part}
+use Rattle.integers.proofs.Laws.{length-part}
 use lib.Arith.{digits-div, digits-mod}
 use borrow.Author.Tests.{le-leb, lt-leb, lt-ltb, le-ltb}
 use Rattle.integers.specs.declared.Wrote.the-variants.{Next, Out}
@@ -17,14 +17,14 @@ use Rattle.integers.proofs.Radix.{lt-or-le, none-or-some, Below, length-digits,
 use Rattle.integers.proofs.Signs.{below-take, below-drop}
 use Rattle.integers.proofs.Output.{put-fits, put-next, put-there, put-length}
 use Rattle.tags.specs.Write.{marked, septets}
-use Rattle.tags.specs.Laws.{length-marked}
+use Rattle.tags.proofs.Laws.{length-marked}
 use Rattle.tags.proofs.Septets.{length-septets, septets-value}
 use Rattle.tags.proofs.Written.{drop-past, not-80}
 use Rattle.identifiers.specs.declared.Arc.{Arc}
 use Rattle.identifiers.specs.declared.Arc.the-variants.{Number, Range as Over, Refused as NoArc}
 use Rattle.identifiers.specs.declared.Oid.the-variants.{Numbers}
 use Rattle.identifiers.specs.Identifier.{arcIs, arcFrom, arcAt, Arcs, bad, over, numbers, push, pass, andThen, arcsFrom, judged, arcs, oidAt, oidOctets, inRange, putOid}
-use Rattle.identifiers.specs.Laws.{arc-over, arc-is, arc-past, arc-none, arc-80, arc-from, arcs-done, arcs-number, oid-within, put-range, put-oid}
+use Rattle.identifiers.proofs.Laws.{arc-over, arc-is, arc-past, arc-none, arc-80, arc-from, arcs-done, arcs-number, oid-within, put-range, put-oid}
 
 -- groups of seven bits are read as their number
 from-read : (ds : List ℕ) (d : ℕ) (rest : List ℕ) (acc p : ℕ) → d < 128 → Below 128 ds

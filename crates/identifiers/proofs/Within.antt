@@ -4,7 +4,7 @@ use mathlib.Core.Path.{subst}
 use mathlib.Core.Logic.{⊎-elim}
 use Rattle.integers.proofs.Radix.{lt-or-le}
 use Rattle.identifiers.specs.Identifier.{arcIs, ArcWithin}
-use Rattle.identifiers.specs.Laws.{arc-over, arc-is}
+use Rattle.identifiers.proofs.Laws.{arc-over, arc-is}
 
 pub arc-within : (p end n next : ℕ) → p < next → next ≤ end → ArcWithin p end (arcIs n next)
 arc-within p end n next h k =

@@ -8,6 +8,7 @@ use mathlib.Core.Bool.{Bool, true, false}
 use lib.ListN.{length, take, drop, getD}
 use lib.Dec.{leb, ltb, eqb}
 use Rattle.integers.specs.Digits.{pick, Put, put, unchanged}
+use Rattle.integers.specs.Said.{Said, done, refused}
 use Rattle.tags.specs.Write.{septets}
 use Rattle.identifiers.specs.declared.Arc.{Arc}
 use Rattle.identifiers.specs.declared.Arc.the-variants.{Number, Range as Over, Refused as NoArc}
@@ -85,6 +86,18 @@ inRange (n ∷ ns) = pick (leb n 2147483647) (inRange ns) false
 -- 46 for a number out of range
 unfoldable pub putOid : List ℕ → ℕ → List ℕ → Put
 putOid out at ns = pick (inRange ns) (put out at (oidOctets ns)) (unchanged out)
+
+-- For each case of the answers what it says, at the tag: 30 for bad octets; a number out of its range has the number `range`, 37 in a path and 34 in sources.
+-- A number comes with the position after it; of an identifier the count of its numbers is told.
+abbrev pub arcSays : ℕ → ℕ → Arc → Said (ℕ × ℕ)
+arcSays range at (Number n next) = done (n, next)
+arcSays range at (Over next) = refused range at
+arcSays range at NoArc = refused 30 at
+
+abbrev pub oidSays : ℕ → ℕ → Oid → Said ℕ
+oidSays range at (Numbers n) = done n
+oidSays range at Range = refused range at
+oidSays range at Refused = refused 30 at
 
 -- an answer goes on, and stays within
 abbrev pub ArcWithin : ℕ → ℕ → Arc → Type 0

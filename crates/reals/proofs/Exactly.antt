@@ -12,16 +12,16 @@ use lib.Dec.{T, leb, ltb, eqb, leb→le, ltb→lt}
 use lib.IntN.{ℤ, pos}
 use lib.Ieee.{Float, inf, fin}
 use lib.Ieee.Fits.{and-l, and-r}
-use Rattle.integers.specs.Digits.{natural}
+use Rattle.integers.specs.Digits.{pick, natural}
 use Rattle.integers.proofs.Radix.{Below, natural-lt}
 use Rattle.integers.proofs.Signs.{below-drop}
 use Rattle.reals.specs.declared.Read.{Read}
 use Rattle.reals.specs.declared.Read.the-variants.{Real, Refused}
-use Rattle.reals.specs.Number.{pick, number}
+use Rattle.reals.specs.Number.{number}
 use Rattle.reals.specs.Real.{binary, base, exponentOctets, wellFormed, negative, mantissa, power, binaryReal, nonEmpty, real}
 use Rattle.reals.specs.Means.{Equals, Means}
-use Rattle.reals.specs.Laws.{number-zero}
-use Rattle.reals.specs.Exact.{accepted, complete}
+use Rattle.reals.proofs.Laws.{number-zero}
+use Rattle.reals.proofs.Doubles.{accepted, complete}
 
 never : (r : Read) (x : Float) → r ≡ Refused → r ≡ Real x → ⊥
 never r x p q = let z : _≡_ {A = ℕ} 0 1 = cc in omega arith

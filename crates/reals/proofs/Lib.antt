@@ -1,5 +1,12 @@
 -- What the proofs share, and the theorems on reals: `exactly`, `unique`, `otherwise` (Exactly); `written-read`, `read-written`, `written-least`,
--- `written-plain`, `written-read-at` (RoundTrip); `round-trip` (Calls).
+-- `written-plain`, `written-read-at` (RoundTrip); `round-trip`, `written-read-by-calls` (Calls).
+pub mod Powers
+pub mod Odd
+pub mod Doubles
+pub mod Patterns
+pub mod Laws
+pub mod RealLaws
+pub mod WriteLaws
 pub mod Naturals
 pub mod PowerOctets
 pub mod Puts

@@ -8,7 +8,7 @@ use Rattle.integers.specs.declared.Natural.{Natural}
 use Rattle.integers.specs.declared.Natural.the-variants.{Nat, Refused}
 use Rattle.integers.specs.Digits.{natural}
 use Rattle.integers.specs.Integer.{unsignedAt}
-use Rattle.integers.specs.Laws.{unsigned-is}
+use Rattle.integers.proofs.Laws.{unsigned-is}
 
 same : (r : Natural) (x v : ℕ) → r ≡ Nat x → Nat v ≡ r → x ≡ v
 same r x v p q = cc

@@ -9,10 +9,10 @@ use lib.IntN.{ℤ, pos, negsuc, _+ℤ_}
 use lib.Ieee.{minus}
 use Rattle.integers.specs.Digits.{natural}
 use Rattle.integers.specs.Integer.{signed}
-use Rattle.integers.specs.Laws.{part-cons, length-part, signed-low, signed-high}
+use Rattle.integers.proofs.Laws.{part-cons, length-part, signed-low, signed-high}
 use Rattle.integers.proofs.Radix.{Below, natural-lt}
 use Rattle.integers.proofs.Signs.{below-all, below-drop, below-take}
-use Rattle.reals.specs.Powers.{Is, minus-is, add-is, one}
+use Rattle.reals.proofs.Powers.{Is, minus-is, add-is, one}
 
 pub part-below : (s : List ℕ) (at n : ℕ) → ((i : ℕ) → getD s i 0 < 256) → Below 256 (take n (drop at s))
 part-below s at n bytes = below-take 256 n (drop at s) (below-drop 256 at s (below-all 256 s bytes))

@@ -12,7 +12,7 @@ use native.Mathlib.Nat.{mod-eq-of-lt}
 use lib.Ieee.{minus, size}
 use Rattle.integers.specs.Digits.{digits, Put, put, unchanged, outcome}
 use Rattle.integers.specs.Integer.{shortest}
-use Rattle.integers.specs.Laws.{put-in, put-out}
+use Rattle.integers.proofs.Laws.{put-in, put-out}
 use Rattle.integers.proofs.Radix.{length-digits}
 use Rattle.reals.specs.Write.{firstOctet, mantissaOctets, numberOctets}
 

@@ -30,12 +30,12 @@ use Rattle.reals.specs.declared.Read.the-variants.{Real}
 use Rattle.reals.specs.Number.{number, inDouble}
 use Rattle.reals.specs.Real.{negative, base, scale, exponentOctets, wellFormed, mantissa, power, nonEmpty, real, realAt}
 use Rattle.reals.specs.Means.{Equals, Means, Plain}
-use Rattle.reals.specs.Powers.{over, below, one}
-use Rattle.reals.specs.Odd.{odd-once}
-use Rattle.reals.specs.Laws.{rule-at}
-use Rattle.reals.specs.WriteLaws.{number-form}
-use Rattle.reals.specs.RealLaws.{binary-is, more-is, inside}
-use Rattle.reals.specs.Exact.{complete, rule-is, double-odd, same-eq, levels, level-some, level-is}
+use Rattle.reals.proofs.Powers.{over, below, one}
+use Rattle.reals.proofs.Odd.{odd-once}
+use Rattle.reals.proofs.Laws.{rule-at}
+use Rattle.reals.proofs.WriteLaws.{number-form}
+use Rattle.reals.proofs.RealLaws.{binary-is, more-is, inside}
+use Rattle.reals.proofs.Doubles.{complete, rule-is, double-odd, same-eq, levels, level-some, level-is}
 use Rattle.reals.proofs.Exactly.{exactly, formed-within}
 use Rattle.reals.specs.Write.{Form, unwritten, octets, form, firstOctet, mantissaOctets, numberOctets, putForm, writeAt}
 

@@ -1,13 +1,7 @@
--- The definitions: Number, Real, Write and Means; the rest are laws and theorems.
+-- Number, Real and Write are what the contracts say, Means what the theorems say; Pattern is for private functions alone.
 pub mod Number
 pub mod Real
 pub mod Means
 pub mod Write
-pub mod Powers
-pub mod Odd
-pub mod Exact
 pub mod Pattern
-pub mod Laws
-pub mod RealLaws
-pub mod WriteLaws
 pub mod Vectors

@@ -1,18 +1,15 @@
 -- Document 01, "Values", "Reals": the number ± m * 2 ^ p, "accepted exactly if some finite double equals it: with the mantissa made odd,
 -- it is under 2^53, its power of two at least -1,074, its bits plus the power at most 1,024".
 use Prim.Native.Nat.{ℕ, _/_, _^_}
-use mathlib.Core.Bool.{Bool, true, false, _&&_}
+use mathlib.Core.Bool.{Bool, _&&_}
 use lib.Dec.{ltb}
 use lib.IntN.{ℤ, pos, negsuc, _+ℤ_}
 use lib.Signed.{leZ}
 use lib.Count.{trailingZeros}
 use lib.Ieee.{fin, size}
+use Rattle.integers.specs.Digits.{pick}
 use Rattle.reals.specs.declared.Read.{Read}
 use Rattle.reals.specs.declared.Read.the-variants.{Real, Refused}
-
-abbrev pub pick : Bool → Read → Read → Read
-pick true x y = x
-pick false x y = y
 
 -- how often a mantissa of up to 8 octets can be halved
 abbrev pub halvings : ℕ → ℕ

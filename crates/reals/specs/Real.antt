@@ -6,12 +6,13 @@ use mathlib.Core.Bool.{Bool, true, false, _&&_}
 use lib.ListN.{length, take, drop}
 use lib.Dec.{leb, ltb, eqb}
 use lib.IntN.{ℤ, pos, _+ℤ_}
-use lib.Ieee.{inf, fin}
-use Rattle.integers.specs.Digits.{natural}
+use lib.Ieee.{Float, inf, fin}
+use Rattle.integers.specs.Digits.{pick, natural}
 use Rattle.integers.specs.Integer.{signed}
+use Rattle.integers.specs.Said.{Said, done, refused}
 use Rattle.reals.specs.declared.Read.{Read}
 use Rattle.reals.specs.declared.Read.the-variants.{Real, Refused}
-use Rattle.reals.specs.Number.{pick, number}
+use Rattle.reals.specs.Number.{number}
 
 -- ---- the first octet (X.690, 8.5.6): bit 8 set, the sign's bit 7, the base's bits 6 and 5, the scale's 4 and 3, the exponent's form in 2 and 1
 
@@ -61,3 +62,8 @@ real (first ∷ rest) = nonEmpty first rest
 -- the n octets at a position of a message; refused where it does not hold them
 unfoldable pub realAt : List ℕ → ℕ → ℕ → Read
 realAt s at n = pick (leb (at + n) (length s)) (real (take n (drop at s))) Refused
+
+-- for each case of the answer what it says, at the tag: "35 REAL: any real not accepted"
+abbrev pub realSays : ℕ → Read → Said Float
+realSays at (Real x) = done x
+realSays at Refused = refused 35 at

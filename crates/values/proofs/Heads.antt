@@ -10,16 +10,16 @@ use lib.ListN.{length, take, drop, set, length-append}
 use Rattle.integers.specs.declared.Wrote.{Wrote}
 use Rattle.integers.specs.declared.Wrote.the-variants.{Next, Out}
 use Rattle.integers.specs.Digits.{Put, put, unchanged, outcome}
-use Rattle.integers.specs.Laws.{put-out}
-use Rattle.integers.specs.Laws.{length-part}
+use Rattle.integers.proofs.Laws.{put-out}
+use Rattle.integers.proofs.Laws.{length-part}
 use Rattle.integers.proofs.Radix.{lt-or-le}
 use Rattle.integers.proofs.Output.{append-none, append-done, put-fits, put-next, put-length, cons-none, cons-done}
 use Rattle.tags.specs.Write.{bit, tagOctets, lengthOctets}
 use Rattle.reals.specs.Write.{Form, unwritten, octets, putForm}
 use Rattle.tags.specs.Write.{putLength}
-use Rattle.tags.specs.Laws.{put-length-is}
+use Rattle.tags.proofs.Laws.{put-length-is}
 use Rattle.values.specs.Write.{primitive, part, putPart, putPrimitive, putHead, Sealable}
-use Rattle.values.specs.Laws.{part-out, part-in, text-out, text-in}
+use Rattle.values.proofs.Laws.{part-out, part-in, text-out, text-in}
 
 -- a kind below 31 is one octet, and so is a length below 128
 pub kind-octet : (kind : ℕ) → kind < 31 → tagOctets 0 false kind ≡ kind ∷ []

@@ -18,7 +18,7 @@ use Rattle.integers.specs.declared.Number.{Number}
 use Rattle.integers.specs.declared.Number.the-variants.{Int as Whole, Refused as NoInt}
 use Rattle.integers.specs.Digits.{Put, put, unchanged, outcome}
 use Rattle.integers.specs.Integer.{integer, integerAt, shortest}
-use Rattle.integers.specs.Laws.{at-part, length-part}
+use Rattle.integers.proofs.Laws.{at-part, length-part}
 use Rattle.integers.proofs.Radix.{lt-or-le, Below}
 use Rattle.integers.proofs.RoundTrip.{written-read, read-written, read-fits}
 use Rattle.integers.proofs.Signs.{below-take, below-drop}
@@ -43,7 +43,7 @@ use Rattle.values.specs.declared.Flag.the-variants.{Is, Refused as NoFla
 use Rattle.values.specs.declared.Answer.the-variants.{Found, Other, Refused}
 use Rattle.values.specs.Value.{boolean, boolAt, onFlag, onNumber, onReal, contentAt, valueAt}
 use Rattle.values.specs.Write.{boolOctet, part, contentOctets, kindOf, primitive, putPrimitive, putValue}
-use Rattle.values.specs.Laws.{value-by, value-class, value-constructed, value-primitive, Listed, content-missing, content-other, content-bool, content-int, content-octets, content-real, content-text, text-long, text-out, text-in}
+use Rattle.values.proofs.Laws.{value-by, value-class, value-constructed, value-primitive, Listed, content-missing, content-other, content-bool, content-int, content-octets, content-real, content-text, text-long, text-out, text-in}
 use Rattle.values.proofs.Shorts.{int-short, real-short}
 
 -- A tag with its content that was put into an output: the head is read, and the content stands behind it.

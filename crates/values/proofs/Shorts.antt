@@ -12,11 +12,12 @@ use lib.Ieee as Ieee
 use lib.Ieee.{Float, binary64}
 use mir.Syntax.{w64}
 use mir.Val.{SFits}
+use Rattle.integers.specs.Digits.{pick}
 use Rattle.integers.specs.Integer.{shortest}
 use Rattle.integers.proofs.Sizes.{size-eight}
 use Rattle.integers.proofs.RoundTrip.{length-shortest}
 use Rattle.reals.specs.declared.Read.the-variants.{Real, Refused}
-use Rattle.reals.specs.Number.{pick, number}
+use Rattle.reals.specs.Number.{number}
 use Rattle.reals.specs.Real.{real, nonEmpty, binaryReal, wellFormed, binary, base, exponentOctets, negative, mantissa, power}
 use Rattle.reals.specs.Write.{octets, form, putForm, writeAt}
 use Rattle.reals.proofs.RoundTrip.{written-read}

@@ -7,17 +7,16 @@ use mathlib.Core.Bool.{Bool, true, not}
 use lib.ListN.{length, take, drop}
 use lib.Dec.{leb, eqb}
 use Rattle.integers.specs.declared.Number.{Number}
-use Rattle.integers.specs.declared.Number.the-variants.{Int as Whole, Refused as NoInt}
 use Rattle.integers.specs.Digits.{pick}
 use Rattle.integers.specs.Integer.{integerAt}
+use Rattle.integers.specs.Said.{Said, done, refused, integerSays}
 use Rattle.reals.specs.declared.Read.{Read}
-use Rattle.reals.specs.declared.Read.the-variants.{Real as Double, Refused as NoReal}
-use Rattle.reals.specs.Real.{realAt}
+use Rattle.reals.specs.Real.{realAt, realSays}
 use Rattle.tags.specs.declared.Length.{Length}
 use Rattle.tags.specs.declared.Length.the-variants.{Definite, Indefinite}
 use Rattle.tags.specs.declared.Head.{Head}
-use Rattle.tags.specs.declared.Head.the-variants.{Tag, Refused as NoTag}
-use Rattle.tags.specs.Tag.{headAt}
+use Rattle.tags.specs.Tag.{Tagged, headSays, headAt}
+use Rattle.values.specs.declared.Value.{Value}
 use Rattle.values.specs.declared.Value.the-variants.{Int, Real, Text, Bool as Truth, Octets}
 use Rattle.values.specs.declared.Flag.{Flag}
 use Rattle.values.specs.declared.Flag.the-variants.{Is, Refused as NoFlag}
@@ -33,18 +32,24 @@ boolean (b ∷ (c ∷ bs)) = NoFlag
 unfoldable pub boolAt : List ℕ → ℕ → ℕ → Flag
 boolAt s at n = pick (leb (at + n) (length s)) (boolean (take n (drop at s))) NoFlag
 
--- what was read, with the position after it; bad octets are 30 and a real that is not accepted 35, at the tag
+-- for each case of the answer what it says, at the tag: "30 BER: bad .. value octets"
+abbrev pub flagSays : ℕ → Flag → Said Bool
+flagSays at (Is b) = done b
+flagSays at NoFlag = refused 30 at
+
+-- what was read, as a value, with the position after it; or the number of the refusal and its place
+abbrev pub answering : {A : Type 0} → (A → Value) → ℕ → Said A → Answer
+answering value next (done x) = Found (value x) next
+answering value next (refused number place) = Refused number place
+
 abbrev pub onFlag : ℕ → ℕ → Flag → Answer
-onFlag at next (Is b) = Found (Truth b) next
-onFlag at next NoFlag = Refused 30 at
+onFlag at next f = answering Truth next (flagSays at f)
 
 abbrev pub onNumber : ℕ → ℕ → Number → Answer
-onNumber at next (Whole z) = Found (Int z) next
-onNumber at next NoInt = Refused 30 at
+onNumber at next n = answering Int next (integerSays at n)
 
 abbrev pub onReal : ℕ → ℕ → Read → Answer
-onReal at next (Double x) = Found (Real x) next
-onReal at next NoReal = Refused 35 at
+onReal at next x = answering Real next (realSays at x)
 
 unfoldable pub isListed : ℕ → Bool
 isListed kind = pick (eqb kind 1) true (pick (eqb kind 2) true (pick (eqb kind 4) true (pick (eqb kind 9) true (eqb kind 12))))
@@ -66,10 +71,21 @@ abbrev pub onLength : List ℕ → ℕ → ℕ → ℕ → Length → Answer
 onLength s at kind next (Definite len) = contentAt s at kind next len
 onLength s at kind next Indefinite = Other
 
+-- universal and primitive, else it is no value's
+abbrev pub onTag : List ℕ → ℕ → Said Tagged → Answer
+onTag s at (done t) = pick (eqb (t .class) 0) (pick (t .constructed) Other (onLength s at (t .number) (t .next) (t .length))) Other
+onTag s at (refused number place) = Refused number place
+
 abbrev pub onHead : List ℕ → ℕ → Head → Answer
-onHead s at (Tag class constructed number length next) = pick (eqb class 0) (pick constructed Other (onLength s at number next length)) Other
-onHead s at (NoTag place) = Refused 30 place
+onHead s at h = onTag s at (headSays h)
 
 -- the value at `at`, in a container that ends at `bound`
 unfoldable pub valueAt : List ℕ → ℕ → ℕ → Answer
 valueAt s at bound = onHead s at (headAt s at bound)
+
+-- For each case of the answer what it says: the value and the position after it; for a tag that is none of the five "33 GLOW: a tag unexpected", at the tag (a
+-- caller that expects something else there, as a closing 00, looks at the tag first); or the number and the place that it carries.
+abbrev pub answerSays : ℕ → Answer → Said (Value × ℕ)
+answerSays at (Found value next) = done (value, next)
+answerSays at Other = refused 33 at
+answerSays at (Refused number place) = refused number place

@@ -3,7 +3,7 @@ use mathlib.Core.Path.{_≡_, refl, _∙_}
 use native.Mathlib.Omega.{arith}
 use borrow.Author.Needs.{needs}
 use lib.ListN.{length}
-use Rattle.frames.specs.Laws.{feeds-consumed}
+use Rattle.frames.proofs.Laws.{feeds-consumed}
 use Rattle.frames.proofs.offer.Statement.{statement}
 use Rattle.frames.proofs.offer.Tie as tie
 

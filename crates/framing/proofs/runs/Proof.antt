@@ -1,5 +1,5 @@
 -- The invariant: the call has come to byte i with no event.
-use Prim.Native.Nat.{ℕ, _-_}
+use Prim.Native.Nat.{ℕ, _+_, _-_}
 use mathlib.Core.Bool.{false}
 use mathlib.Core.List.{List, [], _∷_}
 use mathlib.Core.Logic.{⊎-elim}
@@ -9,18 +9,25 @@ use borrow.Author.Needs.{needs}
 use types.Run.{OneOf}
 use denote.Enum.Declared.{tagOf}
 use lib.Dec.{eqb}
-use lib.ListN.{length}
+use lib.ListN.{length, drop}
 use Rattle.framing.specs.declared.Event.{Event}
 use Rattle.framing.specs.declared.Event.the-variants.{More, Setup, Piece, Message, Request, Response, Refused}
-use Rattle.framing.specs.Session.{saidBy}
-use Rattle.framing.specs.Laws.{legal-true, number-not-zero, turn-legal, turn-event, turn-end, Reaches, reaches-here, reaches-on, reaches-more}
+use Rattle.framing.specs.declared.Session.{Session}
+use Rattle.framing.specs.Session.{saidBy, stateOf, Legal, run}
+use Rattle.framing.proofs.Laws.{legal-true, number-not-zero, turn-legal, turn-event, turn-end, reaches-here, reaches-on, reaches-more}
+use Rattle.framing.specs.Steps.{Reaches}
 use Rattle.framing.proofs.Event as event
 use Rattle.framing.proofs.runs.Statement.{statement}
 use Rattle.framing.proofs.runs.Tie as tie
 
 -- the second arm of the `if let`: an event that has a number
 loud : (e : Event) (t : List ℕ) → OneOf (1 ∷ 2 ∷ 3 ∷ 4 ∷ 5 ∷ 6 ∷ []) (tagOf event.the-type e) → eqb (saidBy e t .number) 0 ≡ false
-loud More t h = absurd (⊎-elim (λ (q : 0 ≡ 1). omega arith) (⊎-elim (λ (q : 0 ≡ 2). omega arith) (⊎-elim (λ (q : 0 ≡ 3). omega arith) (⊎-elim (λ (q : 0 ≡ 4). omega arith) (⊎-elim (λ (q : 0 ≡ 5). omega arith) (λ (q : 0 ≡ 6). omega arith))))) h)
+loud More t h =
+    absurd
+    (⊎-elim (λ (q : 0 ≡ 1). omega arith)
+    (⊎-elim (λ (q : 0 ≡ 2). omega arith)
+    (⊎-elim (λ (q : 0 ≡ 3). omega arith)
+    (⊎-elim (λ (q : 0 ≡ 4). omega arith) (⊎-elim (λ (q : 0 ≡ 5). omega arith) (λ (q : 0 ≡ 6). omega arith))))) h)
 loud Setup t h = refl
 loud (Piece d) t h = refl
 loud (Message n d) t h = refl
@@ -34,8 +41,50 @@ Inv-loop store₀ chunk s₀ i₀ store s i = Reaches chunk 0 s₀ store₀ i s 
 abbrev μ-loop : tie.MeasureT-loop
 μ-loop store₀ chunk s₀ i₀ store s i = length chunk - i
 
+-- where the call begins
+begun : (c : tie.Start Inv-loop μ-loop) → Legal (c .args .session) (c .args .store .now)
+begun c = legal-true (c .args .session) (c .args .store .now) (c .pre)
+
+-- after a step in the loop
+module _ (c : tie.After-step Inv-loop μ-loop) where
+  abbrev chunk : List ℕ
+  chunk = c .before .before .before .before .before .before .before .args .chunk .now
+
+  abbrev i : ℕ
+  i = c .before .before .before .before .loop .i
+
+  abbrev s : Session
+  s = c .before .before .before .before .loop .s
+
+  abbrev t : List ℕ
+  t = c .before .before .before .before .loop .store
+
+  abbrev t′ : List ℕ
+  t′ = c .step .last .1 .1 .0
+
+  stepped : Legal (c .step .result .session) t′
+  stepped =
+      turn-legal chunk i s t (c .step .result) t′ (c .before .before .before .before .loop .inv .legal) (c .before .before .before .loop-test .taken)
+      (c .step .ensures)
+
+  -- an event ends the call
+  ended : OneOf (1 ∷ 2 ∷ 3 ∷ 4 ∷ 5 ∷ 6 ∷ []) (tagOf event.the-type (c .step .result .event))
+      → run (drop i chunk) (stateOf s t) t i
+      ≡ record { said = saidBy (c .step .result .event) t′; consumed = i + 1; session = c .step .result .session; store = t′ }
+  ended h =
+      turn-event chunk i s t (c .step .result) t′ (c .before .before .before .before .loop .inv .legal) (c .before .before .before .loop-test .taken)
+      (c .step .ensures) (loud (c .step .result .event) t′ h)
+
+  -- no event: the call goes on
+  goes-on : c .step .result .event ≡ More → Reaches chunk i s t (i + 1) (c .step .result .session) t′
+  goes-on e =
+      reaches-more chunk i s t (c .step .result) t′ (c .before .before .before .before .loop .inv .legal) (c .before .before .before .loop-test .taken)
+      (c .step .ensures) e
+
 loop-holds : tie.Need-loop-holds Inv-loop μ-loop
-loop-holds c = let a = c .before .before .args in reaches-here (a .chunk .now) 0 (a .session) (a .store .now) (legal-true (a .session) (a .store .now) (c .before .before .pre)) (omega arith)
+loop-holds c =
+    let a = c .before .before .args in
+    reaches-here (a .chunk .now) 0 (a .session) (a .store .now) (begun (c .before .before)) (omega arith)
 
 shared-slice-read-step : tie.Need-shared-slice-read-step Inv-loop μ-loop
 shared-slice-read-step c = omega arith
@@ -51,44 +100,41 @@ enum-told c = search needs
 
 same-length : tie.Need-same-length Inv-loop μ-loop
 same-length c =
-    let l = c .before .before .before .before .before .before .before .before .loop in
-    let s = c .before .before .before .before .step in
-    let chunk = c .before .before .before .before .before .before .before .before .before .before .before .args .chunk .now in
-    let a = c .before .before .before .before .before .before .before .before .before .before .before .args in
-    turn-legal chunk (l .i) (l .s) (l .store) (s .result) (s .last .1 .1 .0) (l .inv .legal) (c .before .before .before .before .before .before .before .loop-test .taken) (s .ensures) .room ∙ sym (legal-true (a .session) (a .store .now) (c .before .before .before .before .before .before .before .before .before .before .before .pre) .room)
+    let step = c .before .before .before .before in
+    let entry = step .before .before .before .before .before .before .before in
+    stepped step .room ∙ sym (begun entry .room)
 
 returns : tie.Need-returns Inv-loop μ-loop
 returns c =
-    let l = c .before .before .before .before .before .before .before .before .loop in
-    let s = c .before .before .before .before .step in
-    let chunk = c .before .before .before .before .before .before .before .before .before .before .before .args .chunk .now in
-    l .inv .rest ∙ turn-event chunk (l .i) (l .s) (l .store) (s .result) (s .last .1 .1 .0) (l .inv .legal) (c .before .before .before .before .before .before .before .loop-test .taken) (s .ensures) (loud (s .result .event) (s .last .1 .1 .0) (c .match .keys2))
+    let step = c .before .before .before .before in
+    step .before .before .before .before .loop .inv .rest ∙ ended step (c .match .keys2)
 
 strides-requires : tie.Need-strides-requires Inv-loop μ-loop
 strides-requires c κs =
-    let l = c .before .before .before .before .before .before .before .before .before .before .loop in
-    let s = c .before .before .before .before .before .before .step in
-    let chunk = c .before .before .before .before .before .before .before .before .before .before .before .before .before .args .chunk .now in
-    let m = reaches-more chunk (l .i) (l .s) (l .store) (s .result) (s .last .1 .1 .0) (l .inv .legal) (c .before .before .before .before .before .before .before .before .before .loop-test .taken) (s .ensures) (c .before .enum-told .given .1) in
+    let known = c .before in
+    let step = known .before .before .before .before .before in
+    let m = goes-on step (known .enum-told .given .1) in
     (m .legal, m .inside)
 
 loop-less : tie.Need-loop-less Inv-loop μ-loop
-loop-less c = omega (arith, c .before .before .before .strides .ensures .forward, c .before .before .before .strides .ensures .inside)
+loop-less c = let p = c .before .before .before .strides .ensures in omega (arith, p .forward, p .inside)
 
 loop-again : tie.Need-loop-again Inv-loop μ-loop
 loop-again c =
-    let l = c .before .before .before .before .before .before .before .before .before .before .before .before .before .before .loop in
-    let s = c .before .before .before .before .before .before .before .before .before .before .step in
-    let chunk = c .before .before .before .before .before .before .before .before .before .before .before .before .before .before .before .before .before .args .chunk .now in
-    reaches-on (l .inv) (reaches-on (reaches-more chunk (l .i) (l .s) (l .store) (s .result) (s .last .1 .1 .0) (l .inv .legal) (c .before .before .before .before .before .before .before .before .before .before .before .before .before .loop-test .taken) (s .ensures) (c .before .before .before .before .before .enum-told .given .1)) (c .before .before .before .strides .ensures))
+    let strides = c .before .before .before in
+    let known = strides .before .before in
+    let step = known .before .before .before .before .before in
+    let loop = step .before .before .before .before .loop in
+    reaches-on (loop .inv) (reaches-on (goes-on step (known .enum-told .given .1)) (strides .strides .ensures))
 
 same-length-2 : tie.Need-same-length-2 Inv-loop μ-loop
-same-length-2 c = let a = c .before .before .before .before .args in c .before .loop .inv .legal .room ∙ sym (legal-true (a .session) (a .store .now) (c .before .before .before .before .pre) .room)
+same-length-2 c = c .before .loop .inv .legal .room ∙ sym (begun (c .before .before .before .before) .room)
 
 returns-2 : tie.Need-returns-2 Inv-loop μ-loop
 returns-2 c =
     let l = c .before .loop in
-    l .inv .rest ∙ turn-end (c .before .before .before .before .args .chunk .now) (l .i) (l .s) (l .store) (l .inv .legal) (c .loop-test .left)
+    let entry = c .before .before .before .before in
+    l .inv .rest ∙ turn-end (entry .args .chunk .now) (l .i) (l .s) (l .store) (l .inv .legal) (c .loop-test .left)
 
 pub runs-spec : {M : Type 1} → statement M
 runs-spec =

@@ -1,6 +1,6 @@
 use mathlib.Core.Path.{sym, _∙_}
 use borrow.Author.Tests.{eq-eqb, ne-eqb}
-use Rattle.framing_c.specs.Laws.{session-length}
+use Rattle.framing_c.proofs.Laws.{session-length}
 use Rattle.framing_c.specs.Calls.{accepts}
 use borrow.Author.Needs.{needs}
 use Rattle.framing_c.proofs.accepts.Statement.{statement}

@@ -1,7 +1,7 @@
 use Prim.Native.Nat.{ℕ, min}
 use lib.ListN
 use mathlib.Core.Path.{sym, ap, _∙_}
-use Rattle.framing_c.specs.Laws.{accepts-session, accepts-answer, calls-setup, calls-taken}
+use Rattle.framing_c.proofs.Laws.{accepts-session, accepts-answer, calls-setup, calls-taken}
 use borrow.Author.Needs.{needs}
 use Rattle.framing_c.proofs.framing_feed.Statement.{statement}
 use Rattle.framing_c.proofs.framing_feed.Tie as tie

@@ -1,4 +1,4 @@
-use Rattle.framing_c.specs.Laws.{puts-told}
+use Rattle.framing_c.proofs.Laws.{puts-told}
 use borrow.Author.Needs.{needs}
 use Rattle.framing_c.proofs.framing_write_frame.Statement.{statement}
 use Rattle.framing_c.proofs.framing_write_frame.Tie as tie

@@ -1,4 +1,4 @@
-use Rattle.framing_c.specs.Laws.{set-three}
+use Rattle.framing_c.proofs.Laws.{set-three}
 use borrow.Author.Needs.{needs}
 use Rattle.framing_c.proofs.put_answer.Statement.{statement}
 use Rattle.framing_c.proofs.put_answer.Tie as tie

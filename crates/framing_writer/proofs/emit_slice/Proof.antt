@@ -5,7 +5,7 @@ use native.Mathlib.Omega.{arith}
 use lib.ListN.{length, drop}
 use Rattle.framing_writer.specs.Written.{escapes}
 use Rattle.framing_writer.specs.Stores.{wrote}
-use Rattle.framing_writer.specs.Laws.{wrote-none, wrote-then, escapes-more, escapes-end}
+use Rattle.framing_writer.proofs.Laws.{wrote-none, wrote-then, escapes-more, escapes-end}
 use Rattle.framing_writer.proofs.emit_slice.Statement.{statement}
 use Rattle.framing_writer.proofs.emit_slice.Tie as tie
 

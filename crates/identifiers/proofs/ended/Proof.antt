@@ -1,4 +1,4 @@
-use Rattle.identifiers.specs.Laws.{arc-over, arc-is}
+use Rattle.identifiers.proofs.Laws.{arc-over, arc-is}
 use Rattle.identifiers.proofs.ended.Statement.{statement}
 use Rattle.identifiers.proofs.ended.Tie as tie
 

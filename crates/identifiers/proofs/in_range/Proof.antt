@@ -3,7 +3,7 @@ use mathlib.Core.Path.{_≡_, refl, sym, _∙_}
 use native.Mathlib.Omega.{arith}
 use lib.ListN.{length, drop}
 use Rattle.identifiers.specs.Identifier.{inRange}
-use Rattle.identifiers.specs.Laws.{range-over, range-more, range-done}
+use Rattle.identifiers.proofs.Laws.{range-over, range-more, range-done}
 use Rattle.identifiers.proofs.in_range.Statement.{statement}
 use Rattle.identifiers.proofs.in_range.Tie as tie
 

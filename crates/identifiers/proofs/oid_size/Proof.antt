@@ -4,7 +4,7 @@ use native.Mathlib.Omega.{arith}
 use borrow.Author.Needs.{needs}
 use lib.ListN.{length, drop}
 use Rattle.identifiers.specs.Identifier.{oidOctets}
-use Rattle.identifiers.specs.Laws.{size-more, octets-done}
+use Rattle.identifiers.proofs.Laws.{size-more, octets-done}
 use Rattle.identifiers.proofs.oid_size.Statement.{statement}
 use Rattle.identifiers.proofs.oid_size.Tie as tie
 

@@ -5,7 +5,7 @@ use borrow.Author.Needs.{needs}
 use lib.ListN.{take, drop, getD}
 use Rattle.identifiers.specs.declared.Arc.{Arc}
 use Rattle.identifiers.specs.Identifier.{arcFrom, arcAt, ArcWithin}
-use Rattle.identifiers.specs.Laws.{arc-past, arc-none, arc-80, arc-from, from-last, from-more, from-end, from-big}
+use Rattle.identifiers.proofs.Laws.{arc-past, arc-none, arc-80, arc-from, from-last, from-more, from-end, from-big}
 use Rattle.identifiers.proofs.Within.{arc-within}
 use Rattle.identifiers.proofs.read_number.Statement.{statement}
 use Rattle.identifiers.proofs.read_number.Tie as tie

@@ -3,7 +3,7 @@ use mathlib.Core.Path.{_≡_, sym, ap, subst, _∙_}
 use native.Mathlib.Omega.{arith}
 use borrow.Author.Needs.{needs}
 use Rattle.identifiers.specs.Identifier.{ArcWithin, judged, arcsFrom}
-use Rattle.identifiers.specs.Laws.{tally, tally-start, tally-push, tally-pass, tally-bad, tally-done, arcs-done, arcs-number, arcs-over, arcs-bad, oid-out, oid-within}
+use Rattle.identifiers.proofs.Laws.{tally, tally-start, tally-push, tally-pass, tally-bad, tally-done, arcs-done, arcs-number, arcs-over, arcs-bad, oid-out, oid-within}
 use Rattle.identifiers.proofs.read_oid.Statement.{statement}
 use Rattle.identifiers.proofs.read_oid.Tie as tie
 

@@ -7,12 +7,12 @@ use lib.ListN.{length, drop, getD}
 use borrow.Author.Tests.{not-true, not-false}
 use Rattle.integers.specs.declared.Wrote.the-variants.{Next}
 use Rattle.integers.specs.Digits.{put, outcome}
-use Rattle.integers.specs.Laws.{put-out}
+use Rattle.integers.proofs.Laws.{put-out}
 use Rattle.integers.proofs.Output.{append-done}
 use Rattle.tags.specs.Write.{septets}
 use mathlib.Core.Bool.{true}
 use Rattle.identifiers.specs.Identifier.{inRange, oidOctets}
-use Rattle.identifiers.specs.Laws.{put-range, put-oid, put-empty, octets-done, octets-more, size-more, size-within}
+use Rattle.identifiers.proofs.Laws.{put-range, put-oid, put-empty, octets-done, octets-more, size-more, size-within}
 use Rattle.identifiers.proofs.write_oid.Statement.{statement}
 use Rattle.identifiers.proofs.write_oid.Tie as tie
 

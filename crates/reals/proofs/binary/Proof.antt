@@ -9,11 +9,11 @@ use lib.IntN.{ℤ, pos, _+ℤ_}
 use borrow.Author.Needs.{needs}
 use Rattle.integers.specs.Digits.{natural}
 use Rattle.integers.specs.Integer.{signed}
-use Rattle.integers.specs.Laws.{length-part}
+use Rattle.integers.proofs.Laws.{length-part}
 use Rattle.reals.specs.declared.Read.{Read}
 use Rattle.reals.specs.Number.{number}
 use Rattle.reals.specs.Real.{binaryReal}
-use Rattle.reals.specs.RealLaws.{binary-not, binary-base, binary-form, binary-short, binary-long, message-is}
+use Rattle.reals.proofs.RealLaws.{binary-not, binary-base, binary-form, binary-short, binary-long, message-is}
 use Rattle.reals.proofs.Naturals.{read-value, read-never}
 use Rattle.reals.proofs.binary.Statement.{statement}
 use Rattle.reals.proofs.binary.Tie as tie

@@ -1,7 +1,7 @@
 -- `reals::bits` meets its contract. Assumes nothing.
 use native.Mathlib.Omega.{arith}
 use lib.Count.{leading-le}
-use Rattle.reals.specs.Odd.{size-leading}
+use Rattle.reals.proofs.Odd.{size-leading}
 use Rattle.reals.proofs.bits.Statement.{statement}
 use Rattle.reals.proofs.bits.Tie as tie
 

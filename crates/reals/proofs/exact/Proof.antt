@@ -11,10 +11,10 @@ use lib.Ieee.Digits.{size-le}
 use borrow.Author.Needs.{needs}
 use Rattle.reals.specs.declared.Read.the-variants.{Real}
 use Rattle.reals.specs.Number.{halvings, oddPart, number}
-use Rattle.reals.specs.Odd.{halvings-lt}
-use Rattle.reals.specs.Exact.{odd-is}
+use Rattle.reals.proofs.Odd.{halvings-lt}
+use Rattle.reals.proofs.Doubles.{odd-is}
 use Rattle.reals.specs.Pattern.{bitsOf}
-use Rattle.reals.specs.Laws.{number-zero, number-wide, number-low, number-high, number-bits, number-no-nan}
+use Rattle.reals.proofs.Laws.{number-zero, number-wide, number-low, number-high, number-bits, number-no-nan}
 use Rattle.reals.proofs.exact.Statement.{statement}
 use Rattle.reals.proofs.exact.Tie as tie
 

@@ -1,6 +1,6 @@
 -- `reals::exponent` meets its contract. Assumes nothing.
 use native.Mathlib.Omega.{arith}
-use Rattle.reals.specs.WriteLaws.{exponent-up-one, exponent-up-two, exponent-down-one, exponent-down-two}
+use Rattle.reals.proofs.WriteLaws.{exponent-up-one, exponent-up-two, exponent-down-one, exponent-down-two}
 use borrow.Author.Needs.{needs}
 use Rattle.reals.proofs.exponent.Statement.{statement}
 use Rattle.reals.proofs.exponent.Tie as tie

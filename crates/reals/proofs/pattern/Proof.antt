@@ -4,8 +4,8 @@ use mathlib.Core.Path.{_≡_, ap}
 use native.Mathlib.Omega.{arith}
 use borrow.Author.Needs.{needs}
 use lib.Ieee.{size}
-use Rattle.reals.specs.Odd.{size-under}
-use Rattle.reals.specs.Pattern.{sign-le, bits-low, bits-high}
+use Rattle.reals.proofs.Odd.{size-under}
+use Rattle.reals.proofs.Patterns.{sign-le, bits-low, bits-high}
 use Rattle.reals.proofs.pattern.Statement.{statement}
 use Rattle.reals.proofs.pattern.Tie as tie
 

@@ -6,7 +6,7 @@ use lib.Ieee as Ieee
 use lib.Ieee.{binary64, inf}
 use borrow.Author.Needs.{needs}
 use Rattle.reals.specs.declared.Read.the-variants.{Real}
-use Rattle.reals.specs.RealLaws.{real-out, real-empty, real-plus, real-minus, real-alone, real-binary}
+use Rattle.reals.proofs.RealLaws.{real-out, real-empty, real-plus, real-minus, real-alone, real-binary}
 use Rattle.reals.proofs.read_real.Statement.{statement}
 use Rattle.reals.proofs.read_real.Tie as tie
 

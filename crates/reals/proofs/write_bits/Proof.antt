@@ -6,7 +6,7 @@ use lib.IntN.{pos}
 use lib.Ieee.{inf, fin}
 use Rattle.integers.specs.Digits.{digits}
 use Rattle.reals.specs.Write.{writeAt}
-use Rattle.reals.specs.WriteLaws.{write-nan, write-plus, write-minus, write-zero, write-minus-zero, bits-nan, bits-inf, bits-zero, bits-small, bits-normal}
+use Rattle.reals.proofs.WriteLaws.{write-nan, write-plus, write-minus, write-zero, write-minus-zero, bits-nan, bits-inf, bits-zero, bits-small, bits-normal}
 use borrow.Author.Needs.{needs}
 use Rattle.reals.proofs.write_bits.Statement.{statement}
 use Rattle.reals.proofs.write_bits.Tie as tie

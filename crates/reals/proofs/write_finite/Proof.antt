@@ -5,10 +5,10 @@ use native.Mathlib.Omega.{arith}
 use lib.Ieee.{minus}
 use lib.Count.{trailing-le}
 use Rattle.reals.specs.Number.{oddPart, halvings}
-use Rattle.reals.specs.Odd.{halvings-lt}
-use Rattle.reals.specs.Exact.{odd-is}
+use Rattle.reals.proofs.Odd.{halvings-lt}
+use Rattle.reals.proofs.Doubles.{odd-is}
 use Rattle.reals.specs.Write.{writeAt, numberOctets}
-use Rattle.reals.specs.WriteLaws.{write-number, odd-of}
+use Rattle.reals.proofs.WriteLaws.{write-number, odd-of}
 use Rattle.integers.specs.Digits.{put}
 use borrow.Author.Needs.{needs}
 use Rattle.reals.proofs.write_finite.Statement.{statement}

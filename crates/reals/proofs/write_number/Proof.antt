@@ -1,11 +1,13 @@
 -- `reals::write_number` meets its contract. Assumes nothing.
 use Prim.Native.Nat.{ℕ, _+_, _≤_, _<_}
-use mathlib.Core.Path.{refl}
+use mathlib.Core.Path.{_≡_, refl}
 use mathlib.Core.Bool.{Bool, true, false}
 use native.Mathlib.Omega.{arith}
 use lib.ListN.{length}
+use lib.Ieee.{minus}
 use borrow.Author.Needs.{needs}
-use Rattle.reals.specs.Write.{firstOctet}
+use Rattle.integers.specs.Digits.{put, unchanged}
+use Rattle.reals.specs.Write.{firstOctet, numberOctets}
 use Rattle.reals.proofs.Puts.{number-short, number-puts}
 use Rattle.reals.proofs.write_number.Statement.{statement}
 use Rattle.reals.proofs.write_number.Tie as tie
@@ -13,6 +15,21 @@ use Rattle.reals.proofs.write_number.Tie as tie
 first-lt : (s : Bool) (k : ℕ) → k ≤ 2 → firstOctet s k < 256
 first-lt true k h = omega arith
 first-lt false k h = omega arith
+
+-- the counts are known, and the output is too short for them
+module _ (c : tie.After-octets-of) where
+  abbrev entry : tie.Start
+  entry = c .before .before .before
+
+  short : length (entry .args .out .now) < entry .args .at + (1 + c .before .exponent .result .count + c .octets-of .result)
+      → put (entry .args .out .now) (entry .args .at) (numberOctets (entry .args .negative) (entry .args .m) (minus (entry .args .units) 1074))
+      ≡ unchanged (entry .args .out .now)
+  short h =
+      let a = entry .args in
+      let e = c .before .exponent in
+      let k = e .result .count in
+      number-short (a .negative) (a .m) (a .units) (e .result .value) k (c .octets-of .result) (firstOctet (a .negative) k) (e .ensures .0)
+      (c .octets-of .ensures .0) refl (first-lt (a .negative) k (omega arith)) (a .out .now) (a .at) h
 
 exponent-requires : tie.Need-exponent-requires
 exponent-requires c κs = search needs
@@ -27,23 +44,13 @@ add-total-2 : tie.Need-add-total-2
 add-total-2 c = search needs
 
 returns : tie.Need-returns
-returns c =
-    let a = c .before .before .before .before .args in
-    let e = c .before .before .exponent in
-    let o = c .before .octets-of in
-    number-short (a .negative) (a .m) (a .units) (e .result .value) (e .result .count) (o .result) (firstOctet (a .negative) (e .result .count)) (e .ensures .0) (o .ensures .0) refl
-    (first-lt (a .negative) (e .result .count) (omega arith)) (a .out .now) (a .at) (omega arith)
+returns c = short (c .before) (omega arith)
 
 sub-if2 : tie.Need-sub-if2
 sub-if2 c = search needs
 
 returns-2 : tie.Need-returns-2
-returns-2 c =
-    let a = c .before .before .before .before .before .args in
-    let e = c .before .before .before .exponent in
-    let o = c .before .before .octets-of in
-    number-short (a .negative) (a .m) (a .units) (e .result .value) (e .result .count) (o .result) (firstOctet (a .negative) (e .result .count)) (e .ensures .0) (o .ensures .0) refl
-    (first-lt (a .negative) (e .result .count) (omega arith)) (a .out .now) (a .at) (omega arith)
+returns-2 c = short (c .before .before) (omega arith)
 
 first-octet-requires : tie.Need-first-octet-requires
 first-octet-requires c κs = search needs
@@ -71,16 +78,24 @@ same-length c = search needs
 
 returns-3 : tie.Need-returns-3
 returns-3 c =
-    let a = c .before .before .before .before .before .before .before .before .before .before .before .before .before .before .before .before .before .before .args in
-    let e = c .before .before .before .before .before .before .before .before .before .before .before .before .before .before .before .before .exponent in
-    let o = c .before .before .before .before .before .before .before .before .before .before .before .before .before .before .before .octets-of in
-    let f = c .before .before .before .before .before .before .before .before .before .before .before .before .first-octet in
-    let x = c .before .before .before .before .before .before .before .before .before .before .write-octets in
-    let y = c .before .before .before .before .before .before .write-octets2 in
-    let z = c .before .before .write-octets3 in
-    let room : a .at + (1 + e .result .count + o .result) ≤ length (a .out .now) = omega (arith, c .before .before .before .before .before .before .before .before .before .before .before .before .before .before .if1 .left, c .before .before .before .before .before .before .before .before .before .before .before .before .before .if2 .left) in
-    number-puts (a .negative) (a .m) (a .units) (e .result .value) (e .result .count) (o .result) (f .result) (e .ensures .0) (o .ensures .0) (f .ensures .0) (f .ensures .1)
-    (a .out .now) (a .at) room (x .result) (y .result) (z .result) (x .last .1 .1 .0) (y .last .1 .1 .0) (z .last .1 .1 .0) (x .ensures) (x .kept .1 .1 .0) (y .ensures) (z .ensures)
+    let third = c .before .before in
+    let second = third .before .before .before .before in
+    let first = second .before .before .before .before in
+    let head = first .before .before in
+    let placed = head .before in
+    let fitted = placed .before in
+    let counted = fitted .before in
+    let a = entry counted .args in
+    let e = counted .before .exponent in
+    let o = counted .octets-of in
+    let f = head .first-octet in
+    let x = first .write-octets in
+    let y = second .write-octets2 in
+    let z = third .write-octets3 in
+    let room : a .at + (1 + e .result .count + o .result) ≤ length (a .out .now) = omega (arith, fitted .if1 .left, placed .if2 .left) in
+    number-puts (a .negative) (a .m) (a .units) (e .result .value) (e .result .count) (o .result) (f .result) (e .ensures .0) (o .ensures .0)
+    (f .ensures .0) (f .ensures .1) (a .out .now) (a .at) room (x .result) (y .result) (z .result) (x .last .1 .1 .0) (y .last .1 .1 .0) (z .last .1 .1 .0)
+    (x .ensures) (x .kept .1 .1 .0) (y .ensures) (z .ensures)
 
 pub write-number-spec : {M : Type 1} → statement M
 write-number-spec =

@@ -7,7 +7,7 @@ use lib.Ieee.{Float, nan, inf, fin, binary64}
 use lib.Ieee.Bits.{ofBits-toBits}
 use lib.Ieee.Compare.{differs-from-itself}
 use Rattle.reals.specs.Write.{writeAt}
-use Rattle.reals.specs.WriteLaws.{write-nan}
+use Rattle.reals.proofs.WriteLaws.{write-nan}
 use borrow.Author.Needs.{needs}
 use Rattle.reals.proofs.write_real.Statement.{statement}
 use Rattle.reals.proofs.write_real.Tie as tie

@@ -1,4 +1,4 @@
-use Rattle.values.specs.Laws.{listed-1, listed-2, listed-4, listed-9, listed-12, listed-none}
+use Rattle.values.proofs.Laws.{listed-1, listed-2, listed-4, listed-9, listed-12, listed-none}
 use Rattle.values.proofs.listed.Statement.{statement}
 use Rattle.values.proofs.listed.Tie as tie
 

@@ -1,6 +1,6 @@
 use mathlib.Core.Path.{ap, _∙_}
 use Rattle.values.specs.Value.{onFlag, onNumber, onReal}
-use Rattle.values.specs.Laws.{kind-bool, kind-int, kind-octets, kind-real, kind-text}
+use Rattle.values.proofs.Laws.{kind-bool, kind-int, kind-octets, kind-real, kind-text}
 use borrow.Author.Needs.{needs}
 use Rattle.values.proofs.of_kind.Statement.{statement}
 use Rattle.values.proofs.of_kind.Tie as tie

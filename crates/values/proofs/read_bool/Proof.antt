@@ -1,5 +1,5 @@
 use native.Mathlib.Omega.{arith}
-use Rattle.values.specs.Laws.{bool-out, bool-is, bool-not}
+use Rattle.values.proofs.Laws.{bool-out, bool-is, bool-not}
 use borrow.Author.Needs.{needs}
 use Rattle.values.proofs.read_bool.Statement.{statement}
 use Rattle.values.proofs.read_bool.Tie as tie

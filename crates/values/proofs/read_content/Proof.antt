@@ -1,6 +1,6 @@
 use mathlib.Core.Path.{sym, _∙_}
 use borrow.Author.Tests.{not-true, not-false, leb-true}
-use Rattle.values.specs.Laws.{content-unlisted, content-cut, content-kind}
+use Rattle.values.proofs.Laws.{content-unlisted, content-cut, content-kind}
 use borrow.Author.Needs.{needs}
 use Rattle.values.proofs.read_content.Statement.{statement}
 use Rattle.values.proofs.read_content.Tie as tie

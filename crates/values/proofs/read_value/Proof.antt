@@ -1,6 +1,6 @@
 use mathlib.Core.Path.{sym, ap, _∙_}
 use Rattle.values.specs.Value.{onLength}
-use Rattle.values.specs.Laws.{value-by, value-class, value-constructed, value-primitive}
+use Rattle.values.proofs.Laws.{value-by, value-class, value-constructed, value-primitive}
 use borrow.Author.Needs.{needs}
 use Rattle.values.proofs.read_value.Statement.{statement}
 use Rattle.values.proofs.read_value.Tie as tie

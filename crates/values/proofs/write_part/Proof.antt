@@ -3,8 +3,8 @@ use mathlib.Core.Path.{_≡_, refl, _∙_}
 use native.Mathlib.Omega.{arith}
 use mathlib.Core.List.{_++_}
 use lib.ListN.{length, take, drop, getD, length-set}
-use Rattle.integers.specs.Laws.{put-out, put-in, fill-start, fill-step, length-part}
-use Rattle.values.specs.Laws.{part-out, part-in, part-back, part-last}
+use Rattle.integers.proofs.Laws.{put-out, put-in, fill-start, fill-step, length-part}
+use Rattle.values.proofs.Laws.{part-out, part-in, part-back, part-last}
 use Rattle.values.proofs.write_part.Statement.{statement}
 use Rattle.values.proofs.write_part.Tie as tie
 

@@ -4,7 +4,7 @@ use native.Mathlib.Omega.{arith}
 use lib.ListN.{length, length-set}
 use Rattle.tags.specs.Write.{lengthOctets}
 use Rattle.values.specs.Write.{putPrimitive}
-use Rattle.values.specs.Laws.{text-long}
+use Rattle.values.proofs.Laws.{text-long}
 use Rattle.values.proofs.Heads.{text-none, text-stop, text-done}
 use borrow.Author.Needs.{needs}
 use Rattle.values.proofs.write_text.Statement.{statement}

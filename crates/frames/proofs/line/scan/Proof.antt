@@ -5,7 +5,7 @@ use native.Mathlib.Omega.{arith}
 use borrow.Author.Needs.{needs}
 use lib.ListN.{length, drop, length-set}
 use Rattle.frames.specs.Lines.{scanned}
-use Rattle.frames.specs.Laws.{scan-end, scan-line, scan-fault, scan-high, scan-pair}
+use Rattle.frames.proofs.Laws.{scan-end, scan-line, scan-fault, scan-high, scan-pair}
 use Rattle.frames.proofs.line.scan.Statement.{statement}
 use Rattle.frames.proofs.line.scan.Tie as tie
 

@@ -1,5 +1,5 @@
 use mathlib.Core.Path.{refl}
-use Rattle.frames.specs.Laws.{wrote-byte}
+use Rattle.frames.proofs.Laws.{wrote-byte}
 use borrow.Author.Needs.{needs}
 use Rattle.frames.proofs.text.put.Statement.{statement}
 use Rattle.frames.proofs.text.put.Tie as tie

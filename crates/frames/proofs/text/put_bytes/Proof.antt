@@ -3,7 +3,7 @@ use mathlib.Core.Path.{_≡_, refl, _∙_}
 use native.Mathlib.Omega.{arith}
 use lib.ListN.{length, drop}
 use Rattle.frames.specs.Text.{wrote}
-use Rattle.frames.specs.Laws.{wrote-none, wrote-then, rest-more, rest-end}
+use Rattle.frames.proofs.Laws.{wrote-none, wrote-then, rest-more, rest-end}
 use Rattle.frames.proofs.text.put_bytes.Statement.{statement}
 use Rattle.frames.proofs.text.put_bytes.Tie as tie
 

@@ -1,7 +1,7 @@
 use mathlib.Core.Path.{_∙_}
 use native.Mathlib.Omega.{arith}
 use Rattle.frames.specs.Text.{endText}
-use Rattle.frames.specs.Laws.{wrote-then}
+use Rattle.frames.proofs.Laws.{wrote-then}
 use borrow.Author.Needs.{needs}
 use Rattle.frames.proofs.text.put_end.Statement.{statement}
 use Rattle.frames.proofs.text.put_end.Tie as tie
@@ -35,7 +35,23 @@ same-length c = search needs
 
 returns : tie.Need-returns
 unfolding endText
-returns c = (wrote-then _ _ _ _ (c .before .before .before .before .before .before .before .before .before .before .before .before .before .before .before .before .before .before .before .before .before .before .before .before .before .before .put-bytes .ensures .0) ∙ wrote-then _ _ _ _ (c .before .before .before .before .before .before .before .before .before .before .before .before .before .before .before .before .before .before .before .before .before .before .put-decimal .ensures .0) ∙ wrote-then _ _ _ _ (c .before .before .before .before .before .before .before .before .before .before .before .before .before .before .before .before .before .before .put .ensures .0) ∙ wrote-then _ _ _ _ (c .before .before .before .before .before .before .before .before .before .before .before .before .before .before .put-frame .ensures .0) ∙ wrote-then _ _ _ _ (c .before .before .before .before .before .before .before .before .before .before .put2 .ensures .0) ∙ wrote-then _ _ _ _ (c .before .before .before .before .before .before .put-pending .ensures .0) ∙ c .before .before .put3 .ensures .0, omega arith)
+returns c =
+    let line-end = c .before .before in
+    let message = line-end .before .before .before .before in
+    let second-space = message .before .before .before .before in
+    let frame = second-space .before .before .before .before in
+    let first-space = frame .before .before .before .before in
+    let count = first-space .before .before .before .before in
+    let word = count .before .before .before .before in (
+      wrote-then _ _ _ _ (word .put-bytes .ensures .0)
+          ∙ wrote-then _ _ _ _ (count .put-decimal .ensures .0)
+          ∙ wrote-then _ _ _ _ (first-space .put .ensures .0)
+          ∙ wrote-then _ _ _ _ (frame .put-frame .ensures .0)
+          ∙ wrote-then _ _ _ _ (second-space .put2 .ensures .0)
+          ∙ wrote-then _ _ _ _ (message .put-pending .ensures .0)
+          ∙ line-end .put3 .ensures .0,
+      omega arith,
+    )
 
 pub put-end-spec : {M : Type 1} → statement M
 put-end-spec =

@@ -7,10 +7,10 @@ use denote.Enum.Declared.{tagOf}
 use Rattle.framing.proofs.Event as event
 use Rattle.framing.specs.declared.Event.{Event}
 use Rattle.framing.specs.declared.Event.the-variants as ev
-use Rattle.framing.specs.Laws.{number-high}
+use Rattle.framing.proofs.Laws.{number-high}
 use Rattle.framing.specs.Session.{saidBy}
 use Rattle.events.specs.Events.{lengthOf}
-use Rattle.frames.specs.Laws.{wrote-then, event-plain, event-message}
+use Rattle.frames.proofs.Laws.{wrote-then, event-plain, event-message}
 use borrow.Author.Needs.{needs}
 use Rattle.frames.proofs.text.put_event.Statement.{statement}
 use Rattle.frames.proofs.text.put_event.Tie as tie

@@ -1,7 +1,7 @@
 use mathlib.Core.Path.{_∙_}
 use native.Mathlib.Omega.{arith}
 use Rattle.frames.specs.Text.{headText}
-use Rattle.frames.specs.Laws.{wrote-then}
+use Rattle.frames.proofs.Laws.{wrote-then}
 use borrow.Author.Needs.{needs}
 use Rattle.frames.proofs.text.put_head.Statement.{statement}
 use Rattle.frames.proofs.text.put_head.Tie as tie

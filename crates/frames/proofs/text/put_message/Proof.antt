@@ -1,7 +1,7 @@
 use mathlib.Core.Path.{sym, _∙_}
 use native.Mathlib.Omega.{arith}
 use lib.Seq.{length-take-le}
-use Rattle.frames.specs.Laws.{wrote-then, take-least}
+use Rattle.frames.proofs.Laws.{wrote-then, take-least}
 use borrow.Author.Needs.{needs}
 use Rattle.frames.proofs.text.put_message.Statement.{statement}
 use Rattle.frames.proofs.text.put_message.Tie as tie

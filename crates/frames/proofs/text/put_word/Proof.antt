@@ -1,5 +1,5 @@
 use native.Mathlib.Omega.{arith}
-use Rattle.frames.specs.Laws.{word-none, word-some}
+use Rattle.frames.proofs.Laws.{word-none, word-some}
 use borrow.Author.Needs.{needs}
 use Rattle.frames.proofs.text.put_word.Statement.{statement}
 use Rattle.frames.proofs.text.put_word.Tie as tie

@@ -2,7 +2,7 @@ use Rattle.framing.specs.declared.step.Stepped.{Stepped}
 use Prim.Native.Nat.{_+_}
 use lib.ListN.{set}
 use mathlib.Core.Path.{sym, ap, _∙_}
-use Rattle.framing.specs.Laws.{keeps-goes, keeps-refuses, keeps-adds, keeps-over}
+use Rattle.framing.proofs.Laws.{keeps-goes, keeps-refuses, keeps-adds, keeps-over}
 use Rattle.framing.specs.Steps.{gives}
 use borrow.Author.Needs.{needs}
 use Rattle.framing.proofs.step.adds.Statement.{statement}

@@ -7,7 +7,7 @@ use native.Mathlib.Numerals.{add-one}
 use borrow.Author.Needs.{needs}
 use lib.ListN.{length, take, drop, getD, set, length-set}
 use lib.Seq.{sets, length-sets, take-suc, getD-drop, length-take-le}
-use Rattle.framing.specs.Lists.{sets-append, length-part, drop-sets-le}
+use Rattle.framing.proofs.Lists.{sets-append, length-part, drop-sets-le}
 use Rattle.framing.proofs.step.copies.Statement.{statement}
 use Rattle.framing.proofs.step.copies.Tie as tie
 

@@ -7,7 +7,7 @@ use Rattle.framing.specs.Numbers.{contentStart}
 use Rattle.framing.specs.Content.{contentOf}
 use Rattle.framing.specs.Rules.{ends}
 use Rattle.framing.specs.Session.{contentIn}
-use Rattle.framing.specs.Laws.{gives-same, content-length, keeps-same, keeps-refuses, payload-in, piece-long}
+use Rattle.framing.proofs.Laws.{gives-same, content-length, keeps-same, keeps-refuses, payload-in, piece-long}
 use borrow.Author.Needs.{needs}
 use Rattle.framing.proofs.step.ends.Statement.{statement}
 use Rattle.framing.proofs.step.ends.Tie as tie

@@ -1,7 +1,7 @@
 use borrow.Author.Tests.{lt-ltb, le-ltb, eq-eqb, ne-eqb, le-leb, lt-leb}
 use mathlib.Core.Path.{_≡_, refl, sym, _∙_}
 use native.Mathlib.Omega.{arith}
-use Rattle.framing.specs.Laws.{gives-same, keeps-goes, keeps-refuses}
+use Rattle.framing.proofs.Laws.{gives-same, keeps-goes, keeps-refuses}
 use Rattle.framing.specs.Rules.{inPlace}
 use Rattle.framing.specs.declared.Frame.the-variants.{Outside, Inside, BadByte}
 use Rattle.framing.specs.declared.Fault.the-variants.{Cut, Escape}

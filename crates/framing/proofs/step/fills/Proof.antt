@@ -4,8 +4,8 @@ use mathlib.Core.Path.{sym, _∙_}
 use native.Mathlib.Omega.{arith}
 use borrow.Author.Needs.{needs}
 use lib.ListN.{length}
-use Rattle.framing.specs.Steps.{arriving}
-use Rattle.framing.specs.Laws.{Reaches, reaches-here, reaches-on, reaches-as, reaches-ordinary, reaches-escape}
+use Rattle.framing.specs.Steps.{arriving, Reaches}
+use Rattle.framing.proofs.Laws.{reaches-here, reaches-on, reaches-as, reaches-ordinary, reaches-escape}
 use Rattle.framing.proofs.step.fills.Statement.{statement}
 use Rattle.framing.proofs.step.fills.Tie as tie
 

@@ -3,7 +3,7 @@ use mathlib.Core.Path.{_≡_, sym, ap, _∙_}
 use native.Mathlib.Omega.{arith}
 use Rattle.framing.specs.Steps.{gives}
 use Rattle.framing.specs.declared.step.Stepped.{Stepped}
-use Rattle.framing.specs.Laws.{content-length, keeps-goes, keeps-refuses}
+use Rattle.framing.proofs.Laws.{content-length, keeps-goes, keeps-refuses}
 use Rattle.framing.specs.Rules.{cuts, inPlace}
 use Rattle.framing.specs.declared.Frame.the-variants.{Inside, Escaped, BadByte}
 use Rattle.framing.specs.declared.Fault.the-variants.{Cut}

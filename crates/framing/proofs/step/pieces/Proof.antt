@@ -13,7 +13,7 @@ use mathlib.Core.Path.{_≡_, sym, ap, _∙_}
 use native.Mathlib.Omega.{arith}
 use Rattle.framing.specs.Steps.{gives}
 use Rattle.framing.specs.declared.step.Stepped.{Stepped}
-use Rattle.framing.specs.Laws.{gives-same, keeps-first, keeps-orphan, keeps-later, keeps-big}
+use Rattle.framing.proofs.Laws.{gives-same, keeps-first, keeps-orphan, keeps-later, keeps-big}
 use Rattle.framing.specs.Steps.{joining}
 use Rattle.framing.specs.Session.{messageLength}
 use Rattle.framing.specs.Rules.{pieces}

@@ -5,7 +5,8 @@ use native.Mathlib.Omega.{arith}
 use lib.ListN.{length}
 use Rattle.framing.specs.declared.Session.{Session}
 use Rattle.framing.specs.Session.{Legal}
-use Rattle.framing.specs.Laws.{Reaches, Stays, reaches-here, reaches-on, reaches-past}
+use Rattle.framing.proofs.Laws.{reaches-here, reaches-on, reaches-past}
+use Rattle.framing.specs.Steps.{Reaches, Stays}
 use Rattle.framing.proofs.step.skips.Statement.{statement}
 use Rattle.framing.proofs.step.skips.Tie as tie
 

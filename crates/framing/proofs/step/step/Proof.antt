@@ -7,7 +7,7 @@ use Rattle.framing.specs.Numbers.{contentLimit, messageLimit, storeLengt
 use borrow.Author.Tests.{lt-ltb, le-ltb, eq-eqb, ne-eqb, le-leb, lt-leb}
 use mathlib.Core.Path.{_≡_, sym, ap, _∙_}
 use native.Mathlib.Omega.{arith}
-use Rattle.framing.specs.Laws.{gives-same, keeps-goes, keeps-refuses, keeps-faulted}
+use Rattle.framing.proofs.Laws.{gives-same, keeps-goes, keeps-refuses, keeps-faulted}
 use mathlib.Core.Path.{refl}
 use Rattle.framing.specs.declared.Frame.{Frame}
 use Rattle.framing.specs.declared.Frame.the-variants.{Outside, Inside, Escaped, BadByte, TooLong}

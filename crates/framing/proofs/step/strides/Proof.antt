@@ -4,7 +4,8 @@ use Rattle.framing.specs.declared.Frame.the-variants.{BadByte, TooLong}
 use Rattle.framing.specs.declared.Fault.the-variants.{Byte, Long}
 use Rattle.framing.specs.Rules.{inPlace}
 use Rattle.framing.specs.Session.{Legal}
-use Rattle.framing.specs.Laws.{Reaches, reaches-here, stays-stray, stays-fault}
+use Rattle.framing.proofs.Laws.{reaches-here, stays-stray, stays-fault}
+use Rattle.framing.specs.Steps.{Reaches}
 use borrow.Author.Needs.{needs}
 use Rattle.framing.proofs.step.strides.Statement.{statement}
 use Rattle.framing.proofs.step.strides.Tie as tie

@@ -1,5 +1,5 @@
 use mathlib.Core.Path.{_∙_}
-use Rattle.framing_c.specs.Laws.{set-four}
+use Rattle.framing_c.proofs.Laws.{set-four}
 use borrow.Author.Needs.{needs}
 use Rattle.framing_c.proofs.words.put_session.Statement.{statement}
 use Rattle.framing_c.proofs.words.put_session.Tie as tie

@@ -11,10 +11,10 @@ use lib.IntN.{ℤ, pos, _+ℤ_}
 use lib.Ieee.{inf, fin}
 use Rattle.integers.specs.Digits.{natural}
 use Rattle.integers.specs.Integer.{signed}
-use Rattle.integers.specs.Laws.{part-cons, length-part}
+use Rattle.integers.proofs.Laws.{part-cons, length-part}
 use Rattle.reals.specs.declared.Read.the-variants.{Real, Refused}
 use Rattle.reals.specs.Number.{number}
-use Rattle.reals.specs.Laws.{and-false}
+use Rattle.reals.proofs.Laws.{and-false}
 use Rattle.reals.specs.Real.{negative, base, scale, exponentOctets, mantissa, power, wellFormed, binaryReal, nonEmpty, real, realAt}
 
 module _ (first : ℕ) (rest : List ℕ) where

@@ -11,9 +11,10 @@ use lib.ListN.{length, take, drop, getD, set, length-append}
 use lib.Seq.{sets, drop-cons}
 use Rattle.framing.specs.declared.Event.{Event}
 use Rattle.framing.specs.declared.Event.the-variants as ev
-use Rattle.events.specs.Events.{lengthOf, said-number, said-discarded, said-message}
+use Rattle.events.specs.Events.{lengthOf}
+use Rattle.events.proofs.Said.{said-is}
 use Rattle.framing.specs.declared.Session.{Session}
-use Rattle.framing.specs.Lists.{sets-append}
+use Rattle.framing.proofs.Lists.{sets-append}
 use Rattle.framing.specs.Numbers.{pick}
 use Rattle.framing.specs.Rules.{State, step}
 use Rattle.framing.specs.Session.{saidBy, stateOf, legal, kept, Whole, whole, run, feeds}
@@ -98,11 +99,11 @@ take-least (suc n) (x ∷ t) =
 module _ (o : ℕ) (e : Event) (t : List ℕ) (n : ℕ) (d : Bool) (isNumber : n ≡ saidBy e [] .number) (isBit : d ≡ saidBy e [] .discarded) where
   pub event-plain : (n ≡ 3 → ⊥) → eventText o (saidBy e t) ≡ headText o n d ++ newline
   unfolding eventText
-  event-plain h = rw (said-number e t, said-discarded e t, ← isNumber, ← isBit) (simp (ne-eqb _ _ h))
+  event-plain h = rw (said-is e t, ← isNumber, ← isBit) (simp (ne-eqb _ _ h))
 
   pub event-message : n ≡ 3 → eventText o (saidBy e t) ≡ headText o n d ++ ((space ++ wordText (take (lengthOf e) t)) ++ newline)
   unfolding eventText
-  event-message h = rw (said-number e t, said-discarded e t, said-message e t, ← isNumber, ← isBit) (simp (eq-eqb _ _ h))
+  event-message h = rw (said-is e t, ← isNumber, ← isBit) (simp (eq-eqb _ _ h))
 
 -- ---- lines
 

@@ -12,9 +12,9 @@ use lib.Ieee as Ieee
 use lib.Ieee.{nan, inf, fin, binary64, minus}
 use Rattle.integers.specs.Digits.{digits, unchanged, put}
 use Rattle.integers.specs.Integer.{sizeBy, shortest, octets as octetsOf}
-use Rattle.integers.specs.Laws.{size-small, size-more}
+use Rattle.integers.proofs.Laws.{size-small, size-more}
 use Rattle.reals.specs.Number.{halvings, oddPart}
-use Rattle.reals.specs.Odd.{odd-once, halved}
+use Rattle.reals.proofs.Odd.{odd-once, halved}
 use Rattle.reals.specs.Write.{octets, putForm, form, numberOctets, writeAt}
 
 pub number-form : (s : Bool) (m : ℕ) (p : ℤ) → 0 < m → form (fin s m p) ≡ octets (numberOctets s m p)

@@ -11,7 +11,7 @@ use lib.Bits.{bitXor}
 use lib.ListN.{length, getD, set, take, drop, length-append, length-drop, drop-of-length-le}
 use lib.Seq.{sets, sets-eq, set-out, take-all, take-append-seam, drop-cons, drop-drop}
 use Rattle.framing.specs.Checksum.{crcFrom, checksum}
-use Rattle.framing.specs.Lists.{sets-append}
+use Rattle.framing.proofs.Lists.{sets-append}
 use Rattle.framing.specs.Numbers.{BOF, EOF, CE, pick}
 use Rattle.framing_writer.specs.declared.Written.the-variants.{Done, Out}
 use Rattle.framing_writer.specs.Written.{escape, escapes, frame, flags, header, packet, packets, payloadLimit, earlier, Outcome, outcome, into, limited}

@@ -15,11 +15,12 @@ use lib.Ieee.{Float, nan, inf, fin, binary64, up, down, size}
 use lib.Ieee.Fits.{and-l, and-r, up-pos, down-pos}
 use lib.Ieee.Bits.{is-true}
 use lib.Ieee.Digits.{size-le}
+use Rattle.integers.specs.Digits.{pick}
 use Rattle.reals.specs.declared.Read.the-variants.{Real, Refused}
-use Rattle.reals.specs.Number.{pick, halvings, oddPart, oddPower, inDouble, number}
+use Rattle.reals.specs.Number.{halvings, oddPart, oddPower, inDouble, number}
 use Rattle.reals.specs.Means.{Equals}
-use Rattle.reals.specs.Powers.{over, below, up-is, down-is, one, add-is, leb-same, most-is}
-use Rattle.reals.specs.Odd.{odd-once, halved, size-shift, size-under}
+use Rattle.reals.proofs.Powers.{over, below, up-is, down-is, one, add-is, leb-same, most-is}
+use Rattle.reals.proofs.Odd.{odd-once, halved, size-shift, size-under}
 
 -- ---- the rule on an odd mantissa is the library's test of what a double holds
 

@@ -23,13 +23,13 @@ use Rattle.framing.specs.declared.Pending.the-variants.{Nothing, Part}
 use Rattle.framing.specs.declared.Session.{Session}
 use Rattle.framing.specs.declared.step.Progress.{Progress}
 use Rattle.framing.specs.declared.step.Stepped.{Stepped}
-use Rattle.framing.specs.Lists.{sets-append, length-part, sets-same, take-sets-le, part-sets, drop-take}
+use Rattle.framing.proofs.Lists.{sets-append, length-part, sets-same, take-sets-le, part-sets, drop-take}
 use Rattle.framing.specs.Numbers.{BOF, EOF, CE, contentLimit, messageLimit, storeLength, contentStart, number, pick}
 use Rattle.framing.specs.Rules.{Place, outside, stray, inside, escaped, badByte, tooLong, Message, none, part, State, Said, Step, begin, quiet, makes, goes, refuses, adds, joins, pieces, reads, ends, cuts, faulted, inPlace, step, isOpen}
 use Rattle.framing.specs.Content.{packetOf, commandOf, bodyOf, contentOf, body, crcOf, payload}
 use Rattle.framing.specs.Checksum.{checksum}
 use Rattle.framing.specs.Session.{saidBy, contentIn, placeOf, messageOf, stateOf, frameOf, pendingOf, sessionOf, frameLength, messageLength, legal, Legal, content, held, kept, Kept, keeps, whole, run}
-use Rattle.framing.specs.Steps.{gives, isPart, going, refusing, joining, pastFault}
+use Rattle.framing.specs.Steps.{gives, isPart, going, refusing, joining, pastFault, Reaches, Stays}
 
 -- ---- a test and its two answers
 
@@ -394,16 +394,19 @@ module _ (o : Step) (t : List ℕ) (room : length t ≡ storeLength) (w : Within
   unfolding kept
   kept-length = length-sets (sets t 0 ys) contentStart xs ∙ length-sets t 0 ys ∙ room
 
+  -- the message stands in the store from 0
+  pub kept-message : take (length ys) (kept o t) ≡ ys
+  unfolding kept
+  kept-message = take-sets-le xs (sets t 0 ys) contentStart (length ys) (w .message) ∙ part-sets ys t 0 (omega (arith, w .message))
+
   -- the next session and the store hold the next state
   pub kept-state : stateOf (sessionOf (o .next)) (kept o t) ≡ o .next
   unfolding kept
   kept-state =
       let l : length (sets t 0 ys) ≡ storeLength = length-sets t 0 ys ∙ room in
       let e : contentIn (length xs) (kept o t) ≡ xs = part-sets xs (sets t 0 ys) contentStart (omega (arith, w .frame)) in
-      let f : take (length ys) (kept o t) ≡ ys =
-      take-sets-le xs (sets t 0 ys) contentStart (length ys) (w .message) ∙ part-sets ys t 0 (omega (arith, w .message)) in
       ap (λ (p : Place). record { place = p; message = messageOf (pendingOf (o .next .message)) (kept o t) }) (place-back (o .next .place) (kept o t) e)
-      ∙ ap (λ (m : Message). record { place = o .next .place; message = m }) (message-back (o .next .message) (o .said .message) (kept o t) f)
+      ∙ ap (λ (m : Message). record { place = o .next .place; message = m }) (message-back (o .next .message) (o .said .message) (kept o t) kept-message)
 
 -- ---- the session of a bounded state is legal
 
@@ -504,13 +507,6 @@ pub turn-end : (c : List ℕ) (i : ℕ) (s : Session) (t : List ℕ) → Legal s
 turn-end c i s t l h =
     run-end c i (stateOf s t) t h ∙ ap (λ (x : Session). record { said = quiet; consumed = i; session = x; store = t }) (session-back s t l)
 
--- From byte i of a chunk, the session s and the store t, a call comes to byte j, s′ and t′ with no event: what is left gives the same.
-pub record Reaches (c : List ℕ) (i : ℕ) (s : Session) (t : List ℕ) (j : ℕ) (s′ : Session) (t′ : List ℕ) : Type 0 where
-  pub legal : Legal s′ t′
-  pub forward : i ≤ j
-  pub inside : j ≤ length c
-  pub rest : run (drop i c) (stateOf s t) t i ≡ run (drop j c) (stateOf s′ t′) t′ j
-
 pub reaches-here : (c : List ℕ) (i : ℕ) (s : Session) (t : List ℕ) → Legal s t → i ≤ length c → Reaches c i s t i s t
 reaches-here c i s t l h = record { legal = l; forward = omega arith; inside = h; rest = refl }
 
@@ -565,10 +561,6 @@ reaches-escape c i n m t l h hn e lo hi =
     )
     (keeps-adds t (l .room) n (bitXor (getD c (i + 1) 0) 0x20) m (l .frame) (l .message) hn))
     refl)
-
--- Any byte but BOF and another leaves the session and the store as they are.
-pub Stays : Session → ℕ → Type 0
-Stays s other = (b : ℕ) (t : List ℕ) → (b ≡ BOF → ⊥) → (b ≡ other → ⊥) → Legal s t → keeps (step (stateOf s t) b) t ≡ gives (going (s .frame) (s .message)) t
 
 pub reaches-past : (c : List ℕ) (i other : ℕ) (s : Session) (t : List ℕ) → Stays s other → Legal s t → i < length c
     → (getD c i 0 ≡ BOF → ⊥) → (getD c i 0 ≡ other → ⊥) → Reaches c i s t (i + 1) s t

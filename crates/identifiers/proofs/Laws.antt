@@ -9,7 +9,7 @@ use lib.ListN.{length, take, drop, getD, length-append, drop-of-length-le}
 use Rattle.tags.specs.Write.{septets}
 use lib.ListN.{take-append-drop}
 use Rattle.integers.specs.declared.Wrote.the-variants.{Next}
-use Rattle.integers.specs.Laws.{put-in}
+use Rattle.integers.proofs.Laws.{put-in}
 use lib.Seq.{drop-cons}
 use Rattle.integers.specs.Digits.{pick, put, unchanged, outcome}
 use Rattle.identifiers.specs.declared.Arc.the-variants.{Number, Range as Over, Refused as NoArc}

@@ -18,7 +18,8 @@ use Rattle.framing.specs.Session.{saidBy, answers, frameLength, messageLength, 
 use Rattle.framing_writer.specs.declared.Written.{Written}
 use Rattle.framing_writer.specs.declared.Written.the-variants.{Done, Out}
 use Rattle.framing_writer.specs.Written.{Outcome, outcome}
-use Rattle.events.specs.Events.{lengthOf, said-number, said-discarded, said-message}
+use Rattle.events.specs.Events.{lengthOf}
+use Rattle.events.proofs.Said.{said-is}
 use Rattle.framing_c.specs.Words.{placeWord, openWord, wordsOf, frameAt, pendingAt, sessionAt, isFrame, isPending, isSession}
 use Rattle.framing_c.specs.Calls.{Told, accepts, told, calls, tells, puts}
 
@@ -114,7 +115,7 @@ module _ (ws t bs a : List ℕ) (s : Session) (r : Fed) (ws′ t′ a′ : List 
       → calls ws t bs a ≡ record { number = saidBy (r .event) [] .number; session = ws′; store = t′; answer = a′ }
   unfolding calls told
   calls-taken h i e w q x y z v =
-      rw (h, ← i, e, w, q, x, y, z, v, said-number (r .event) t′, said-discarded (r .event) t′, said-message (r .event) t′, length-take (lengthOf (r .event)) t′)
+      rw (h, ← i, e, w, q, x, y, z, v, said-is (r .event) t′, length-take (lengthOf (r .event)) t′)
 
 -- ---- the writer
 

@@ -9,7 +9,7 @@ use borrow.Author.Tests.{le-leb, lt-leb, eq-eqb, ne-eqb}
 use lib.ListN.{length, take, drop, getD}
 use lib.Dec.{leb, eqb}
 use Rattle.integers.specs.Integer.{integerAt}
-use Rattle.integers.specs.Laws.{part-cons, length-part}
+use Rattle.integers.proofs.Laws.{part-cons, length-part}
 use Rattle.reals.specs.Real.{realAt}
 use Rattle.tags.specs.declared.Length.{Length}
 use Rattle.tags.specs.declared.Head.{Head}

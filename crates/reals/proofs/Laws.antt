@@ -10,9 +10,10 @@ use lib.Ieee as Ieee
 use lib.Ieee.{fin, minus, size, binary64}
 use Rattle.reals.specs.declared.Read.the-variants.{Real, Refused}
 use Rattle.reals.specs.Number.{halvings, oddPart, oddPower, inDouble, number}
-use Rattle.reals.specs.Exact.{odd-is}
-use Rattle.reals.specs.Pattern.{bitsOf, bits-back, bits-no-nan}
-use Rattle.reals.specs.Powers.{Is, minus-is, add-is, least-is, most-is, one}
+use Rattle.reals.proofs.Doubles.{odd-is}
+use Rattle.reals.specs.Pattern.{bitsOf}
+use Rattle.reals.proofs.Patterns.{bits-back, bits-no-nan}
+use Rattle.reals.proofs.Powers.{Is, minus-is, add-is, least-is, most-is, one}
 
 pub and-false : (a : Bool) → (a && false) ≡ false
 and-false true = refl

@@ -10,7 +10,7 @@ use Rattle.framing.specs.declared.Session.{Session}
 use Rattle.framing.specs.Numbers.{storeLength, pick}
 use Rattle.framing.specs.Rules.{State, Said, Step, step, Happening, noted, happens, after, quiet}
 use Rattle.framing.specs.Session.{stateOf, sessionOf, Legal, kept, Whole, whole, run}
-use Rattle.framing.specs.Laws.{Bounded, Within, within-step, bounded-next, frame-bound, message-bound, legal-next, kept-state, kept-length}
+use Rattle.framing.proofs.Laws.{Bounded, Within, within-step, bounded-next, frame-bound, message-bound, legal-next, kept-state, kept-length}
 
 pub noted-append : (e : Said) (n : ℕ) (hs ks : List Happening) → noted e n (hs ++ ks) ≡ noted e n hs ++ ks
 noted-append e n hs ks = go (eqb (e .number) 0)
