@@ -7,11 +7,14 @@ use std::path::{Path, PathBuf};
 fn files() -> Vec<(&'static str, Vec<u8>)> {
     let frames = gen::frames::stored();
     let octets = gen::octets::stored();
+    let packets = gen::packets::stored();
     vec![
         ("crates/frames/stdout", programs::frames(&frames).into_bytes()),
         ("crates/frames/stdin", frames),
         ("crates/octets/stdout", programs::octets(&octets).into_bytes()),
         ("crates/octets/stdin", octets),
+        ("crates/packets/stdout", programs::packets(&packets).into_bytes()),
+        ("crates/packets/stdin", packets),
     ]
 }
 

@@ -1,14 +1,15 @@
 // The requests.
-use crate::print;
-use crate::text;
-use crate::text::Decimal;
-use crate::text::Hex;
+use crate::value;
 use identifiers::Arc;
 use identifiers::Oid;
 use integers::Natural;
 use integers::Number;
 use integers::Wrote;
 use reals::Read;
+use requests::print;
+use requests::text;
+use requests::text::Decimal;
+use requests::text::Hex;
 use tags::Head;
 use tags::Length;
 use values::Flag;
@@ -21,48 +22,61 @@ fn wide(x: u8) -> u64 {
     x as u64
 }
 
+pub(crate) fn show_int(x: i64) {
+    let m = integers::magnitude(x);
+    if x < 0 {
+        print::say(b"-");
+        print::decimal(m + 1);
+    } else {
+        print::decimal(m);
+    }
+}
+
 fn read_int(s: &[u8]) {
     match integers::read_int(s, 0, s.len()) {
         Number::Int(x) => {
-            let m = integers::magnitude(x);
-            if x < 0 {
-                print::say(b"-");
-                print::decimal(m + 1);
-            } else {
-                print::decimal(m);
-            }
-            print::say(b"\n");
+            show_int(x);
+            print::end();
         }
         Number::Refused => print::say(b"30\n"),
     }
 }
 
-fn show_real(x: f64) {
+// A double's 64 bits. No NaN is read.
+pub(crate) fn show_real(x: f64) {
     if x != x {
-        print::say(b"35\n");
+        print::say(b"nan");
         return;
     }
     let mut room = [0u8; 8];
     let out: &mut [u8] = &mut room;
     integers::write_octets(f64::to_bits(x), 8, out, 0);
-    print::octets(out);
+    print::hex(out);
 }
 
 fn read_real(s: &[u8]) {
     match reals::read_real(s, 0, s.len()) {
-        Read::Real(x) => show_real(x),
+        Read::Real(x) => {
+            show_real(x);
+            print::end();
+        }
         Read::Refused => print::say(b"35\n"),
+    }
+}
+
+pub(crate) fn show_bool(b: bool) {
+    if b {
+        print::say(b"true");
+    } else {
+        print::say(b"false");
     }
 }
 
 fn read_bool(s: &[u8]) {
     match values::read_bool(s, 0, s.len()) {
         Flag::Is(b) => {
-            if b {
-                print::say(b"true\n");
-            } else {
-                print::say(b"false\n");
-            }
+            show_bool(b);
+            print::end();
         }
         Flag::Refused => print::say(b"30\n"),
     }
@@ -137,11 +151,18 @@ fn read_oid(s: &[u8]) {
     }
 }
 
-fn show(w: Wrote, out: &[u8]) {
+pub(crate) fn show(w: Wrote, out: &[u8]) {
     match w {
         Wrote::Next(e) => print::written(out, e),
         Wrote::Out => print::out(),
     }
+}
+
+// An integer of a request, one that does not fit 64 bits, or no integer.
+pub enum Whole {
+    Int(i64),
+    Out,
+    Bad,
 }
 
 // -m, for m from 1 to 2^63.
@@ -155,34 +176,40 @@ fn negated(m: u64) -> i64 {
     -1 - ((m - 1) as i64)
 }
 
-fn write_magnitude(negative: bool, m: u64, work: &mut [u8]) {
+fn whole_of(negative: bool, m: u64) -> Whole {
     if negative {
         if 0x8000_0000_0000_0000 < m {
-            print::out();
-            return;
+            return Whole::Out;
         }
-        let w = integers::write_int(negated(m), work, 0);
-        show(w, work);
-        return;
+        return Whole::Int(negated(m));
     }
     if 0x7FFF_FFFF_FFFF_FFFF < m {
-        print::out();
-        return;
+        return Whole::Out;
     }
-    let w = integers::write_int(m as i64, work, 0);
-    show(w, work);
+    Whole::Int(m as i64)
 }
 
-fn write_int(line: &[u8], from: usize, work: &mut [u8]) {
+// The integer that a line has from a position on.
+pub(crate) fn integer(line: &[u8], from: usize) -> Whole {
     if line.len() <= from {
-        print::bad_line();
-        return;
+        return Whole::Bad;
     }
     let negative = line[from] == b'-';
     let start = if negative { from + 1 } else { from };
     match text::number(line, start, line.len()) {
-        Decimal::Number(m) => write_magnitude(negative, m, work),
-        Decimal::Bad => print::bad_line(),
+        Decimal::Number(m) => whole_of(negative, m),
+        Decimal::Bad => Whole::Bad,
+    }
+}
+
+fn write_int(line: &[u8], from: usize, work: &mut [u8]) {
+    match integer(line, from) {
+        Whole::Int(x) => {
+            let w = integers::write_int(x, work, 0);
+            show(w, work);
+        }
+        Whole::Out => print::out(),
+        Whole::Bad => print::bad_line(),
     }
 }
 
@@ -301,6 +328,10 @@ pub(crate) fn answer(line: &[u8], work: &mut [u8], numbers: &mut [u64]) {
         answer_read(line, work);
         return;
     }
+    if text::starts(line, b"write value ") {
+        value::write(line, work);
+        return;
+    }
     if text::starts(line, b"write int ") {
         write_int(line, 10, work);
         return;
@@ -360,6 +391,10 @@ fn read_kind(kind: u8, s: &[u8]) {
 }
 
 fn answer_read(line: &[u8], work: &mut [u8]) {
+    if text::starts(line, b"read value ") {
+        value::read(line, 11, work);
+        return;
+    }
     if text::starts(line, b"read int ") {
         read_as(0, line, 9, work);
         return;

@@ -1,6 +1,6 @@
 use mathlib.Core.Path.{sym, subst}
 use lib.Seq.{length-take-le}
-use Rattle.octets.specs.Parts.{Within}
+use Rattle.requests.specs.Parts.{Within}
 use borrow.Author.Needs.{needs}
 use Rattle.octets.proofs.ask.read_as.Statement.{statement}
 use Rattle.octets.proofs.ask.read_as.Tie as tie

@@ -1,7 +1,7 @@
 use Prim.Native.Nat.{_≤_, _-_}
 use borrow.Author.Needs.{needs}
-use Rattle.octets.proofs.text.number.Statement.{statement}
-use Rattle.octets.proofs.text.number.Tie as tie
+use Rattle.requests.proofs.text.number.Statement.{statement}
+use Rattle.requests.proofs.text.number.Tie as tie
 
 abbrev Inv-loop : tie.InvT-loop
 Inv-loop line from end n₀ i₀ n i = i ≤ end

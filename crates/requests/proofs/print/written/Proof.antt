@@ -1,8 +1,8 @@
 use mathlib.Core.Path.{sym}
 use lib.Seq.{length-take-le}
 use borrow.Author.Needs.{needs}
-use Rattle.octets.proofs.print.written.Statement.{statement}
-use Rattle.octets.proofs.print.written.Tie as tie
+use Rattle.requests.proofs.print.written.Statement.{statement}
+use Rattle.requests.proofs.print.written.Tie as tie
 
 slice-aggregate-octets : tie.Need-slice-aggregate-octets
 slice-aggregate-octets c = sym (length-take-le _ _ (c .before .if1 .taken))

@@ -1,8 +1,8 @@
 use Prim.Native.Nat.{_≤_, _-_}
 use lib.ListN.{length}
 use borrow.Author.Needs.{needs}
-use Rattle.octets.proofs.text.find.Statement.{statement}
-use Rattle.octets.proofs.text.find.Tie as tie
+use Rattle.requests.proofs.text.find.Statement.{statement}
+use Rattle.requests.proofs.text.find.Tie as tie
 
 abbrev Inv-loop : tie.InvT-loop
 Inv-loop line from b i₀ i = from ≤ i

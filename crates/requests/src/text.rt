@@ -1,7 +1,7 @@
 // The parts of a request.
 ghost use mathlib.Core.Path.{_≡_};
 ghost use Prim.Native.Nat.{_≤_};
-ghost use Rattle.octets.specs.Parts.{Within};
+ghost use Rattle.requests.specs.Parts.{Within};
 
 // Octets at the start of the work space, or no such.
 pub enum Hex {
@@ -16,7 +16,7 @@ pub enum Decimal {
 }
 
 // Whether a line has a text at a position.
-pub(crate) fn starts(line: &[u8], text: &[u8]) -> bool {
+pub fn starts(line: &[u8], text: &[u8]) -> bool {
     if line.len() < text.len() {
         return false;
     }
@@ -70,7 +70,7 @@ fn narrow(x: u64) -> u8 {
 }
 
 // The octets that a line has from a position on: `-`, or pairs of digits.
-pub(crate) fn octets(line: &[u8], from: usize, work: &mut [u8]) -> Hex
+pub fn octets(line: &[u8], from: usize, work: &mut [u8]) -> Hex
     ensures { λ r. ⌜ Within (now (work .exit)) r ⌝ }
 {
     if line.len() <= from {
@@ -103,7 +103,7 @@ pub(crate) fn octets(line: &[u8], from: usize, work: &mut [u8]) -> Hex
 }
 
 // The number that a line has from a position up to an end.
-pub(crate) fn number(line: &[u8], from: usize, end: usize) -> Decimal {
+pub fn number(line: &[u8], from: usize, end: usize) -> Decimal {
     if end <= from {
         return Decimal::Bad;
     }
@@ -125,7 +125,7 @@ pub(crate) fn number(line: &[u8], from: usize, end: usize) -> Decimal {
 
 // One digit more, or the largest number.
 fn more(n: u64, digit: u64) -> u64 {
-    if 1844674407370955160 < n {
+    if 1844674407370955161 < n {
         return u64::MAX;
     }
     if digit < 48 {
@@ -134,16 +134,15 @@ fn more(n: u64, digit: u64) -> u64 {
     if 57 < digit {
         return u64::MAX;
     }
-    if n == 1844674407370955160 {
-        if 53 < digit {
-            return u64::MAX;
-        }
+    let value = digit - 48;
+    if u64::MAX - value < n * 10 {
+        return u64::MAX;
     }
-    n * 10 + (digit - 48)
+    n * 10 + value
 }
 
 // The position of a byte from a position on, or the line's length.
-pub(crate) fn find(line: &[u8], from: usize, b: u8) -> usize
+pub fn find(line: &[u8], from: usize, b: u8) -> usize
     ensures { λ r. ⌜ from ≤ r ⌝ }
 {
     let mut i = from;

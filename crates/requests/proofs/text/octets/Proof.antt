@@ -3,8 +3,8 @@ use mathlib.Core.Path.{_≡_}
 use native.Mathlib.Omega.{arith}
 use lib.ListN.{length, length-set}
 use borrow.Author.Needs.{needs}
-use Rattle.octets.proofs.text.octets.Statement.{statement}
-use Rattle.octets.proofs.text.octets.Tie as tie
+use Rattle.requests.proofs.text.octets.Statement.{statement}
+use Rattle.requests.proofs.text.octets.Tie as tie
 
 abbrev Inv-loop : tie.InvT-loop
 Inv-loop line from work₀ i₀ n₀ work i n = (i ≤ length line) × ((n ≤ length work) × (length work ≡ length work₀))

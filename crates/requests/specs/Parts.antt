@@ -2,8 +2,8 @@
 use Prim.Native.Nat.{ℕ, _≤_}
 use mathlib.Core.List.{List}
 use lib.ListN.{length}
-use Rattle.octets.specs.declared.text.Hex.{Hex}
-use Rattle.octets.specs.declared.text.Hex.the-variants.{Octets, Bad}
+use Rattle.requests.specs.declared.text.Hex.{Hex}
+use Rattle.requests.specs.declared.text.Hex.the-variants.{Octets, Bad}
 
 abbrev pub Within : List ℕ → Hex → Type 0
 Within work (Octets n) = n ≤ length work
