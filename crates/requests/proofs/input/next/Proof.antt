@@ -7,7 +7,8 @@ use Rattle.requests.proofs.input.next.Statement.{statement}
 use Rattle.requests.proofs.input.next.Tie as tie
 
 abbrev Inv-loop : tie.InvT-loop
-Inv-loop block₀ line₀ at₀ end₀ len₀ long₀ turns₀ block line at end len long turns = (len ≤ length line) × ((length line ≡ length line₀) × (length block ≡ length block₀))
+Inv-loop block₀ line₀ at₀ end₀ len₀ long₀ turns₀ block line at end len long turns =
+    (len ≤ length line) × ((length line ≡ length line₀) × (length block ≡ length block₀))
 
 abbrev μ-loop : tie.MeasureT-loop
 μ-loop block₀ line₀ at₀ end₀ len₀ long₀ turns₀ block line at end len long turns = turns
