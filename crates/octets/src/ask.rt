@@ -1,10 +1,11 @@
 // The requests.
+use crate::put;
+use crate::put::Asked;
 use crate::value;
 use identifiers::Arc;
 use identifiers::Oid;
 use integers::Natural;
 use integers::Number;
-use integers::Wrote;
 use reals::Read;
 use requests::print;
 use requests::text;
@@ -151,13 +152,6 @@ fn read_oid(s: &[u8]) {
     }
 }
 
-pub(crate) fn show(w: Wrote, out: &[u8]) {
-    match w {
-        Wrote::Next(e) => print::written(out, e),
-        Wrote::Out => print::out(),
-    }
-}
-
 // An integer of a request, one that does not fit 64 bits, or no integer.
 pub enum Whole {
     Int(i64),
@@ -202,37 +196,26 @@ pub(crate) fn integer(line: &[u8], from: usize) -> Whole {
     }
 }
 
-fn write_int(line: &[u8], from: usize, work: &mut [u8]) {
+fn write_int(line: &[u8], from: usize) {
     match integer(line, from) {
-        Whole::Int(x) => {
-            let w = integers::write_int(x, work, 0);
-            show(w, work);
-        }
+        Whole::Int(x) => put::put_plain(Asked::Int(x), line),
         Whole::Out => print::out(),
         Whole::Bad => print::bad_line(),
     }
 }
 
-fn write_real(n: usize, work: &mut [u8]) {
+fn write_real(n: usize, work: &[u8]) {
     if n != 8 {
         print::bad_line();
         return;
     }
     match integers::read_unsigned(work, 0, 8) {
-        Natural::Nat(bits) => {
-            let w = reals::write_bits(bits, work, 0);
-            show(w, work);
-        }
+        Natural::Nat(bits) => put::put_plain(Asked::Bits(bits), work),
         Natural::Refused => print::bad_line(),
     }
 }
 
-fn write_bool(b: bool, work: &mut [u8]) {
-    let w = integers::write_octet(values::bool_octet(b), work, 0);
-    show(w, work);
-}
-
-fn write_tag_of(class: u64, constructed: u64, number: u64, work: &mut [u8]) {
+fn write_tag_of(class: u64, constructed: u64, number: u64, line: &[u8]) {
     if 3 < class {
         print::bad_line();
         return;
@@ -241,11 +224,15 @@ fn write_tag_of(class: u64, constructed: u64, number: u64, work: &mut [u8]) {
         print::bad_line();
         return;
     }
-    let w = tags::write_tag(class as u8, constructed == 1, number, work, 0);
-    show(w, work);
+    let asked = Asked::Tag {
+        class: class as u8,
+        constructed: constructed == 1,
+        number,
+    };
+    put::put_plain(asked, line);
 }
 
-fn write_tag(line: &[u8], from: usize, work: &mut [u8]) {
+fn write_tag(line: &[u8], from: usize) {
     let a = text::find(line, from, b' ');
     if line.len() <= a {
         print::bad_line();
@@ -268,15 +255,12 @@ fn write_tag(line: &[u8], from: usize, work: &mut [u8]) {
         print::bad_line();
         return;
     };
-    write_tag_of(class, constructed, number, work);
+    write_tag_of(class, constructed, number, line);
 }
 
-fn write_length(line: &[u8], from: usize, work: &mut [u8]) {
+fn write_length(line: &[u8], from: usize) {
     match text::number(line, from, line.len()) {
-        Decimal::Number(n) => {
-            let w = tags::write_length(n, work, 0);
-            show(w, work);
-        }
+        Decimal::Number(n) => put::put_plain(Asked::Length(n), line),
         Decimal::Bad => print::bad_line(),
     }
 }
@@ -303,10 +287,10 @@ fn numbers_of(line: &[u8], from: usize, numbers: &mut [u64]) -> usize {
     0
 }
 
-fn write_oid(line: &[u8], from: usize, work: &mut [u8], numbers: &mut [u64]) {
+fn write_oid(line: &[u8], from: usize, numbers: &mut [u64]) {
     if text::starts(line, b"write oid -") {
         if line.len() == 11 {
-            print::say(b"-\n");
+            put::put(Asked::Oid, line, &numbers[..0]);
             return;
         }
     }
@@ -319,8 +303,7 @@ fn write_oid(line: &[u8], from: usize, work: &mut [u8], numbers: &mut [u64]) {
         print::bad_line();
         return;
     }
-    let w = identifiers::write_oid(&numbers[..n], work, 0);
-    show(w, work);
+    put::put(Asked::Oid, line, &numbers[..n]);
 }
 
 pub(crate) fn answer(line: &[u8], work: &mut [u8], numbers: &mut [u64]) {
@@ -333,7 +316,7 @@ pub(crate) fn answer(line: &[u8], work: &mut [u8], numbers: &mut [u64]) {
         return;
     }
     if text::starts(line, b"write int ") {
-        write_int(line, 10, work);
+        write_int(line, 10);
         return;
     }
     if text::starts(line, b"write real ") {
@@ -346,26 +329,26 @@ pub(crate) fn answer(line: &[u8], work: &mut [u8], numbers: &mut [u64]) {
     }
     if text::starts(line, b"write bool true") {
         if line.len() == 15 {
-            write_bool(true, work);
+            put::put_plain(Asked::Bool(true), line);
             return;
         }
     }
     if text::starts(line, b"write bool false") {
         if line.len() == 16 {
-            write_bool(false, work);
+            put::put_plain(Asked::Bool(false), line);
             return;
         }
     }
     if text::starts(line, b"write tag ") {
-        write_tag(line, 10, work);
+        write_tag(line, 10);
         return;
     }
     if text::starts(line, b"write length ") {
-        write_length(line, 13, work);
+        write_length(line, 13);
         return;
     }
     if text::starts(line, b"write oid ") {
-        write_oid(line, 10, work, numbers);
+        write_oid(line, 10, numbers);
         return;
     }
     print::bad_line();

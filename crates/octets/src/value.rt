@@ -1,6 +1,8 @@
 // The requests on a value with its tag.
 use crate::ask;
 use crate::ask::Whole;
+use crate::put;
+use crate::put::Asked;
 use integers::Natural;
 use requests::print;
 use requests::text;
@@ -129,16 +131,13 @@ pub(crate) fn read(line: &[u8], from: usize, work: &mut [u8]) {
 }
 
 // A value written; texts and octets are the first of `src`.
-fn put(value: Value, src: &[u8]) {
-    let mut room = [0u8; 8192];
-    let out: &mut [u8] = &mut room;
-    let w = values::write_value(value, src, out, 0);
-    ask::show(w, out);
+fn put_value(value: Value, src: &[u8]) {
+    put::put_plain(Asked::Whole(value), src);
 }
 
 fn write_int(line: &[u8], from: usize) {
     match ask::integer(line, from) {
-        Whole::Int(x) => put(Value::Int(x), line),
+        Whole::Int(x) => put_value(Value::Int(x), line),
         Whole::Out => print::out(),
         Whole::Bad => print::bad_line(),
     }
@@ -150,7 +149,7 @@ fn put_bits(bits: u64, src: &[u8]) {
         print::out();
         return;
     }
-    put(Value::Real(f64::from_bits(bits)), src);
+    put_value(Value::Real(f64::from_bits(bits)), src);
 }
 
 fn write_real(line: &[u8], from: usize, work: &mut [u8]) {
@@ -174,22 +173,22 @@ fn write_text(is_text: bool, line: &[u8], from: usize, work: &mut [u8]) {
         return;
     };
     if is_text {
-        put(Value::Text { start: 0, len: n }, work);
+        put_value(Value::Text { start: 0, len: n }, work);
         return;
     }
-    put(Value::Octets { start: 0, len: n }, work);
+    put_value(Value::Octets { start: 0, len: n }, work);
 }
 
 fn write_bool(line: &[u8]) {
     if text::starts(line, b"write value bool true") {
         if line.len() == 21 {
-            put(Value::Bool(true), line);
+            put_value(Value::Bool(true), line);
             return;
         }
     }
     if text::starts(line, b"write value bool false") {
         if line.len() == 22 {
-            put(Value::Bool(false), line);
+            put_value(Value::Bool(false), line);
             return;
         }
     }

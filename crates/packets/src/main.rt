@@ -7,12 +7,49 @@
 //   message HEX      the frames of a message, joined
 //
 // HEX is pairs of digits of either case, `-` for no bytes. Any other line is answered with `bad line`.
+//
+// The writer is called in one byte less than it takes (which must be 46 and leave the output as it was, else `room` is
+// printed), and in exactly as many: that is printed.
 use framing_writer::Written;
 use requests::input;
 use requests::input::Input;
 use requests::print;
+use requests::room;
 use requests::text;
 use requests::text::Hex;
+
+// What a request asks to be written. The bytes of a frame and of a message are handed in beside it.
+enum Asked {
+    Frame,
+    Request,
+    Response,
+    Message,
+}
+
+fn write(asked: Asked, bytes: &[u8], out: &mut [u8]) -> Written {
+    match asked {
+        Asked::Frame => framing_writer::write_frame(bytes, out),
+        Asked::Request => framing_writer::write_request(out),
+        Asked::Response => framing_writer::write_response(out),
+        Asked::Message => framing_writer::write_message(bytes, out),
+    }
+}
+
+// Written to the first n bytes of an output.
+fn write_to(asked: Asked, bytes: &[u8], out: &mut [u8], n: usize) -> Written {
+    if n <= out.len() {
+        return write(asked, bytes, &mut out[..n]);
+    }
+    Written::Out
+}
+
+// Whether n bytes are too short: 46, and the output is as it was.
+fn is_short(asked: Asked, bytes: &[u8], out: &mut [u8], n: usize) -> bool {
+    match write_to(asked, bytes, out, n) {
+        Written::Done { length: _ } => false,
+        Written::Out => room::is_clear(out),
+    }
+}
 
 fn show(w: Written, out: &[u8]) {
     match w {
@@ -21,60 +58,60 @@ fn show(w: Written, out: &[u8]) {
     }
 }
 
-fn frame(body: &[u8], out: &mut [u8]) {
-    let w = framing_writer::write_frame(body, out);
+fn exactly(asked: Asked, bytes: &[u8], length: usize) {
+    let mut space = [0u8; 34850];
+    let out: &mut [u8] = &mut space;
+    if length == 0 {
+        print::say(b"room\n");
+        return;
+    }
+    if !is_short(asked, bytes, out, length - 1) {
+        print::say(b"room\n");
+        return;
+    }
+    let w = write_to(asked, bytes, out, length);
     show(w, out);
 }
 
-fn message(whole: &[u8], out: &mut [u8]) {
-    let w = framing_writer::write_message(whole, out);
-    show(w, out);
-}
-
-fn request(out: &mut [u8]) {
-    let w = framing_writer::write_request(out);
-    show(w, out);
-}
-
-fn response(out: &mut [u8]) {
-    let w = framing_writer::write_response(out);
-    show(w, out);
+// Prints what is written. 17 packets of a message, each a frame of at most 2,050 bytes, fit.
+fn put(asked: Asked, bytes: &[u8]) {
+    let mut space = [0u8; 34850];
+    let out: &mut [u8] = &mut space;
+    match write(asked, bytes, out) {
+        Written::Done { length } => exactly(asked, bytes, length),
+        Written::Out => print::out(),
+    }
 }
 
 // The frame or the message whose bytes a line has from a position on.
-fn write_bytes(is_frame: bool, line: &[u8], from: usize, work: &mut [u8], out: &mut [u8]) {
+fn put_bytes(asked: Asked, line: &[u8], from: usize, work: &mut [u8]) {
     let Hex::Octets(n) = text::octets(line, from, work) else {
         print::bad_line();
         return;
     };
-    if work.len() < n {
-        return;
+    if n <= work.len() {
+        put(asked, &work[..n]);
     }
-    if is_frame {
-        frame(&work[..n], out);
-        return;
-    }
-    message(&work[..n], out);
 }
 
-fn answer(line: &[u8], work: &mut [u8], out: &mut [u8]) {
+fn answer(line: &[u8], work: &mut [u8]) {
     if text::starts(line, b"frame ") {
-        write_bytes(true, line, 6, work, out);
+        put_bytes(Asked::Frame, line, 6, work);
         return;
     }
     if text::starts(line, b"message ") {
-        write_bytes(false, line, 8, work, out);
+        put_bytes(Asked::Message, line, 8, work);
         return;
     }
     if text::starts(line, b"request") {
         if line.len() == 7 {
-            request(out);
+            put(Asked::Request, line);
             return;
         }
     }
     if text::starts(line, b"response") {
         if line.len() == 8 {
-            response(out);
+            put(Asked::Response, line);
             return;
         }
     }
@@ -82,14 +119,14 @@ fn answer(line: &[u8], work: &mut [u8], out: &mut [u8]) {
 }
 
 // Answers the line that was found.
-fn finish(found: Input, line: &[u8], work: &mut [u8], out: &mut [u8]) {
+fn finish(found: Input, line: &[u8], work: &mut [u8]) {
     let n = found.len;
     if found.long {
         print::bad_line();
         return;
     }
     if n <= line.len() {
-        answer(&line[..n], work, out);
+        answer(&line[..n], work);
     }
 }
 
@@ -98,9 +135,6 @@ fn main() {
     let line: &mut [u8] = &mut space;
     let mut room = [0u8; 32768];
     let work: &mut [u8] = &mut room;
-    // 17 packets of a message, each a frame of at most 2,050 bytes, fit.
-    let mut written = [0u8; 34850];
-    let out: &mut [u8] = &mut written;
     let mut buffer = io::large_buffer();
     let block: &mut [u8] = &mut buffer;
     let mut found = input::start();
@@ -112,6 +146,6 @@ fn main() {
         if found.ended {
             break;
         }
-        finish(found, line, work, out);
+        finish(found, line, work);
     }
 }

@@ -20,9 +20,6 @@ answer-requires c κs = search needs
 same-length : tie.Need-same-length
 same-length c = search needs
 
-same-length-2 : tie.Need-same-length-2
-same-length-2 c = search needs
-
 returns-2 : tie.Need-returns-2
 returns-2 c = search needs
 
@@ -38,6 +35,5 @@ finish-spec =
     slice-aggregate-answer
     answer-requires
     same-length
-    same-length-2
     returns-2
     returns-3)

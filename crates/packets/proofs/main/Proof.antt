@@ -3,19 +3,16 @@ use Rattle.packets.proofs.main.Statement.{statement}
 use Rattle.packets.proofs.main.Tie as tie
 
 abbrev Inv-loop : tie.InvT-loop
-Inv-loop line₀ work₀ out₀ block₀ found₀ turns₀ line work out block found turns = Unit {0}
+Inv-loop line₀ work₀ block₀ found₀ turns₀ line work block found turns = Unit {0}
 
 abbrev μ-loop : tie.MeasureT-loop
-μ-loop line₀ work₀ out₀ block₀ found₀ turns₀ line work out block found turns = turns
+μ-loop line₀ work₀ block₀ found₀ turns₀ line work block found turns = turns
 
 slice-aggregate-line : tie.Need-slice-aggregate-line Inv-loop μ-loop
 slice-aggregate-line c = search needs
 
 slice-aggregate-work : tie.Need-slice-aggregate-work Inv-loop μ-loop
 slice-aggregate-work c = search needs
-
-slice-aggregate-out : tie.Need-slice-aggregate-out Inv-loop μ-loop
-slice-aggregate-out c = search needs
 
 large-buffer-requires : tie.Need-large-buffer-requires Inv-loop μ-loop
 large-buffer-requires c κs = search needs
@@ -58,7 +55,6 @@ main-spec =
     μ-loop
     slice-aggregate-line
     slice-aggregate-work
-    slice-aggregate-out
     large-buffer-requires
     slice-aggregate-block
     start-requires

@@ -24,11 +24,11 @@ returns c = search needs
 float-from-bits-t7 : tie.Need-float-from-bits-t7
 float-from-bits-t7 c = no-nan _ (omega arith)
 
-put-requires : tie.Need-put-requires
-put-requires c κs = search needs
+put-value-requires : tie.Need-put-value-requires
+put-value-requires c κs = search needs
 
 returns-2 : tie.Need-returns-2
 returns-2 c = search needs
 
 pub put-bits-spec : {M : Type 1} → statement M
-put-bits-spec = tie.close (tie.spec out-requires returns float-from-bits-t7 put-requires returns-2)
+put-bits-spec = tie.close (tie.spec out-requires returns float-from-bits-t7 put-value-requires returns-2)
