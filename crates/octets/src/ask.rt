@@ -33,8 +33,11 @@ pub(crate) fn show_int(x: i64) {
     }
 }
 
-fn read_int(s: &[u8]) {
-    match integers::read_int(s, 0, s.len()) {
+// Where in the message content octets and tags are read; what stands around them is left from earlier requests.
+const AT: usize = 3;
+
+fn read_int(s: &[u8], n: usize) {
+    match integers::read_int(s, AT, n) {
         Number::Int(x) => {
             show_int(x);
             print::end();
@@ -55,8 +58,8 @@ pub(crate) fn show_real(x: f64) {
     print::hex(out);
 }
 
-fn read_real(s: &[u8]) {
-    match reals::read_real(s, 0, s.len()) {
+fn read_real(s: &[u8], n: usize) {
+    match reals::read_real(s, AT, n) {
         Read::Real(x) => {
             show_real(x);
             print::end();
@@ -73,8 +76,8 @@ pub(crate) fn show_bool(b: bool) {
     }
 }
 
-fn read_bool(s: &[u8]) {
-    match values::read_bool(s, 0, s.len()) {
+fn read_bool(s: &[u8], n: usize) {
+    match values::read_bool(s, AT, n) {
         Flag::Is(b) => {
             show_bool(b);
             print::end();
@@ -90,8 +93,16 @@ fn show_length(length: Length) {
     }
 }
 
+// How far a position is from AT.
+fn from_there(next: usize) -> u64 {
+    if next < AT {
+        return 0;
+    }
+    word(next - AT)
+}
+
 fn read_tag(s: &[u8]) {
-    match tags::read_tag(s, 0, usize::MAX) {
+    match tags::read_tag(s, AT, usize::MAX) {
         Head::Tag {
             class,
             constructed,
@@ -109,19 +120,19 @@ fn read_tag(s: &[u8]) {
             print::say(b" ");
             show_length(length);
             print::say(b" ");
-            print::decimal(word(next));
+            print::decimal(from_there(next));
             print::say(b"\n");
         }
         Head::Refused { place: _ } => print::say(b"30\n"),
     }
 }
 
-fn show_numbers(s: &[u8]) {
-    let mut p: usize = 0;
-    while p < s.len() {
-        match identifiers::read_number(s, p, s.len()) {
+fn show_numbers(s: &[u8], end: usize) {
+    let mut p: usize = AT;
+    while p < end {
+        match identifiers::read_number(s, p, end) {
             Arc::Number { number, next } => {
-                if 0 < p {
+                if AT < p {
                     print::dot();
                 }
                 print::decimal(number);
@@ -138,13 +149,13 @@ fn show_numbers(s: &[u8]) {
     print::end();
 }
 
-fn read_oid(s: &[u8]) {
-    match identifiers::read_oid(s, 0, s.len()) {
-        Oid::Numbers(n) => {
-            if n == 0 {
+fn read_oid(s: &[u8], n: usize) {
+    match identifiers::read_oid(s, AT, n) {
+        Oid::Numbers(count) => {
+            if count == 0 {
                 print::say(b"-\n");
             } else {
-                show_numbers(s);
+                show_numbers(s, end_of(n));
             }
         }
         Oid::Range => print::say(b"range\n"),
@@ -356,20 +367,37 @@ pub(crate) fn answer(line: &[u8], work: &mut [u8], numbers: &mut [u64]) {
 
 // The octets of a line, read as a kind.
 fn read_as(kind: u8, line: &[u8], from: usize, work: &mut [u8]) {
-    let Hex::Octets(n) = text::octets(line, from, work) else {
-        print::bad_line();
+    if work.len() < AT {
         return;
-    };
-    read_kind(kind, &work[..n]);
+    }
+    match text::octets(line, from, &mut work[AT..]) {
+        Hex::Octets(n) => read_kind(kind, work, n),
+        Hex::Bad => print::bad_line(),
+    }
 }
 
-fn read_kind(kind: u8, s: &[u8]) {
+// Where n octets from AT on end.
+fn end_of(n: usize) -> usize {
+    if usize::MAX - AT < n {
+        return n;
+    }
+    AT + n
+}
+
+fn read_kind(kind: u8, s: &[u8], n: usize) {
     match kind {
-        0 => read_int(s),
-        1 => read_real(s),
-        2 => read_bool(s),
-        3 => read_tag(s),
-        _ => read_oid(s),
+        0 => read_int(s, n),
+        1 => read_real(s, n),
+        2 => read_bool(s, n),
+        3 => read_head(s, end_of(n)),
+        _ => read_oid(s, n),
+    }
+}
+
+// A tag's message ends with its octets.
+fn read_head(s: &[u8], end: usize) {
+    if end <= s.len() {
+        read_tag(&s[..end]);
     }
 }
 

@@ -10,8 +10,8 @@
 // KIND is int, real, text, bool or octets. Of int the content is decimal, of real the double's 64 bits in hexadecimal, of
 // bool true or false, of text and octets HEX. HEX is pairs of digits of either case, `-` for no octets.
 //
-// A writer is called at a position other than 0, in one octet less than it takes (which must be 46 and leave the output as
-// it was, else `room` is printed), and in exactly as many: that is printed.
+// Readers and writers are called at a position other than 0. A writer is called in one octet less than it takes (which
+// must be 46 and leave the output as it was, else `room` is printed), and in exactly as many: that is printed.
 mod ask;
 mod put;
 mod value;
