@@ -10,10 +10,10 @@ use std::sync::mpsc;
 use std::time::{Duration, Instant};
 
 const USAGE: &str = "usage: reference compare ROOT NAME... [--seed S] [--count N] [--seconds T] [--program PATH]
-NAME is frames, octets, tree or listing; the program is ROOT/target/bin/NAME unless --program names it
+NAME is frames, octets, packets, tree or listing; the program is ROOT/target/bin/NAME unless --program names it
 ";
 
-/// Requests in one run of `octets` or `tree`.
+/// Requests in one run of `octets`, `packets` or `tree`.
 const BATCH: usize = 1_000;
 /// The longest that one run of a program may take.
 const RUN_LIMIT: Duration = Duration::from_secs(20);
@@ -101,6 +101,12 @@ fn case(name: &str, seed: u64, left: u64) -> Option<Case> {
             let expected = tree_text::trees(&input);
             with(input, expected, gen::tree::requests::KINDS.into_iter().zip(kinds).collect(), size as u64, size)
         }
+        "packets" => {
+            let size = BATCH.min(left as usize);
+            let (input, kinds) = gen::packets::input(seed, size);
+            let expected = programs::packets(&input);
+            with(input, expected, gen::packets::KINDS.into_iter().zip(kinds).collect(), size as u64, size)
+        }
         "listing" => {
             let size = 1 + (seed % 12) as usize;
             let (input, kinds) = gen::tree::listing_input(seed, size);
@@ -172,12 +178,13 @@ fn answer_kind(name: &str, line: &str) -> String {
         ("frames", [_, number, ..]) => format!("event {number:0>2}"),
         ("listing", [_, number]) => format!("event {number:0>2}"),
         ("listing", [_, number, tree]) => format!("event {number:0>2} tree {tree}"),
-        (_, ["30"]) | (_, ["35"]) | (_, ["46"]) | (_, ["range"]) => words[0].to_string(),
+        (_, ["30"]) | (_, ["35"]) | (_, ["46"]) | (_, ["range"]) | (_, ["other"]) => words[0].to_string(),
+        ("octets", ["30" | "35", _]) => format!("{} at a place", words[0]),
         _ => "taken".to_string(),
     }
 }
 
-/// The whole input, or for `octets` its line, and both outputs.
+/// The whole input, or for requests its line, and both outputs.
 fn show_difference(name: &str, case: &Case, actual: &[u8]) {
     println!("{name}: difference");
     println!("reproduce: {}", case.again);
@@ -188,7 +195,7 @@ fn show_difference(name: &str, case: &Case, actual: &[u8]) {
     println!("first differing line of output: {}", at + 1);
     println!("  decoder: {}", shown(expected.get(at)));
     println!("  program: {}", shown(got.get(at)));
-    if name == "octets" {
+    if name == "octets" || name == "packets" {
         println!("  request: {}", shown(lines::lines(&case.input).get(at)));
         return;
     }

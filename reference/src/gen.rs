@@ -3,6 +3,7 @@
 pub mod desk;
 pub mod frames;
 pub mod octets;
+pub mod packets;
 pub mod tree;
 
 /// splitmix64.

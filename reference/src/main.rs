@@ -5,8 +5,8 @@ use std::io::{Read, Write};
 use std::process::exit;
 
 const USAGE: &str = "usage:
-  reference frames|octets|listing|tree|rewrite|desk|sheet < input
-  reference generate frames|octets|tree|listing|messages|desk SEED COUNT
+  reference frames|octets|packets|listing|tree|rewrite|desk|sheet < input
+  reference generate frames|octets|packets|tree|listing|messages|desk SEED COUNT
   reference generate sheet SEED DAMAGES
   reference store [--check] [ROOT]
   reference compare ROOT NAME... [--seed S] [--count N] [--seconds T] [--program PATH]
@@ -19,6 +19,7 @@ fn main() {
         ["frames"] => print(programs::frames(&input()).as_bytes()),
         ["listing"] => print(listing::listing(&input()).as_bytes()),
         ["octets"] => print(programs::octets(&input()).as_bytes()),
+        ["packets"] => print(programs::packets(&input()).as_bytes()),
         ["tree"] => print(tree_text::trees(&input()).as_bytes()),
         ["rewrite"] => print(programs::trees(&input()).as_bytes()),
         ["desk"] => print(programs::desks(&input()).as_bytes()),
@@ -29,6 +30,7 @@ fn main() {
             match *kind {
                 "frames" => print(&gen::frames::input(seed, count).0),
                 "octets" => print(&gen::octets::input(seed, count).0),
+                "packets" => print(&gen::packets::input(seed, count).0),
                 "listing" => print(&gen::tree::listing_input(seed, count).0),
                 "tree" => print(&gen::tree::requests::input(seed, count).0),
                 "messages" => print(&gen::tree::messages(seed, count)),

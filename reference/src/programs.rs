@@ -5,7 +5,7 @@ use crate::desk::{self, Desk, Figures};
 use crate::framing::{self, Session, STORE_LENGTH};
 use crate::lines::{hex, hex_line, lines};
 use crate::tree::{self, Answer, TABLE_MAX};
-use crate::values::{self, Oid};
+use crate::values::{self, Oid, Value};
 use crate::{sheet, tree_writer};
 
 /// Program `frames`: each line is one chunk, offered until it is consumed.
@@ -35,14 +35,41 @@ pub fn frames(input: &[u8]) -> String {
     out
 }
 
-/// Program `octets`: one request a line, one answer a line.
-pub fn octets(input: &[u8]) -> String {
+/// The longest lines of requests that the programs take.
+pub const OCTETS_LINE_MAX: usize = 16_384;
+pub const PACKETS_LINE_MAX: usize = 65_536;
+
+/// One request a line, one answer a line.
+fn answers(input: &[u8], longest: usize, answer: fn(&[u8]) -> Option<String>) -> String {
     let mut out = String::new();
     for line in lines(input) {
-        out += &answer(line).unwrap_or("bad line".to_string());
+        let answered = if line.len() > longest { None } else { answer(line) };
+        out += &answered.unwrap_or("bad line".to_string());
         out += "\n";
     }
     out
+}
+
+/// Program `octets`.
+pub fn octets(input: &[u8]) -> String {
+    answers(input, OCTETS_LINE_MAX, answer)
+}
+
+/// Program `packets`.
+pub fn packets(input: &[u8]) -> String {
+    answers(input, PACKETS_LINE_MAX, packet_answer)
+}
+
+/// What the frame writer writes for one request; None for a bad line.
+pub fn packet_answer(line: &[u8]) -> Option<String> {
+    let words: Vec<&[u8]> = line.split(|&byte| byte == b' ').collect();
+    match words.as_slice() {
+        [b"frame", word] => Some(written(framing::write_frame(&octets_of(word)?))),
+        [b"request"] => Some(hex(&framing::write_keep_alive(false))),
+        [b"response"] => Some(hex(&framing::write_keep_alive(true))),
+        [b"message", word] => Some(written(framing::write_message(&octets_of(word)?).map(|frames| frames.concat()))),
+        _ => None,
+    }
 }
 
 /// The answer to one request; None for a bad line. Words stand one space apart.
@@ -56,6 +83,15 @@ pub fn answer(line: &[u8]) -> Option<String> {
         [b"read", b"bool", word] => Some(shown(values::read_bool(&octets_of(word)?).map(|value| value.to_string()))),
         [b"read", b"tag", word] => Some(read_tag(&octets_of(word)?)),
         [b"read", b"oid", word] => Some(read_oid(&octets_of(word)?)),
+        [b"read", b"value", at, bound, word] => {
+            let at = natural(at)? as usize;
+            let limit = if *bound == b"-" { None } else { Some(natural(bound)? as usize) };
+            Some(read_value(&octets_of(word)?, at, limit))
+        }
+        [b"write", b"value", kind, word] => Some(match value(kind, word)? {
+            Some(value) => written(values::write_value(&value)),
+            None => values::OUT.to_string(),
+        }),
         [b"write", b"int", word] => Some(match integer(word)? {
             Some(value) => hex(&values::write_int(value)),
             None => "46".to_string(),
@@ -88,6 +124,40 @@ fn read_tag(octets: &[u8]) -> String {
             format!("{} {} {} {} {}", tag.class, u8::from(tag.constructed), tag.number, length, tag.content)
         }
     }
+}
+
+/// `KIND CONTENT NEXT`, `other` or `NUMBER PLACE`.
+fn read_value(message: &[u8], at: usize, limit: Option<usize>) -> String {
+    match values::read_value(message, at, limit) {
+        Err(refusal) => format!("{} {}", refusal.number, refusal.place),
+        Ok(None) => "other".to_string(),
+        Ok(Some((value, next))) => match value {
+            Value::Integer(value) => format!("int {value} {next}"),
+            Value::Real(value) => format!("real {:016X} {next}", value.to_bits()),
+            Value::Text(text) => format!("text {} {next}", hex(&text)),
+            Value::Boolean(value) => format!("bool {value} {next}"),
+            Value::Octets(octets) => format!("octets {} {next}", hex(&octets)),
+        },
+    }
+}
+
+/// A value as `write value` spells it. None: malformed; Some(None): an integer that no value holds.
+fn value(kind: &[u8], word: &[u8]) -> Option<Option<Value>> {
+    Some(Some(match kind {
+        b"int" => match integer(word)? {
+            Some(value) => Value::Integer(value),
+            None => return Some(None),
+        },
+        b"real" => Value::Real(f64::from_bits(bits(word)?)),
+        b"text" => Value::Text(octets_of(word)?),
+        b"bool" => match word {
+            b"true" => Value::Boolean(true),
+            b"false" => Value::Boolean(false),
+            _ => return None,
+        },
+        b"octets" => Value::Octets(octets_of(word)?),
+        _ => return None,
+    }))
 }
 
 fn read_oid(octets: &[u8]) -> String {
@@ -319,6 +389,29 @@ mod tests {
             ("write oid -", "-"),
             ("write oid 2147483648", "46"),
             ("write oid 1..2", "bad line"),
+            ("read value 0 - 020105", "int 5 3"),
+            ("read value 2 5 0000010105", "bool true 5"),
+            ("read value 2 5 000001020505", "30 2"),
+            ("read value 2 - 0000010205", "30 5"),
+            ("read value 2 3 000001", "30 2"),
+            ("read value 2 4 000001", "30 3"),
+            ("read value 2 - 000001", "30 3"),
+            ("read value 0 - 090105", "35 0"),
+            ("read value 0 - 0900", "real 0000000000000000 2"),
+            ("read value 0 - 0C0341624300", "text 416243 5"),
+            ("read value 0 - 0400", "octets - 2"),
+            ("read value 0 - 3080", "other"),
+            ("read value - - 3080", "bad line"),
+            ("read value 0 -1 3080", "bad line"),
+            ("write value int -129", "0202FF7F"),
+            ("write value int 9223372036854775808", "46"),
+            ("write value real 0000000000000000", "0900"),
+            ("write value real 7FF8000000000000", "46"),
+            ("write value text -", "0C00"),
+            ("write value octets 0a", "04010A"),
+            ("write value bool true", "0101FF"),
+            ("write value bool 1", "bad line"),
+            ("write value absent -", "bad line"),
             ("", "bad line"),
             ("read  int 01", "bad line"),
             ("read int 01 ", "bad line"),
@@ -328,5 +421,14 @@ mod tests {
             assert_eq!(octets(line.as_bytes()), if line.is_empty() { String::new() } else { format!("{expected}\n") }, "{line}");
         }
         assert_eq!(octets(b"\nread int 01"), "bad line\n1\n");
+    }
+
+    #[test]
+    fn packets_of_the_papers() {
+        assert_eq!(packets(b"frame FF00f901\n"), "FEFDDF00FDD9019583FF\n"); // P8
+        assert_eq!(packets(b"request\nresponse"), "FE000E010194E4FF\nFE000E0201FDDCCEFF\n"); // P9, the listing sample
+        assert_eq!(packets(b"frame -"), "FE0000FF\n");
+        assert!(packets(b"message -").starts_with("FE000E0001E001021402"));
+        assert_eq!(packets(b"\nrequest \nmessage\nframe 0\nresponse 00"), "bad line\n".repeat(5));
     }
 }

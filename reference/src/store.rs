@@ -10,6 +10,7 @@ fn files() -> Vec<(&'static str, Vec<u8>)> {
     let tree = gen::tree::requests::stored();
     let stream = gateway::stream();
     let (passed, counts) = gateway::gateway(&stream);
+    let packets = gen::packets::stored();
     vec![
         ("crates/frames/stdout", programs::frames(&frames).into_bytes()),
         ("crates/frames/stdin", frames),
@@ -20,6 +21,8 @@ fn files() -> Vec<(&'static str, Vec<u8>)> {
         ("examples/gateway/check/passed.hex", gateway::hex_lines(&passed)),
         ("examples/gateway/check/counts", counts.into_bytes()),
         ("examples/gateway/check/stream.hex", gateway::hex_lines(&stream)),
+        ("crates/packets/stdout", programs::packets(&packets).into_bytes()),
+        ("crates/packets/stdin", packets),
     ]
 }
 

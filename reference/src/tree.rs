@@ -2,8 +2,8 @@
 
 use crate::framing::{MESSAGE_MAX, SETUP};
 use crate::values::{
-    read_bool, read_int, read_oid, read_real, read_tag, refusal, Oid, Refusal, Tag, Value, APPLICATION, BER, CONTEXT, DEPTH,
-    FORM, GLOW, NAME, NUMBER, NUMBER_MAX, PATH, REAL, ROOM, UNIVERSAL,
+    self, read_bool, read_int, read_oid, read_tag, refusal, Oid, Refusal, Tag, Value, APPLICATION, BER, CONTEXT, DEPTH, FORM,
+    GLOW, NAME, NUMBER, NUMBER_MAX, PATH, ROOM, UNIVERSAL,
 };
 
 /// "At most 64 containers, outer tags among them, open at once."
@@ -28,12 +28,8 @@ pub const MATRIX: u64 = 13;
 pub const CONNECTION: u64 = 16;
 pub const QUALIFIED_MATRIX: u64 = 17;
 
-// Universal numbers (001, "The tag format").
-pub const BOOLEAN_TAG: u64 = 1;
-pub const INTEGER_TAG: u64 = 2;
-pub const OCTETS_TAG: u64 = 4;
-pub const REAL_TAG: u64 = 9;
-pub const TEXT_TAG: u64 = 12;
+// Universal numbers (001, "The tag format"), beside those of the values.
+pub use crate::values::{BOOLEAN_TAG, INTEGER_TAG, OCTETS_TAG, REAL_TAG, TEXT_TAG};
 pub const OID_TAG: u64 = 13;
 pub const SEQUENCE_TAG: u64 = 16;
 pub const SET_TAG: u64 = 17;
@@ -260,13 +256,8 @@ impl<'a> Reader<'a> {
         Ok(())
     }
 
-    /// The octets of a primitive and the byte after them; "a value is checked once whole".
     fn octets(&self, tag: &Tag) -> Result<(&'a [u8], usize), Refusal> {
-        let end = tag.content as u64 + tag.length.unwrap();
-        if end > self.message.len() as u64 {
-            return refusal(BER, self.message.len());
-        }
-        Ok((&self.message[tag.content..end as usize], end as usize))
+        values::content(self.message, tag)
     }
 
     /// "a context tag we don't list is passed over, its value checked for tags, lengths and depth alone"
@@ -625,21 +616,10 @@ impl<'a> Reader<'a> {
     /// "A value is an integer, a real, a text, a boolean or octets."
     fn value(&self, member: &Tag, inside: Container) -> Result<(Value, usize), Refusal> {
         let tag = self.inner(member, inside)?;
-        if tag.class != UNIVERSAL || tag.constructed {
-            return refusal(GLOW, tag.place);
+        match values::value_of(self.message, &tag)? {
+            Some(value) => Ok(value),
+            None => refusal(GLOW, tag.place),
         }
-        if ![INTEGER_TAG, REAL_TAG, TEXT_TAG, BOOLEAN_TAG, OCTETS_TAG].contains(&tag.number) {
-            return refusal(GLOW, tag.place);
-        }
-        let (octets, after) = self.octets(&tag)?;
-        let value = match tag.number {
-            INTEGER_TAG => Value::Integer(read_int(octets).or(refusal(BER, tag.place))?),
-            REAL_TAG => Value::Real(read_real(octets).or(refusal(REAL, tag.place))?),
-            TEXT_TAG => Value::Text(octets.to_vec()),
-            BOOLEAN_TAG => Value::Boolean(read_bool(octets).or(refusal(BER, tag.place))?),
-            _ => Value::Octets(octets.to_vec()),
-        };
-        Ok((value, after))
     }
 }
 

@@ -2,9 +2,7 @@
 
 use crate::framing::MESSAGE_MAX;
 use crate::tree::{self, *};
-use crate::values::{
-    write_bool, write_identifier, write_int, write_length, write_oid, write_real, Value, APPLICATION, CONTEXT, OUT, UNIVERSAL,
-};
+use crate::values::{tagged, write_bool, write_int, write_oid, write_value, APPLICATION, CONTEXT, OUT, UNIVERSAL};
 
 type Octets = Result<Vec<u8>, u8>;
 
@@ -31,13 +29,6 @@ pub fn write(tree: &Tree) -> Octets {
         Answer::Tree(read) if read == *tree => Ok(message),
         _ => Err(OUT),
     }
-}
-
-fn tagged(class: u8, constructed: bool, number: u64, content: &[u8]) -> Octets {
-    let mut out = write_identifier(class, constructed, number)?;
-    out.extend(write_length(content.len() as u64)?);
-    out.extend_from_slice(content);
-    Ok(out)
 }
 
 fn container(class: u8, number: u64, content: &[u8]) -> Octets {
@@ -83,7 +74,7 @@ fn element(tree: &Tree, place: usize) -> Octets {
         }
         Body::StreamEntry { identifier, value } => {
             let mut out = member(0, integer(*identifier))?;
-            out.extend(member(1, any(value))?);
+            out.extend(member(1, write_value(value))?);
             container(APPLICATION, STREAM_ENTRY, &out)
         }
     }
@@ -113,9 +104,9 @@ fn parameter_contents(contents: &ParameterContents) -> Octets {
     let mut out = Vec::new();
     out.extend(optional(0, &contents.identifier, |text| primitive(TEXT_TAG, text))?);
     out.extend(optional(1, &contents.description, |text| primitive(TEXT_TAG, text))?);
-    out.extend(optional(2, &contents.value, any)?);
-    out.extend(optional(3, &contents.minimum, any)?);
-    out.extend(optional(4, &contents.maximum, any)?);
+    out.extend(optional(2, &contents.value, write_value)?);
+    out.extend(optional(3, &contents.minimum, write_value)?);
+    out.extend(optional(4, &contents.maximum, write_value)?);
     out.extend(optional(5, &contents.access, |value| integer(*value))?);
     out.extend(optional(8, &contents.factor, |value| integer(*value))?);
     out.extend(optional(9, &contents.online, |value| boolean(*value))?);
@@ -159,19 +150,10 @@ fn boolean(value: bool) -> Octets {
     primitive(BOOLEAN_TAG, &write_bool(value))
 }
 
-fn any(value: &Value) -> Octets {
-    match value {
-        Value::Integer(value) => integer(*value),
-        Value::Real(value) => primitive(REAL_TAG, &write_real(*value)?),
-        Value::Text(text) => primitive(TEXT_TAG, text),
-        Value::Boolean(value) => boolean(*value),
-        Value::Octets(octets) => primitive(OCTETS_TAG, octets),
-    }
-}
-
 #[cfg(test)]
 mod tests {
     use super::*;
+    use crate::values::Value;
 
     fn command(number: i64) -> Body {
         Body::Command { number, mask: None }

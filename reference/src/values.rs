@@ -22,6 +22,13 @@ pub const UNIVERSAL: u8 = 0;
 pub const APPLICATION: u8 = 1;
 pub const CONTEXT: u8 = 2;
 
+// Universal numbers of the values (001, "The tag format").
+pub const BOOLEAN_TAG: u64 = 1;
+pub const INTEGER_TAG: u64 = 2;
+pub const OCTETS_TAG: u64 = 4;
+pub const REAL_TAG: u64 = 9;
+pub const TEXT_TAG: u64 = 12;
+
 /// A refusal, with its place in the message from 0 (document 02, request 09).
 #[derive(Clone, Copy, PartialEq, Eq, Debug)]
 pub struct Refusal {
@@ -50,13 +57,11 @@ pub struct Tag {
 /// One octet of the tag that starts at `tag`. The end of the nearest definite container cuts it off
 /// (the tag's place, "even at the message's end"), or else the bytes run out (the message length).
 fn own_octet(message: &[u8], at: usize, tag: usize, limit: Option<usize>) -> Result<u8, Refusal> {
-    if limit == Some(at) {
-        return refusal(BER, tag);
+    match limit {
+        Some(limit) if limit <= message.len() && at >= limit => refusal(BER, tag),
+        _ if at >= message.len() => refusal(BER, message.len()),
+        _ => Ok(message[at]),
     }
-    if at >= message.len() {
-        return refusal(BER, message.len());
-    }
-    Ok(message[at])
 }
 
 /// The tag and length at `place`. `limit` is the end of the nearest definite container around it.
@@ -374,6 +379,63 @@ impl PartialEq for Value {
     }
 }
 
+/// The octets of a primitive and the byte after them; "a value is checked once whole", so if bytes run out: the
+/// message length.
+pub fn content<'a>(message: &'a [u8], tag: &Tag) -> Result<(&'a [u8], usize), Refusal> {
+    let end = tag.content as u64 + tag.length.unwrap();
+    if end > message.len() as u64 {
+        return refusal(BER, message.len());
+    }
+    Ok((&message[tag.content..end as usize], end as usize))
+}
+
+/// The value of a tag and the byte after it; None for a tag that is no value's. A refusal of the value's octets is at
+/// the tag.
+pub fn value_of(message: &[u8], tag: &Tag) -> Result<Option<(Value, usize)>, Refusal> {
+    if tag.class != UNIVERSAL || tag.constructed {
+        return Ok(None);
+    }
+    if ![INTEGER_TAG, REAL_TAG, TEXT_TAG, BOOLEAN_TAG, OCTETS_TAG].contains(&tag.number) {
+        return Ok(None);
+    }
+    let (octets, after) = content(message, tag)?;
+    let value = match tag.number {
+        INTEGER_TAG => read_int(octets).map(Value::Integer),
+        REAL_TAG => read_real(octets).map(Value::Real),
+        TEXT_TAG => Ok(Value::Text(octets.to_vec())),
+        BOOLEAN_TAG => read_bool(octets).map(Value::Boolean),
+        _ => Ok(Value::Octets(octets.to_vec())),
+    };
+    match value {
+        Ok(value) => Ok(Some((value, after))),
+        Err(number) => refusal(number, tag.place),
+    }
+}
+
+/// The value whose tag stands at `place`, in a container that ends at `limit`.
+pub fn read_value(message: &[u8], place: usize, limit: Option<usize>) -> Result<Option<(Value, usize)>, Refusal> {
+    value_of(message, &read_tag(message, place, limit)?)
+}
+
+/// Tag, length and content, each in its shortest form.
+pub fn tagged(class: u8, constructed: bool, number: u64, content: &[u8]) -> Result<Vec<u8>, u8> {
+    let mut out = write_identifier(class, constructed, number)?;
+    out.extend(write_length(content.len() as u64)?);
+    out.extend_from_slice(content);
+    Ok(out)
+}
+
+pub fn write_value(value: &Value) -> Result<Vec<u8>, u8> {
+    let primitive = |number, content: &[u8]| tagged(UNIVERSAL, false, number, content);
+    match value {
+        Value::Integer(value) => primitive(INTEGER_TAG, &write_int(*value)),
+        Value::Real(value) => primitive(REAL_TAG, &write_real(*value)?),
+        Value::Text(text) => primitive(TEXT_TAG, text),
+        Value::Boolean(value) => primitive(BOOLEAN_TAG, &write_bool(*value)),
+        Value::Octets(octets) => primitive(OCTETS_TAG, octets),
+    }
+}
+
 #[cfg(test)]
 mod tests {
     use super::*;
@@ -432,8 +494,25 @@ mod tests {
         assert_eq!(read_tag(&[0x22, 0x84, 0xFF, 0xFF, 0xFF, 0xFF], 0, None).unwrap().length, Some(LENGTH_MAX));
         assert_eq!(read_tag(&[0, 0, 0x22, 0x84, 0, 0], 2, Some(6)), refusal(BER, 2));
         assert_eq!(read_tag(&[0, 0, 0x22, 0x84, 0, 0], 2, Some(7)), refusal(BER, 6)); // R7
-        assert_eq!(read_tag(&[0, 0, 0x22, 0x01, 0], 2, Some(4)), refusal(BER, 2));
-        // passes its container's end
+        assert_eq!(read_tag(&[0, 0, 0x22, 0x01, 0], 2, Some(4)), refusal(BER, 2)); // passes its container's end
+        assert_eq!(read_tag(&[0, 0, 0x22], 3, Some(3)), refusal(BER, 3)); // both ends at once: the tag
+        assert_eq!(read_tag(&[0, 0, 0x22], 9, Some(3)), refusal(BER, 9));
+        assert_eq!(read_tag(&[0, 0, 0x22], 9, Some(4)), refusal(BER, 3));
+        assert_eq!(read_tag(&[0, 0, 0x22], 9, None), refusal(BER, 3));
+    }
+
+    #[test]
+    fn values_in_containers() {
+        let read = |message: &[u8], limit| read_value(message, 1, limit);
+        assert_eq!(read(&[0, 0x01, 0x01, 0x05], None), Ok(Some((Value::Boolean(true), 4))));
+        assert_eq!(read(&[0, 0x01, 0x02, 0x05, 0x05], None), refusal(BER, 1));
+        assert_eq!(read(&[0, 0x01, 0x02, 0x05], None), refusal(BER, 4));
+        assert_eq!(read(&[0, 0x01, 0x02, 0x05], Some(4)), refusal(BER, 1));
+        assert_eq!(read(&[0, 0x09, 0x01, 0x05], Some(4)), refusal(REAL, 1));
+        assert_eq!(read(&[0, 0x0D, 0x01, 0x05], Some(4)), Ok(None));
+        assert_eq!(read(&[0, 0x0D, 0x01, 0x05], Some(3)), refusal(BER, 1));
+        assert_eq!(write_value(&Value::Text(vec![0x41; 128])).unwrap()[..4], [0x0C, 0x81, 0x80, 0x41]);
+        assert_eq!(write_value(&Value::Real(-0.0)), Err(OUT));
     }
 
     #[test]

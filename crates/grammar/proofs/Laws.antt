@@ -17,7 +17,7 @@ use Rattle.integers.proofs.Radix.{lt-or-le}
 use Rattle.values.specs.declared.Value.the-variants.{Int, Text}
 use Rattle.values.specs.Value.{contentAt}
 use Rattle.identifiers.specs.Identifier.{Arcs, bad, over, numbers, push, pass, arcs, oidAt, judged as oidOf}
-use Rattle.identifiers.specs.Laws.{oid-within}
+use Rattle.identifiers.proofs.Laws.{oid-within}
 use Rattle.entries.specs.declared.Cell.{Cell}
 use Rattle.entries.specs.Cell.{cellOf, wordOf, numbersCell}
 use Rattle.grammar.specs.declared.Leaf.{Leaf}

@@ -1,14 +1,16 @@
 // The requests.
-use crate::print;
-use crate::text;
-use crate::text::Decimal;
-use crate::text::Hex;
+use crate::put;
+use crate::put::Asked;
+use crate::value;
 use identifiers::Arc;
 use identifiers::Oid;
 use integers::Natural;
 use integers::Number;
-use integers::Wrote;
 use reals::Read;
+use requests::print;
+use requests::text;
+use requests::text::Decimal;
+use requests::text::Hex;
 use tags::Head;
 use tags::Length;
 use values::Flag;
@@ -21,48 +23,64 @@ fn wide(x: u8) -> u64 {
     x as u64
 }
 
-fn read_int(s: &[u8]) {
-    match integers::read_int(s, 0, s.len()) {
+pub(crate) fn show_int(x: i64) {
+    let m = integers::magnitude(x);
+    if x < 0 {
+        print::say(b"-");
+        print::decimal(m + 1);
+    } else {
+        print::decimal(m);
+    }
+}
+
+// Where in the message content octets and tags are read; what stands around them is left from earlier requests.
+const AT: usize = 3;
+
+fn read_int(s: &[u8], n: usize) {
+    match integers::read_int(s, AT, n) {
         Number::Int(x) => {
-            let m = integers::magnitude(x);
-            if x < 0 {
-                print::say(b"-");
-                print::decimal(m + 1);
-            } else {
-                print::decimal(m);
-            }
-            print::say(b"\n");
+            show_int(x);
+            print::end();
         }
         Number::Refused => print::say(b"30\n"),
     }
 }
 
-fn show_real(x: f64) {
+// A double's 64 bits. No NaN is read.
+pub(crate) fn show_real(x: f64) {
     if x != x {
-        print::say(b"35\n");
+        print::say(b"nan");
         return;
     }
     let mut room = [0u8; 8];
     let out: &mut [u8] = &mut room;
     integers::write_octets(f64::to_bits(x), 8, out, 0);
-    print::octets(out);
+    print::hex(out);
 }
 
-fn read_real(s: &[u8]) {
-    match reals::read_real(s, 0, s.len()) {
-        Read::Real(x) => show_real(x),
+fn read_real(s: &[u8], n: usize) {
+    match reals::read_real(s, AT, n) {
+        Read::Real(x) => {
+            show_real(x);
+            print::end();
+        }
         Read::Refused => print::say(b"35\n"),
     }
 }
 
-fn read_bool(s: &[u8]) {
-    match values::read_bool(s, 0, s.len()) {
+pub(crate) fn show_bool(b: bool) {
+    if b {
+        print::say(b"true");
+    } else {
+        print::say(b"false");
+    }
+}
+
+fn read_bool(s: &[u8], n: usize) {
+    match values::read_bool(s, AT, n) {
         Flag::Is(b) => {
-            if b {
-                print::say(b"true\n");
-            } else {
-                print::say(b"false\n");
-            }
+            show_bool(b);
+            print::end();
         }
         Flag::Refused => print::say(b"30\n"),
     }
@@ -75,8 +93,16 @@ fn show_length(length: Length) {
     }
 }
 
+// How far a position is from AT.
+fn from_there(next: usize) -> u64 {
+    if next < AT {
+        return 0;
+    }
+    word(next - AT)
+}
+
 fn read_tag(s: &[u8]) {
-    match tags::read_tag(s, 0, usize::MAX) {
+    match tags::read_tag(s, AT, usize::MAX) {
         Head::Tag {
             class,
             constructed,
@@ -94,19 +120,19 @@ fn read_tag(s: &[u8]) {
             print::say(b" ");
             show_length(length);
             print::say(b" ");
-            print::decimal(word(next));
+            print::decimal(from_there(next));
             print::say(b"\n");
         }
         Head::Refused { place: _ } => print::say(b"30\n"),
     }
 }
 
-fn show_numbers(s: &[u8]) {
-    let mut p: usize = 0;
-    while p < s.len() {
-        match identifiers::read_number(s, p, s.len()) {
+fn show_numbers(s: &[u8], end: usize) {
+    let mut p: usize = AT;
+    while p < end {
+        match identifiers::read_number(s, p, end) {
             Arc::Number { number, next } => {
-                if 0 < p {
+                if AT < p {
                     print::dot();
                 }
                 print::decimal(number);
@@ -123,13 +149,13 @@ fn show_numbers(s: &[u8]) {
     print::end();
 }
 
-fn read_oid(s: &[u8]) {
-    match identifiers::read_oid(s, 0, s.len()) {
-        Oid::Numbers(n) => {
-            if n == 0 {
+fn read_oid(s: &[u8], n: usize) {
+    match identifiers::read_oid(s, AT, n) {
+        Oid::Numbers(count) => {
+            if count == 0 {
                 print::say(b"-\n");
             } else {
-                show_numbers(s);
+                show_numbers(s, end_of(n));
             }
         }
         Oid::Range => print::say(b"range\n"),
@@ -137,11 +163,11 @@ fn read_oid(s: &[u8]) {
     }
 }
 
-fn show(w: Wrote, out: &[u8]) {
-    match w {
-        Wrote::Next(e) => print::written(out, e),
-        Wrote::Out => print::out(),
-    }
+// An integer of a request, one that does not fit 64 bits, or no integer.
+pub enum Whole {
+    Int(i64),
+    Out,
+    Bad,
 }
 
 // -m, for m from 1 to 2^63.
@@ -155,57 +181,52 @@ fn negated(m: u64) -> i64 {
     -1 - ((m - 1) as i64)
 }
 
-fn write_magnitude(negative: bool, m: u64, work: &mut [u8]) {
+fn whole_of(negative: bool, m: u64) -> Whole {
     if negative {
         if 0x8000_0000_0000_0000 < m {
-            print::out();
-            return;
+            return Whole::Out;
         }
-        let w = integers::write_int(negated(m), work, 0);
-        show(w, work);
-        return;
+        return Whole::Int(negated(m));
     }
     if 0x7FFF_FFFF_FFFF_FFFF < m {
-        print::out();
-        return;
+        return Whole::Out;
     }
-    let w = integers::write_int(m as i64, work, 0);
-    show(w, work);
+    Whole::Int(m as i64)
 }
 
-fn write_int(line: &[u8], from: usize, work: &mut [u8]) {
+// The integer that a line has from a position on.
+pub(crate) fn integer(line: &[u8], from: usize) -> Whole {
     if line.len() <= from {
-        print::bad_line();
-        return;
+        return Whole::Bad;
     }
     let negative = line[from] == b'-';
     let start = if negative { from + 1 } else { from };
     match text::number(line, start, line.len()) {
-        Decimal::Number(m) => write_magnitude(negative, m, work),
-        Decimal::Bad => print::bad_line(),
+        Decimal::Number(m) => whole_of(negative, m),
+        Decimal::Bad => Whole::Bad,
     }
 }
 
-fn write_real(n: usize, work: &mut [u8]) {
+fn write_int(line: &[u8], from: usize) {
+    match integer(line, from) {
+        Whole::Int(x) => put::put_plain(Asked::Int(x), line),
+        Whole::Out => print::out(),
+        Whole::Bad => print::bad_line(),
+    }
+}
+
+fn write_real(n: usize, work: &[u8]) {
     if n != 8 {
         print::bad_line();
         return;
     }
     match integers::read_unsigned(work, 0, 8) {
-        Natural::Nat(bits) => {
-            let w = reals::write_bits(bits, work, 0);
-            show(w, work);
-        }
+        Natural::Nat(bits) => put::put_plain(Asked::Bits(bits), work),
         Natural::Refused => print::bad_line(),
     }
 }
 
-fn write_bool(b: bool, work: &mut [u8]) {
-    let w = integers::write_octet(values::bool_octet(b), work, 0);
-    show(w, work);
-}
-
-fn write_tag_of(class: u64, constructed: u64, number: u64, work: &mut [u8]) {
+fn write_tag_of(class: u64, constructed: u64, number: u64, line: &[u8]) {
     if 3 < class {
         print::bad_line();
         return;
@@ -214,11 +235,15 @@ fn write_tag_of(class: u64, constructed: u64, number: u64, work: &mut [u8]) {
         print::bad_line();
         return;
     }
-    let w = tags::write_tag(class as u8, constructed == 1, number, work, 0);
-    show(w, work);
+    let asked = Asked::Tag {
+        class: class as u8,
+        constructed: constructed == 1,
+        number,
+    };
+    put::put_plain(asked, line);
 }
 
-fn write_tag(line: &[u8], from: usize, work: &mut [u8]) {
+fn write_tag(line: &[u8], from: usize) {
     let a = text::find(line, from, b' ');
     if line.len() <= a {
         print::bad_line();
@@ -241,15 +266,12 @@ fn write_tag(line: &[u8], from: usize, work: &mut [u8]) {
         print::bad_line();
         return;
     };
-    write_tag_of(class, constructed, number, work);
+    write_tag_of(class, constructed, number, line);
 }
 
-fn write_length(line: &[u8], from: usize, work: &mut [u8]) {
+fn write_length(line: &[u8], from: usize) {
     match text::number(line, from, line.len()) {
-        Decimal::Number(n) => {
-            let w = tags::write_length(n, work, 0);
-            show(w, work);
-        }
+        Decimal::Number(n) => put::put_plain(Asked::Length(n), line),
         Decimal::Bad => print::bad_line(),
     }
 }
@@ -276,10 +298,10 @@ fn numbers_of(line: &[u8], from: usize, numbers: &mut [u64]) -> usize {
     0
 }
 
-fn write_oid(line: &[u8], from: usize, work: &mut [u8], numbers: &mut [u64]) {
+fn write_oid(line: &[u8], from: usize, numbers: &mut [u64]) {
     if text::starts(line, b"write oid -") {
         if line.len() == 11 {
-            print::say(b"-\n");
+            put::put(Asked::Oid, line, &numbers[..0]);
             return;
         }
     }
@@ -292,8 +314,7 @@ fn write_oid(line: &[u8], from: usize, work: &mut [u8], numbers: &mut [u64]) {
         print::bad_line();
         return;
     }
-    let w = identifiers::write_oid(&numbers[..n], work, 0);
-    show(w, work);
+    put::put(Asked::Oid, line, &numbers[..n]);
 }
 
 pub(crate) fn answer(line: &[u8], work: &mut [u8], numbers: &mut [u64]) {
@@ -301,8 +322,12 @@ pub(crate) fn answer(line: &[u8], work: &mut [u8], numbers: &mut [u64]) {
         answer_read(line, work);
         return;
     }
+    if text::starts(line, b"write value ") {
+        value::write(line, work);
+        return;
+    }
     if text::starts(line, b"write int ") {
-        write_int(line, 10, work);
+        write_int(line, 10);
         return;
     }
     if text::starts(line, b"write real ") {
@@ -315,26 +340,26 @@ pub(crate) fn answer(line: &[u8], work: &mut [u8], numbers: &mut [u64]) {
     }
     if text::starts(line, b"write bool true") {
         if line.len() == 15 {
-            write_bool(true, work);
+            put::put_plain(Asked::Bool(true), line);
             return;
         }
     }
     if text::starts(line, b"write bool false") {
         if line.len() == 16 {
-            write_bool(false, work);
+            put::put_plain(Asked::Bool(false), line);
             return;
         }
     }
     if text::starts(line, b"write tag ") {
-        write_tag(line, 10, work);
+        write_tag(line, 10);
         return;
     }
     if text::starts(line, b"write length ") {
-        write_length(line, 13, work);
+        write_length(line, 13);
         return;
     }
     if text::starts(line, b"write oid ") {
-        write_oid(line, 10, work, numbers);
+        write_oid(line, 10, numbers);
         return;
     }
     print::bad_line();
@@ -342,24 +367,45 @@ pub(crate) fn answer(line: &[u8], work: &mut [u8], numbers: &mut [u64]) {
 
 // The octets of a line, read as a kind.
 fn read_as(kind: u8, line: &[u8], from: usize, work: &mut [u8]) {
-    let Hex::Octets(n) = text::octets(line, from, work) else {
-        print::bad_line();
+    if work.len() < AT {
         return;
-    };
-    read_kind(kind, &work[..n]);
+    }
+    match text::octets(line, from, &mut work[AT..]) {
+        Hex::Octets(n) => read_kind(kind, work, n),
+        Hex::Bad => print::bad_line(),
+    }
 }
 
-fn read_kind(kind: u8, s: &[u8]) {
+// Where n octets from AT on end.
+fn end_of(n: usize) -> usize {
+    if usize::MAX - AT < n {
+        return n;
+    }
+    AT + n
+}
+
+fn read_kind(kind: u8, s: &[u8], n: usize) {
     match kind {
-        0 => read_int(s),
-        1 => read_real(s),
-        2 => read_bool(s),
-        3 => read_tag(s),
-        _ => read_oid(s),
+        0 => read_int(s, n),
+        1 => read_real(s, n),
+        2 => read_bool(s, n),
+        3 => read_head(s, end_of(n)),
+        _ => read_oid(s, n),
+    }
+}
+
+// A tag's message ends with its octets.
+fn read_head(s: &[u8], end: usize) {
+    if end <= s.len() {
+        read_tag(&s[..end]);
     }
 }
 
 fn answer_read(line: &[u8], work: &mut [u8]) {
+    if text::starts(line, b"read value ") {
+        value::read(line, 11, work);
+        return;
+    }
     if text::starts(line, b"read int ") {
         read_as(0, line, 9, work);
         return;

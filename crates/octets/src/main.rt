@@ -1,81 +1,35 @@
-// One request a line on standard input, one answer a line: EmBER octets read and written.
+// octets: one request a line on standard input, one answer a line: EmBER octets read and written.
+//
+//   read int|real|bool|tag|oid HEX      content octets (of `tag`, a tag's and a length's own) as the kind; or 30, 35, range
+//   read value AT BOUND HEX             the value whose tag stands at AT of the message HEX, in a container that ends at
+//                                       BOUND (`-`: none): KIND CONTENT NEXT, with NEXT the position after it; `other` for
+//                                       a tag that is no value's; or the refusal's NUMBER PLACE
+//   write int|real|bool|tag|length|oid CONTENT    the octets; or 46
+//   write value KIND CONTENT            the value with its tag and length; or 46
+//
+// KIND is int, real, text, bool or octets. Of int the content is decimal, of real the double's 64 bits in hexadecimal, of
+// bool true or false, of text and octets HEX. HEX is pairs of digits of either case, `-` for no octets.
+//
+// Readers and writers are called at a position other than 0. A writer is called in one octet less than it takes (which
+// must be 46 and leave the output as it was, else `room` is printed), and in exactly as many: that is printed.
 mod ask;
-mod print;
-mod text;
+mod put;
+mod value;
 
-use libc::STDIN_FILENO;
+use requests::input;
+use requests::input::Input;
+use requests::print;
 
-// The line so far: how many bytes, and whether there were more than it can hold.
-struct Line {
-    len: usize,
-    long: bool,
-}
-
-// What a byte does to the line.
-fn put(st: Line, b: u8, line: &mut [u8]) -> Line {
-    let n = st.len;
-    if n < line.len() {
-        line[n] = b;
-        return Line {
-            len: n + 1,
-            long: st.long,
-        };
-    }
-    Line { len: n, long: true }
-}
-
-// Answers the line.
-fn finish(st: Line, line: &[u8], work: &mut [u8], numbers: &mut [u64]) {
-    let n = st.len;
-    if st.long {
+// Answers the line that was found.
+fn finish(found: Input, line: &[u8], work: &mut [u8], numbers: &mut [u64]) {
+    let n = found.len;
+    if found.long {
         print::bad_line();
         return;
     }
     if n <= line.len() {
         ask::answer(&line[..n], work, numbers);
     }
-}
-
-// Takes a byte: 0A ends the line.
-fn take(st: Line, b: u8, line: &mut [u8], work: &mut [u8], numbers: &mut [u64]) -> Line {
-    if b == b'\n' {
-        finish(st, line, work, numbers);
-        return Line {
-            len: 0,
-            long: false,
-        };
-    }
-    put(st, b, line)
-}
-
-// Takes the first n bytes of a chunk.
-fn feed(
-    start: Line,
-    chunk: &[u8],
-    n: usize,
-    line: &mut [u8],
-    work: &mut [u8],
-    numbers: &mut [u64],
-) -> Line {
-    let mut st = start;
-    let mut i: usize = 0;
-    while i < n {
-        if chunk.len() <= i {
-            return st;
-        }
-        st = take(st, chunk[i], line, work, numbers);
-        i = i + 1;
-    }
-    st
-}
-
-// A line that the input's end ends.
-fn last(st: Line, line: &[u8], work: &mut [u8], numbers: &mut [u64]) {
-    let n = st.len;
-    if n == 0 {
-        return;
-    }
-    finish(st, line, work, numbers);
 }
 
 fn main() {
@@ -86,20 +40,16 @@ fn main() {
     let mut cells = [0u64; 8192];
     let numbers: &mut [u64] = &mut cells;
     let mut buffer = io::large_buffer();
-    let chunk: &mut [u8] = &mut buffer;
-    let mut st = Line {
-        len: 0,
-        long: false,
-    };
+    let block: &mut [u8] = &mut buffer;
+    let mut found = input::start();
     // A proved loop has to end: it counts down from a number that no run uses up.
     let mut turns = u64::MAX;
     while turns > 0 {
         turns = turns - 1;
-        let got = io::count(libc::read(STDIN_FILENO, chunk), chunk);
-        if got == 0 {
+        found = input::next(found, block, line);
+        if found.ended {
             break;
         }
-        st = feed(st, chunk, got, line, work, numbers);
+        finish(found, line, work, numbers);
     }
-    last(st, line, work, numbers);
 }

@@ -2,9 +2,12 @@
 
 use super::Random;
 use crate::lines::{digits, hex};
-use crate::values::{from_double, write_identifier, write_int, write_length, write_oid, LENGTH_MAX, NUMBER_MAX, TAG_NUMBER_MAX};
+use crate::programs::OCTETS_LINE_MAX;
+use crate::values::{
+    from_double, write_identifier, write_int, write_length, write_oid, write_real, LENGTH_MAX, NUMBER_MAX, TAG_NUMBER_MAX,
+};
 
-pub const KINDS: [&str; 12] = [
+pub const KINDS: [&str; 14] = [
     "read int",
     "read real",
     "read bool",
@@ -17,11 +20,13 @@ pub const KINDS: [&str; 12] = [
     "write length",
     "write oid",
     "malformed",
+    "read value",
+    "write value",
 ];
 
 /// One request and the index of its kind.
 pub fn request(random: &mut Random) -> (Vec<u8>, usize) {
-    let kind = match random.below(24) {
+    let kind = match random.below(32) {
         0..=3 => 0,
         4..=8 => 1,
         9 => 2,
@@ -32,7 +37,9 @@ pub fn request(random: &mut Random) -> (Vec<u8>, usize) {
         20 => 8,
         21 => 9,
         22 => 10,
-        _ => random.pick(&[7, 11, 11]),
+        23 => random.pick(&[7, 11, 11]),
+        24..=29 => 12,
+        _ => 13,
     };
     (of_kind(random, kind), kind)
 }
@@ -57,7 +64,9 @@ fn of_kind(random: &mut Random, kind: usize) -> Vec<u8> {
             let words: Vec<String> = (0..count).map(|_| natural(random, NUMBER_MAX)).collect();
             format!("write oid {}", if count == 0 { "-".to_string() } else { words.join(".") }).into_bytes()
         }
-        _ => malformed(random),
+        11 => malformed(random),
+        12 => read_value(random),
+        _ => write_value(random),
     }
 }
 
@@ -333,11 +342,98 @@ fn oid_octets(random: &mut Random) -> Vec<u8> {
     octets
 }
 
+/// Tag, length and content octets of some value, right or nearly so.
+fn value_octets(random: &mut Random) -> Vec<u8> {
+    let number = random.pick(&[1, 2, 4, 9, 12, 1, 2, 4, 9, 12, 1, 2, 4, 9, 12, 0, 3, 5, 13, 16, 30]);
+    let first = if random.one_in(8) { random.byte() & 0xE0 } else { 0 };
+    let mut octets =
+        if random.one_in(4) { long_identifier(first, number, random.range(1, 4)) } else { vec![first | number as u8] };
+    let content = match number {
+        1 => bool_octets(random),
+        2 => int_octets(random),
+        9 => real_octets(random),
+        _ => {
+            let length = if random.one_in(20) { random.range(120, 300) } else { random.below(12) };
+            random.bytes(length)
+        }
+    };
+    match random.below(6) {
+        0 => {
+            // A length in more octets than needed.
+            let length = random.range(2, 4);
+            octets.push(0x80 + length as u8);
+            octets.extend(&(content.len() as u32).to_be_bytes()[4 - length..]);
+        }
+        1 if random.one_in(3) => octets.push(random.pick(&[0x80, 0x85, 0xFF, 0x84, 0x81, 0x7F])),
+        _ => octets.extend(write_length(content.len() as u64).unwrap()),
+    }
+    octets.extend(content);
+    octets
+}
+
+/// A value somewhere in a message; the bound near one of the places that matter.
+fn read_value(random: &mut Random) -> Vec<u8> {
+    let length = random.pick(&[0, 0, 1, 2, 3, 7, 20]);
+    let mut message = random.bytes(length);
+    let value = value_octets(random);
+    message.extend(&value);
+    let end = message.len();
+    if random.one_in(3) {
+        let length = random.range(1, 9);
+        message.extend(random.bytes(length));
+    }
+    if random.one_in(3) {
+        message.truncate(length + random.below(message.len() - length + 1));
+    }
+    let near = |random: &mut Random, place: usize| (place + random.below(5)).saturating_sub(2).to_string();
+    let at = match random.below(12) {
+        0 => near(random, length),
+        1 => near(random, message.len()),
+        2 if random.one_in(4) => natural(random, u64::MAX - 2),
+        _ => length.to_string(),
+    };
+    let bound = match random.below(8) {
+        0 | 1 => "-".to_string(),
+        2 => near(random, end),
+        3 => near(random, message.len()),
+        4 => message.len().to_string(),
+        5 => (length + random.below(value.len() + 1)).to_string(),
+        6 if random.one_in(4) => natural(random, u64::MAX - 2),
+        _ => end.to_string(),
+    };
+    let mut word = hex(&message);
+    if random.one_in(4) {
+        word = word.to_lowercase();
+    }
+    format!("read value {at} {bound} {word}").into_bytes()
+}
+
+fn write_value(random: &mut Random) -> Vec<u8> {
+    let text = |random: &mut Random| {
+        let length = match random.below(12) {
+            0 => 0,
+            1 => random.range(125, 130),
+            2 => random.range(250, 260),
+            3 if random.one_in(10) => random.range(300, 8_000),
+            _ => random.below(40),
+        };
+        hex(&random.bytes(length))
+    };
+    match random.below(8) {
+        0 | 1 => format!("write value int {}", int_word(random)),
+        2 | 3 => format!("write value real {:016X}", double_bits(random)),
+        4 => format!("write value bool {}", random.pick(&["true", "false"])),
+        5 | 6 => format!("write value text {}", text(random)),
+        _ => format!("write value octets {}", text(random).to_lowercase()),
+    }
+    .into_bytes()
+}
+
 fn malformed(random: &mut Random) -> Vec<u8> {
     if random.one_in(3) {
         return random.pick(MALFORMED).as_bytes().to_vec();
     }
-    let kind = random.below(11);
+    let kind = random.pick(&[0, 1, 2, 3, 4, 5, 6, 7, 8, 9, 10, 12, 13]);
     let mut line = of_kind(random, kind);
     let at = random.below(line.len() + 1);
     match random.below(6) {
@@ -441,6 +537,66 @@ pub const MALFORMED: &[&str] = &[
     "write oid 2147483648.",
     "bad line",
     "end",
+    "read value",
+    "read value ",
+    "read value 0",
+    "read value 0 ",
+    "read value 0 -",
+    "read value 0 - ",
+    "read value 0 0500",
+    "read value 0500",
+    "read value  0 - 0500",
+    "read value 0  - 0500",
+    "read value 0 -  0500",
+    "read value 0 - 0500 ",
+    "read value 0 - 0500 00",
+    "read value 0 - 050",
+    "read value 0 - 0x00",
+    "read value 0 -- 0500",
+    "read value 0 -1 0500",
+    "read value 0 1- 0500",
+    "read value 0 x 0500",
+    "read value - - 0500",
+    "read value -1 - 0500",
+    "read value x - 0500",
+    "read Value 0 - 0500",
+    "read values 0 - 0500",
+    "write value",
+    "write value ",
+    "write value int",
+    "write value int ",
+    "write value int x",
+    "write value int -",
+    "write value int 1 ",
+    "write value int 1 2",
+    "write value  int 1",
+    "write value Int 1",
+    "write value integer 1",
+    "write value real",
+    "write value real -",
+    "write value real 3FF000000000000",
+    "write value real 3FF000000000000000",
+    "write value real 3FF000000000000000 ",
+    "write value bool",
+    "write value bool ",
+    "write value bool 1",
+    "write value bool FF",
+    "write value bool true ",
+    "write value bool falsee",
+    "write value bool TRUE",
+    "write value text",
+    "write value text ",
+    "write value text 4",
+    "write value text abc",
+    "write value text --",
+    "write value text 41 42",
+    "write value octets",
+    "write value octets 0G",
+    "write value absent",
+    "write value absent -",
+    "write value oid 1.2",
+    "write value 5",
+    "write value tag 0 0 0",
 ];
 
 /// 001's integer table and the edges of every rule.
@@ -471,6 +627,7 @@ pub fn edges() -> Vec<String> {
     lines.push("write bool false".to_string());
     edges_of_tags(&mut lines);
     edges_of_oids(&mut lines);
+    edges_of_values(&mut lines);
     lines.extend(MALFORMED.iter().map(|line| line.to_string()));
     lines
 }
@@ -885,6 +1042,127 @@ fn edges_of_oids(lines: &mut Vec<String>) {
     }
 }
 
+/// Values with their tags: each with every bound near it and at every place where the message may end, at the
+/// message's start and further in.
+fn edges_of_values(lines: &mut Vec<String>) {
+    for value in [
+        "0101FF",
+        "010100",
+        "010102",
+        "0100",
+        "0102FFFF",
+        "01020000",
+        "0181017F",
+        "1F0101FF",
+        "02020102",
+        "0200",
+        "02020001",
+        "0209010203040506070809",
+        "1F82020105",
+        "0C03414243",
+        "0C00",
+        "0C840000000241C3",
+        "0403000102",
+        "0400",
+        "0900",
+        "090140",
+        "090141",
+        "090142",
+        "0903800001",
+        "0903830001",
+        "1F890982800001",
+        "0D020105",
+        "1F80010105",
+        "1F81808080000101",
+        "1FFFFFFF7F0105",
+        "0280",
+        "0285000000000105",
+        "02FF0105",
+        "21030101FF",
+        "300302010530",
+        "3080020105",
+        "308302010520",
+        "418101FF",
+        "A103020105",
+        "E20105",
+        "0000",
+    ] {
+        let octets = value.len() / 2;
+        for before in [0, 3] {
+            let around = "FF".repeat(before);
+            for kept in 0..=octets {
+                let message = format!("{around}{}", &value[..2 * kept]);
+                let message = if message.is_empty() { "-" } else { &message };
+                for bound in before.saturating_sub(1)..=before + octets + 1 {
+                    // At the start, only the bounds at the message's end and one past the value.
+                    if before > 0 || bound == kept || bound == octets + 1 {
+                        lines.push(format!("read value {before} {bound} {message}"));
+                    }
+                }
+                lines.push(format!("read value {before} - {message}"));
+            }
+            lines.push(format!("read value {before} {} {around}{value}0105", before + octets));
+            lines.push(format!("read value {before} - {around}{value}0105"));
+        }
+    }
+    // Places and bounds far outside, and past 64 bits.
+    let top = ["18446744073709551614", "18446744073709551615", "18446744073709551616", "99999999999999999999999"];
+    for bound in ["-", "0", "1", "2", "3", "4", "5"].iter().chain(&top) {
+        for at in ["0", "1", "2", "3", "4", "0003"].iter().chain(&top) {
+            lines.push(format!("read value {at} {bound} 0101FF"));
+        }
+        lines.push(format!("read value 1 {bound} FF02"));
+        lines.push(format!("read value 0 {bound} 0C84FFFFFFFF"));
+        lines.push(format!("read value 0 {bound} -"));
+    }
+    for value in ["0", "-0", "1", "-1", "127", "128", "-128", "-129", "255", "256", "-32768", "32768", "008"] {
+        lines.push(format!("write value int {value}"));
+    }
+    for power in [31, 39, 55, 62, 63, 64] {
+        for offset in [-1, 0, 1] {
+            lines.push(format!("write value int {}", (1i128 << power) + offset));
+            lines.push(format!("write value int {}", -(1i128 << power) + offset));
+        }
+    }
+    for bits in [
+        0u64,
+        1,
+        0x000F_FFFF_FFFF_FFFF,
+        0x0010_0000_0000_0000,
+        0x3FF0_0000_0000_0000,
+        0x3FF8_0000_0000_0000,
+        0x3FB9_9999_9999_999A,
+        0x4340_0000_0000_0001,
+        0x47F0_0000_0000_0000,
+        0x7FEF_FFFF_FFFF_FFFF,
+        0x7FF0_0000_0000_0000,
+        0x7FF0_0000_0000_0001,
+        0x7FF8_0000_0000_0000,
+        0x7FFF_FFFF_FFFF_FFFF,
+    ] {
+        for bits in [bits, bits | 1 << 63] {
+            lines.push(format!("write value real {bits:016X}"));
+            if let Ok(octets) = write_real(f64::from_bits(bits)) {
+                lines.push(format!("read value 2 - 610009{:02X}{}", octets.len(), digits(&octets)));
+            }
+        }
+    }
+    lines.push("write value bool true".to_string());
+    lines.push("write value bool false".to_string());
+    for length in [0, 1, 2, 126, 127, 128, 129, 255, 256, 257, 1_024, 8_182] {
+        let octets: Vec<u8> = (0..length).map(|at: u32| (at * 7 % 251) as u8).collect();
+        lines.push(format!("write value text {}", hex(&octets)));
+        lines.push(format!("write value octets {}", hex(&octets).to_lowercase()));
+        lines.push(format!(
+            "read value 0 - {}",
+            digits(&[&[0x0C, 0x82, (length >> 8) as u8, length as u8], &octets[..]].concat())
+        ));
+    }
+    // The longest line, and one longer.
+    lines.push(format!("read bool {}", "00".repeat((OCTETS_LINE_MAX - 10) / 2)));
+    lines.push(format!("read int {}", "00".repeat((OCTETS_LINE_MAX - 8) / 2)));
+}
+
 /// An input of the program `octets`, and how many requests of each kind it has.
 pub fn input(seed: u64, count: usize) -> (Vec<u8>, [usize; KINDS.len()]) {
     let mut random = Random::new(seed);
@@ -934,12 +1212,12 @@ mod tests {
         let input = stored();
         let output = octets(&input);
         assert_eq!(output.lines().count(), lines(&input).len());
-        for kind in &KINDS[..11] {
+        for kind in KINDS.iter().filter(|kind| **kind != "malformed") {
             let mut refused = 0;
             let mut taken = 0;
             for (line, answer) in lines(&input).iter().zip(output.lines()) {
                 if line.starts_with(kind.as_bytes()) && answer != "bad line" {
-                    if ["30", "35", "46"].contains(&answer) {
+                    if ["30", "35", "46"].contains(&answer.split(' ').next().unwrap()) {
                         refused += 1;
                     } else {
                         taken += 1;

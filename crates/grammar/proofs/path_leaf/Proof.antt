@@ -2,7 +2,7 @@ use Rattle.grammar.proofs.Laws.{tally, tally-start, tally-next, tally-p
 use Rattle.grammar.specs.Leaf.{pathLeaf}
 use Rattle.grammar.specs.declared.Leaf.the-variants.{Kept}
 use Rattle.entries.specs.declared.Cell.{Cell}
-use Rattle.identifiers.specs.Laws.{arcs-done, arcs-number, arcs-over, arcs-bad}
+use Rattle.identifiers.proofs.Laws.{arcs-done, arcs-number, arcs-over, arcs-bad}
 use Rattle.identifiers.specs.Identifier.{ArcWithin, arcsFrom}
 use mathlib.Core.Path.{_≡_, sym, ap, subst, _∙_}
 use Prim.Native.Nat.{ℕ, _≤_, _+_, _-_}

@@ -1,3 +1,4 @@
+use native.Mathlib.Omega.{arith}
 use Rattle.values.proofs.Laws.{listed-1, listed-2, listed-4, listed-9, listed-12, listed-none}
 use Rattle.values.proofs.listed.Statement.{statement}
 use Rattle.values.proofs.listed.Tie as tie
@@ -15,7 +16,7 @@ returns-4 : tie.Need-returns-4
 returns-4 c = listed-9 _ (c .if4 .taken)
 
 returns-5 : tie.Need-returns-5
-returns-5 c = listed-12 _ (c .if5 .taken)
+returns-5 c = listed-12 _ (omega arith)
 
 returns-6 : tie.Need-returns-6
 returns-6 c = listed-none _ (c .before .before .before .before .if1 .left) (c .before .before .before .if2 .left) (c .before .before .if3 .left) (c .before .if4 .left) (c .if5 .left)

@@ -1,17 +1,16 @@
-use Prim.Native.Nat.{_≤_, _-_}
+use Prim.Native.Nat.{_-_}
 use mathlib.Core.Path.{subst}
 use native.Mathlib.Omega.{arith}
-use lib.ListN.{length}
 use Rattle.identifiers.specs.Identifier.{ArcWithin}
 use borrow.Author.Needs.{needs}
 use Rattle.octets.proofs.ask.show_numbers.Statement.{statement}
 use Rattle.octets.proofs.ask.show_numbers.Tie as tie
 
 abbrev Inv-loop : tie.InvT-loop
-Inv-loop s p₀ p = p ≤ length s
+Inv-loop s end p₀ p = Unit {0}
 
 abbrev μ-loop : tie.MeasureT-loop
-μ-loop s p₀ p = length s - p
+μ-loop s end p₀ p = end - p
 
 loop-holds : tie.Need-loop-holds Inv-loop μ-loop
 loop-holds c = search needs
@@ -29,10 +28,12 @@ decimal-requires : tie.Need-decimal-requires Inv-loop μ-loop
 decimal-requires c κs = search needs
 
 loop-less : tie.Need-loop-less Inv-loop μ-loop
-loop-less c = let w = subst (ArcWithin _ _) (c .before .before .before .number .given .1) (c .before .before .before .before .before .read-number .ensures .1) in omega arith
+loop-less c =
+    let told = c .before .before .before .before .before .read-number .ensures .1 in
+    let w = subst (ArcWithin _ _) (c .before .before .before .number .given .1) told in omega arith
 
 loop-again : tie.Need-loop-again Inv-loop μ-loop
-loop-again c = let w = subst (ArcWithin _ _) (c .before .before .before .number .given .1) (c .before .before .before .before .before .read-number .ensures .1) in omega arith
+loop-again c = search needs
 
 enum-told : tie.Need-enum-told Inv-loop μ-loop
 enum-told c = search needs

@@ -29,11 +29,11 @@ slice-aggregate-out c = search needs
 float-to-bits-write-octets : tie.Need-float-to-bits-write-octets
 float-to-bits-write-octets c = no-nan _ (c .before .if1 .left)
 
-write-octets-requires : tie.Need-write-octets-requires
-write-octets-requires c κs = search needs
+write-hex-requires : tie.Need-write-octets-requires
+write-hex-requires c κs = search needs
 
-octets-requires : tie.Need-octets-requires
-octets-requires c κs = search needs
+hex-requires : tie.Need-hex-requires
+hex-requires c κs = search needs
 
 returns-2 : tie.Need-returns-2
 returns-2 c = search needs
@@ -47,6 +47,6 @@ show-real-spec =
     returns
     slice-aggregate-out
     float-to-bits-write-octets
-    write-octets-requires
-    octets-requires
+    write-hex-requires
+    hex-requires
     returns-2)

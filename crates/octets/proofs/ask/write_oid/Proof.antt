@@ -11,11 +11,17 @@ slice-aggregate-starts c = search needs
 starts-requires : tie.Need-starts-requires
 starts-requires c κs = search needs
 
-slice-aggregate-say : tie.Need-slice-aggregate-say
-slice-aggregate-say c = search needs
+slice-reshare-prefix-put : tie.Need-slice-reshare-prefix-put
+slice-reshare-prefix-put c = search needs
 
-say-requires : tie.Need-say-requires
-say-requires c κs = search needs
+slice-aggregate-put : tie.Need-slice-aggregate-put
+slice-aggregate-put c = search needs
+
+put-requires : tie.Need-put-requires
+put-requires c κs = search needs
+
+same-length : tie.Need-same-length
+same-length c = search needs
 
 returns : tie.Need-returns
 returns c = search needs
@@ -26,8 +32,8 @@ numbers-of-requires c κs = search needs
 bad-line-requires : tie.Need-bad-line-requires
 bad-line-requires c κs = search needs
 
-same-length : tie.Need-same-length
-same-length c = search needs
+same-length-2 : tie.Need-same-length-2
+same-length-2 c = search needs
 
 returns-2 : tie.Need-returns-2
 returns-2 c = search needs
@@ -35,26 +41,20 @@ returns-2 c = search needs
 bad-line-requires-2 : tie.Need-bad-line-requires-2
 bad-line-requires-2 c κs = search needs
 
-same-length-2 : tie.Need-same-length-2
-same-length-2 c = search needs
+same-length-3 : tie.Need-same-length-3
+same-length-3 c = search needs
 
 returns-3 : tie.Need-returns-3
 returns-3 c = search needs
 
-slice-reshare-prefix-write-oid : tie.Need-slice-reshare-prefix-write-oid
-slice-reshare-prefix-write-oid c = search needs
+slice-reshare-prefix-put-2 : tie.Need-slice-reshare-prefix-put-2
+slice-reshare-prefix-put-2 c = search needs
 
-slice-aggregate-write-oid : tie.Need-slice-aggregate-write-oid
-slice-aggregate-write-oid c = let h = c in sym (length-take-le _ _ (omega arith))
+slice-aggregate-put-2 : tie.Need-slice-aggregate-put-2
+slice-aggregate-put-2 c = sym (length-take-le _ _ (omega arith))
 
-write-oid-requires : tie.Need-write-oid-requires
-write-oid-requires c κs = search needs
-
-show-requires : tie.Need-show-requires
-show-requires c κs = search needs
-
-same-length-3 : tie.Need-same-length-3
-same-length-3 c = search needs
+put-requires-2 : tie.Need-put-requires-2
+put-requires-2 c κs = search needs
 
 same-length-4 : tie.Need-same-length-4
 same-length-4 c = search needs
@@ -68,20 +68,20 @@ write-oid-spec =
     (tie.spec
     slice-aggregate-starts
     starts-requires
-    slice-aggregate-say
-    say-requires
+    slice-reshare-prefix-put
+    slice-aggregate-put
+    put-requires
+    same-length
     returns
     numbers-of-requires
     bad-line-requires
-    same-length
+    same-length-2
     returns-2
     bad-line-requires-2
-    same-length-2
-    returns-3
-    slice-reshare-prefix-write-oid
-    slice-aggregate-write-oid
-    write-oid-requires
-    show-requires
     same-length-3
+    returns-3
+    slice-reshare-prefix-put-2
+    slice-aggregate-put-2
+    put-requires-2
     same-length-4
     returns-4)
