@@ -12,8 +12,8 @@ mod tests;
 use std::hint::black_box;
 use std::time::Instant;
 
-/// Kind, parent's place plus 1, then 16 cells of two words: the type of the value (0: absent) and its content.
-pub type Row = [u64; 34];
+/// Kind, parent's place plus 1, then 16 cells of three words: the type of the value (0: absent) and two of content.
+pub type Row = [u64; 50];
 
 /// The longest table and message.
 pub const ENTRIES: usize = 256;
@@ -65,10 +65,10 @@ pub fn main(rounds: usize) {
     }
     println!();
     for (name, message) in inputs::all() {
-        let mut table = vec![[0; 34]; ENTRIES];
+        let mut table = vec![[0; 50]; ENTRIES];
         let expected = plain::read(&message, &mut table);
         for (reader, read) in &mut readers {
-            let mut other = vec![[0; 34]; ENTRIES];
+            let mut other = vec![[0; 50]; ENTRIES];
             assert_eq!(read(&message, &mut other), expected, "{name}: {reader} answers otherwise");
             assert!(other == table, "{name}: {reader} fills otherwise");
         }

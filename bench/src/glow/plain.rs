@@ -37,7 +37,7 @@ const CLASS: u8 = 0xC0;
 /// What takes the entries.
 trait Sink {
     fn entry(&mut self, place: usize, kind: u64, parent: u64);
-    fn cell(&mut self, place: usize, cell: usize, tag: u64, content: u64);
+    fn cell(&mut self, place: usize, cell: usize, words: [u64; 3]);
 }
 
 /// Keeps nothing: for judging a message.
@@ -45,7 +45,7 @@ struct Nothing;
 
 impl Sink for Nothing {
     fn entry(&mut self, _: usize, _: u64, _: u64) {}
-    fn cell(&mut self, _: usize, _: usize, _: u64, _: u64) {}
+    fn cell(&mut self, _: usize, _: usize, _: [u64; 3]) {}
 }
 
 /// Rows as far as there are.
@@ -54,16 +54,15 @@ struct Rows<'t>(&'t mut [Row]);
 impl Sink for Rows<'_> {
     fn entry(&mut self, place: usize, kind: u64, parent: u64) {
         if let Some(row) = self.0.get_mut(place) {
-            *row = [0; 34];
+            *row = [0; 50];
             row[0] = kind;
             row[1] = parent;
         }
     }
 
-    fn cell(&mut self, place: usize, cell: usize, tag: u64, content: u64) {
+    fn cell(&mut self, place: usize, cell: usize, words: [u64; 3]) {
         if let Some(row) = self.0.get_mut(place) {
-            row[2 + 2 * cell] = tag;
-            row[3 + 2 * cell] = content;
+            row[2 + 3 * cell..5 + 3 * cell].copy_from_slice(&words);
         }
     }
 }
@@ -94,7 +93,7 @@ pub struct Once {
 
 impl Once {
     pub fn new() -> Once {
-        Once { rows: vec![[0; 34]; ENTRIES] }
+        Once { rows: vec![[0; 50]; ENTRIES] }
     }
 
     pub fn read(&mut self, message: &[u8], table: &mut [Row]) -> Answer {
@@ -619,19 +618,19 @@ impl<'m, S: Sink> Walk<'m, S> {
     fn member(&mut self, member: &Head, around: Open, room: u32, rule: Rule, place: usize, cell: usize) -> Result<usize, No> {
         let inside = member.open(around);
         let (value, _) = self.value(member, inside, room)?;
-        let (tag, content) = self.judged(&value, rule)?;
-        self.sink.cell(place, cell, tag, content);
+        let words = self.judged(&value, rule)?;
+        self.sink.cell(place, cell, words);
         self.close(value.start + value.length, inside, room)
     }
 
     // ---- Values ----
 
     fn number(&mut self, value: &Head, place: usize, steps: usize) -> Result<usize, No> {
-        let (tag, content) = self.judged(value, Rule::Int(1, TOP))?;
+        let words = self.judged(value, Rule::Int(1, TOP))?;
         if steps + 1 > STEPS {
             return no(PATH, value.at);
         }
-        self.sink.cell(place, 0, tag, content);
+        self.sink.cell(place, 0, words);
         Ok(steps + 1)
     }
 
@@ -645,12 +644,12 @@ impl<'m, S: Sink> Walk<'m, S> {
         if numbers.count == 0 || numbers.count > STEPS || numbers.zero || numbers.over {
             return no(PATH, value.at);
         }
-        self.sink.cell(place, 0, 13, part(value));
+        self.sink.cell(place, 0, [13, value.start as u64, value.length as u64]);
         Ok(numbers.count)
     }
 
-    /// A value's type and content, by its rule.
-    fn judged(&self, value: &Head, rule: Rule) -> Result<(u64, u64), No> {
+    /// A value's cell, by its rule.
+    fn judged(&self, value: &Head, rule: Rule) -> Result<[u64; 3], No> {
         let fits = value.bits == PRIMITIVE
             && match rule {
                 Rule::Int(..) => value.number == 2,
@@ -665,7 +664,7 @@ impl<'m, S: Sink> Walk<'m, S> {
         let octets = self.octets(value)?;
         let content = match value.number {
             1 => match octets {
-                [octet] => u64::from(*octet != 0),
+                [octet] => [u64::from(*octet != 0), 0],
                 _ => return no(BER, value.at),
             },
             2 => {
@@ -674,11 +673,11 @@ impl<'m, S: Sink> Walk<'m, S> {
                 };
                 match rule {
                     Rule::Int(low, high) if number < low || number > high => return no(NUMBER, value.at),
-                    _ => number as u64,
+                    _ => [number as u64, 0],
                 }
             }
             9 => match real(octets) {
-                Some(bits) => bits,
+                Some(bits) => [bits, 0],
                 None => return no(REAL, value.at),
             },
             12 => {
@@ -694,12 +693,12 @@ impl<'m, S: Sink> Walk<'m, S> {
             },
             _ => part(value),
         };
-        Ok((u64::from(value.number), content))
+        Ok([u64::from(value.number), content[0], content[1]])
     }
 }
 
-fn part(value: &Head) -> u64 {
-    (value.start as u64) << 32 | value.length as u64
+fn part(value: &Head) -> [u64; 2] {
+    [value.start as u64, value.length as u64]
 }
 
 fn integer(octets: &[u8]) -> Option<i64> {

@@ -2,22 +2,22 @@
 use super::{Answer, Row};
 
 extern "C" {
-    fn glow_read(message: *const u8, n: usize, table: *mut Row, rows: usize, answer: *mut u64) -> usize;
+    fn glow_read(message: *const u8, n: usize, table: *mut Row, rows: usize, answer: *mut u64, words: usize) -> u64;
 }
 
 /// The library reads and writes only within the slices, whatever they hold and however long they are.
 pub fn read(message: &[u8], table: &mut [Row]) -> Answer {
     let mut words = [0; 3];
-    let number = unsafe { glow_read(message.as_ptr(), message.len(), table.as_mut_ptr(), table.len(), words.as_mut_ptr()) };
+    let number = unsafe { glow_read(message.as_ptr(), message.len(), table.as_mut_ptr(), table.len(), words.as_mut_ptr(), words.len()) };
     answer(number, words)
 }
 
-/// The number, and the answer's words: for 30 to 37 the place, for 38 the count, for 0 the count and 1 for streams.
-fn answer(number: usize, words: [u64; 3]) -> Answer {
+/// The number, and the answer's words: the place (30 to 37), the count (38 and 0), and Root's kind (0: elements, 3: streams).
+fn answer(number: u64, words: [u64; 3]) -> Answer {
     match number {
-        0 => Answer::Read { count: words[0] as usize, streams: words[1] == 1 },
+        0 => Answer::Read { count: words[1] as usize, streams: words[2] == 3 },
         1 => Answer::Setup,
-        38 => Answer::Room { count: words[0] as usize },
-        _ => Answer::Refused { number: number as u64, place: words[0] as usize },
+        38 => Answer::Room { count: words[1] as usize },
+        _ => Answer::Refused { number, place: words[0] as usize },
     }
 }

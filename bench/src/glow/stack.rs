@@ -41,7 +41,7 @@ fn frame() -> usize {
 
 fn attempt(reader: usize, input: usize, frames: usize) {
     let message = inputs::all()[input].1.clone();
-    let mut table = vec![[0; 34]; ENTRIES];
+    let mut table = vec![[0; 50]; ENTRIES];
     let call = move || {
         let mut readers = readers();
         below(frames, &mut || {

@@ -13,21 +13,21 @@ struct Cells<'a> {
 
 impl Cells<'_> {
     /// The cell's type and content, which is taken out of the row.
-    fn take(&mut self, cell: usize) -> (u64, u64) {
-        let taken = (self.row[2 + 2 * cell], self.row[3 + 2 * cell]);
-        self.row[2 + 2 * cell] = 0;
-        self.row[3 + 2 * cell] = 0;
-        assert!(taken.0 != 0 || taken.1 == 0, "an absent cell holds something");
+    fn take(&mut self, cell: usize) -> (u64, u64, u64) {
+        let words = &mut self.row[2 + 3 * cell..5 + 3 * cell];
+        let taken = (words[0], words[1], words[2]);
+        words.fill(0);
+        assert!(taken.0 != 0 || (taken.1, taken.2) == (0, 0), "an absent cell holds something");
+        assert!(taken.0 > 3 && taken.0 != 9 || taken.2 == 0, "a number's cell holds too much");
         taken
     }
 
-    fn part(&self, content: u64) -> Vec<u8> {
-        let (start, length) = ((content >> 32) as usize, (content & 0xFFFF_FFFF) as usize);
-        self.message[start..start + length].to_vec()
+    fn part(&self, start: u64, length: u64) -> Vec<u8> {
+        self.message[start as usize..(start + length) as usize].to_vec()
     }
 
     fn any(&mut self, cell: usize) -> Option<Value> {
-        let (kind, content) = self.take(cell);
+        let (kind, content, length) = self.take(cell);
         Some(match kind {
             0 => return None,
             1 => {
@@ -35,9 +35,9 @@ impl Cells<'_> {
                 Value::Boolean(content == 1)
             }
             2 => Value::Integer(content as i64),
-            4 => Value::Octets(self.part(content)),
+            4 => Value::Octets(self.part(content, length)),
             9 => Value::Real(f64::from_bits(content)),
-            12 => Value::Text(self.part(content)),
+            12 => Value::Text(self.part(content, length)),
             _ => panic!("type {kind}"),
         })
     }
@@ -55,12 +55,12 @@ impl Cells<'_> {
     }
 
     fn numbers(&mut self, cell: usize) -> Option<Vec<u64>> {
-        let (kind, content) = self.take(cell);
+        let (kind, content, length) = self.take(cell);
         if kind == 0 {
             return None;
         }
         assert_eq!(kind, 13);
-        let Oid::Numbers(numbers) = read_oid(&self.part(content)) else { panic!() };
+        let Oid::Numbers(numbers) = read_oid(&self.part(content, length)) else { panic!() };
         Some(numbers.into_iter().map(Option::unwrap).collect())
     }
 
@@ -117,7 +117,7 @@ impl Cells<'_> {
 fn compare(message: &[u8], length: usize) {
     let expected = tree::read(message, length);
     for (name, read) in &mut readers() {
-        let mark = |place: usize| [0xDEAD_0000_0000 + place as u64; 34];
+        let mark = |place: usize| [0xDEAD_0000_0000 + place as u64; 50];
         let mut table: Vec<Row> = (0..length).map(mark).collect();
         let answer = read(message, &mut table);
         let count = match (&expected, answer) {
@@ -170,7 +170,7 @@ fn the_inputs() {
         assert!(message.len() <= MESSAGE, "{name}: {}", message.len());
         compare(&message, ENTRIES);
     }
-    let answers = inputs::all().map(|(_, message)| plain::read(&message, &mut vec![[0; 34]; ENTRIES]));
+    let answers = inputs::all().map(|(_, message)| plain::read(&message, &mut vec![[0; 50]; ENTRIES]));
     let [announcement, connections, deep, unlisted, refused] = answers;
     assert!(matches!(announcement, Answer::Read { streams: false, count: 100.. }), "{announcement:?}");
     assert_eq!(connections, Answer::Read { streams: false, count: ENTRIES });
