@@ -31,7 +31,7 @@ fn place(x: u64) -> usize {
     x as usize
 }
 
-// Reads with a table of n rows.
+// Reads with the table's first n rows; more than there are make a bad line.
 fn read_with(s: &[u8], n: usize, table: &mut [[u64; 50]]) {
     if n <= table.len() {
         read(s, &mut table[..n]);

@@ -72,7 +72,7 @@ fn entries(s: &[u8], table: &[[u64; 50]], count: usize) {
     }
 }
 
-// A number, a space before the next, and the line's end.
+// Two numbers, a line.
 fn two(a: u64, b: usize) {
     print::decimal(a);
     space();
