@@ -1,12 +1,13 @@
 // Containers of tags, lengths and values: what stands at a place, what surrounds the one value of an outer tag, and what is passed over.
 use tags::Head;
 use tags::Length;
-ghost use Prim.Native.Nat.{_-_, _≤_, _<_};
+ghost use Prim.Native.Nat.{_+_, _-_, _≤_, _<_};
 ghost use mathlib.Core.Path.{_≡_};
 ghost use lib.ListN.{length};
 ghost use lib.Dec.{eqb};
 ghost use Rattle.containers.specs.Ends.{openOf, bit, zeroAt, closingAt, standingAt, deep, enterAt, firstAt, lastAt, isTag};
 ghost use Rattle.containers.specs.Passing.{skipped, crossAt, Through, passedAt};
+ghost use Rattle.containers.specs.Short.{shortTag, Shuts, Shortens};
 ghost use Rattle.containers.specs.Progress.{Fits, Onward, FoundOnward, OntoOnward, CrossOnward};
 
 // A refusal: its number and its place.
@@ -114,6 +115,105 @@ fn flag(b: bool) -> u64
     if b { 1 } else { 0 }
 }
 
+fn size(x: u8) -> usize
+    ensures { λ r. ⌜ r ≡ x ⌝ }
+{
+    x as usize
+}
+
+// The place after the open container o if it ends at p, or 2^64 - 1 where that is for `standing` to say.
+fn shut(s: &[u8], p: usize, o: Open) -> usize
+    ensures { λ r. ⌜ Shuts (now (s .entry)) p o r ⌝ }
+{
+    if p == o.end {
+        if o.definite == 1 {
+            return p;
+        }
+        return 18446744073709551615;
+    }
+    if o.definite == 1 {
+        return 18446744073709551615;
+    }
+    if s.len() <= p {
+        return 18446744073709551615;
+    }
+    let q = p + 1;
+    if s.len() <= q {
+        return 18446744073709551615;
+    }
+    if q == o.end {
+        return 18446744073709551615;
+    }
+    if s[p] == 0 {
+        if s[q] == 0 {
+            return p + 2;
+        }
+    }
+    18446744073709551615
+}
+
+// The length of a tag at p whose tag and length take one octet each; 128 for one that 00 00 ends, 129 where that is for `standing` to say.
+fn short(s: &[u8], p: usize, end: usize) -> usize
+    ensures { λ r. ⌜ Shortens (now (s .entry)) p end r ⌝ }
+{
+    if s.len() <= p {
+        return 129;
+    }
+    let q = p + 1;
+    if s.len() <= q {
+        return 129;
+    }
+    if end <= q {
+        return 129;
+    }
+    let b = s[p];
+    if b == 0 {
+        return 129;
+    }
+    if b % 32 == 31 {
+        return 129;
+    }
+    let l = size(s[q]);
+    if l < 128 {
+        if end - q <= l {
+            return 129;
+        }
+        return l;
+    }
+    if l == 128 {
+        if 32 <= b % 64 {
+            return 128;
+        }
+    }
+    129
+}
+
+// Such a tag, from its first octet.
+fn short_tag(b: u8, start: usize, n: usize, end: usize) -> Tag
+    requires { ⌜ (n < 128 → start + n ≤ end) ⌝ }
+    ensures { λ r. ⌜ shortTag b start n end ≡ r ⌝ }
+{
+    if n < 128 {
+        return Tag {
+            class: wide(b / 64),
+            constructed: wide(b % 64 / 32),
+            number: wide(b % 32),
+            start,
+            inner: Open {
+                definite: 1,
+                end: start + n,
+            },
+        };
+    }
+    Tag {
+        class: wide(b / 64),
+        constructed: wide(b % 64 / 32),
+        number: wide(b % 32),
+        start,
+        inner: Open { definite: 0, end },
+    }
+}
+
 // What stands at p in the open container o.
 pub fn standing(s: &[u8], p: usize, o: Open) -> Stands
     ensures { λ r. ⌜ standingAt (now (s .entry)) p o ≡ r ⌝ }
@@ -175,6 +275,19 @@ pub fn entering(s: &[u8], p: usize, o: Open, k: usize) -> Stands
     ensures { λ r. ⌜ enterAt (now (s .entry)) p o k ≡ r ⌝ }
     ensures { λ r. ⌜ Onward (now (s .entry)) p r ⌝ }
 {
+    let z = shut(s, p, o);
+    if z != 18446744073709551615 {
+        return Stands::Ended(z);
+    }
+    let end = o.end;
+    let n = short(s, p, end);
+    if n < 129 {
+        let quick = short_tag(s[p], p + 2, n, end);
+        if too_deep(quick.constructed, k) {
+            return Stands::Refused(No(32, p));
+        }
+        return Stands::Here(quick);
+    }
     match standing(s, p, o) {
         Stands::Ended(next) => Stands::Ended(next),
         Stands::Refused(n) => Stands::Refused(n),
@@ -192,6 +305,19 @@ pub fn first(s: &[u8], p: usize, c: Open, k: usize) -> Found
     ensures { λ r. ⌜ firstAt (now (s .entry)) p c k ≡ r ⌝ }
     ensures { λ r. ⌜ FoundOnward (now (s .entry)) p r ⌝ }
 {
+    let end = c.end;
+    let n = short(s, p, end);
+    if n < 129 {
+        let quick = short_tag(s[p], p + 2, n, end);
+        let form = quick.inner;
+        if !agree(form.definite, c.definite) {
+            return Found::Refused(No(31, p));
+        }
+        if too_deep(quick.constructed, k) {
+            return Found::Refused(No(32, p));
+        }
+        return Found::Value(quick);
+    }
     match standing(s, p, c) {
         Stands::Ended(next) => Found::Refused(No(33, p)),
         Stands::Refused(n) => Found::Refused(n),
@@ -213,6 +339,10 @@ pub fn last(s: &[u8], p: usize, c: Open, k: usize) -> Onto
     ensures { λ r. ⌜ lastAt (now (s .entry)) p c k ≡ r ⌝ }
     ensures { λ r. ⌜ OntoOnward p r ⌝ }
 {
+    let z = shut(s, p, c);
+    if z != 18446744073709551615 {
+        return Onto::Next(z);
+    }
     match standing(s, p, c) {
         Stands::Ended(next) => Onto::Next(next),
         Stands::Refused(n) => Onto::Refused(n),
@@ -255,6 +385,29 @@ fn cross(s: &[u8], p: usize, o: Open, k: usize) -> Crossing
     ensures { λ r. ⌜ crossAt (now (s .entry)) p o k ≡ r ⌝ }
     ensures { λ r. ⌜ CrossOnward (now (s .entry)) p r ⌝ }
 {
+    let z = shut(s, p, o);
+    if z != 18446744073709551615 {
+        return Crossing::Over(z);
+    }
+    let end = o.end;
+    let n = short(s, p, end);
+    if n < 129 {
+        let quick = short_tag(s[p], p + 2, n, end);
+        if quick.constructed == 1 {
+            if k == 0 {
+                return Crossing::Refused(No(32, p));
+            }
+            return Crossing::Into(quick);
+        }
+        match skip(s, quick) {
+            Onto::Next(next) => {
+                return Crossing::Past(next);
+            }
+            Onto::Refused(n) => {
+                return Crossing::Refused(n);
+            }
+        }
+    }
     match standing(s, p, o) {
         Stands::Ended(next) => Crossing::Over(next),
         Stands::Refused(n) => Crossing::Refused(n),

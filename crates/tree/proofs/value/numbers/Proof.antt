@@ -1,0 +1,82 @@
+use Prim.Native.Nat.{_-_}
+use mathlib.Core.Path.{subst}
+use native.Mathlib.Omega.{arith}
+use Rattle.identifiers.specs.Identifier.{ArcWithin}
+use borrow.Author.Needs.{needs}
+use Rattle.tree.proofs.value.numbers.Statement.{statement}
+use Rattle.tree.proofs.value.numbers.Tie as tie
+
+abbrev Inv-loop : tie.InvT-loop
+Inv-loop octets end p₀ p = Unit {0}
+
+abbrev μ-loop : tie.MeasureT-loop
+μ-loop octets end p₀ p = end - p
+
+slice-aggregate-say : tie.Need-slice-aggregate-say Inv-loop μ-loop
+slice-aggregate-say c = search needs
+
+say-requires : tie.Need-say-requires Inv-loop μ-loop
+say-requires c κs = search needs
+
+returns : tie.Need-returns Inv-loop μ-loop
+returns c = search needs
+
+loop-holds : tie.Need-loop-holds Inv-loop μ-loop
+loop-holds c = search needs
+
+read-number-requires : tie.Need-read-number-requires Inv-loop μ-loop
+read-number-requires c κs = search needs
+
+enum-known-number : tie.Need-enum-known-number Inv-loop μ-loop
+enum-known-number c = search needs
+
+dot-requires : tie.Need-dot-requires Inv-loop μ-loop
+dot-requires c κs = search needs
+
+decimal-requires : tie.Need-decimal-requires Inv-loop μ-loop
+decimal-requires c κs = search needs
+
+loop-less : tie.Need-loop-less Inv-loop μ-loop
+loop-less c =
+    let told = c .before .before .before .before .before .read-number .ensures .1 in
+    let w = subst (ArcWithin _ _) (c .before .before .before .number .given .1) told in omega arith
+
+loop-again : tie.Need-loop-again Inv-loop μ-loop
+loop-again c = search needs
+
+enum-told : tie.Need-enum-told Inv-loop μ-loop
+enum-told c = search needs
+
+enum-told-2 : tie.Need-enum-told-2 Inv-loop μ-loop
+enum-told-2 c = search needs
+
+returns-2 : tie.Need-returns-2 Inv-loop μ-loop
+returns-2 c = search needs
+
+returns-3 : tie.Need-returns-3 Inv-loop μ-loop
+returns-3 c = search needs
+
+returns-4 : tie.Need-returns-4 Inv-loop μ-loop
+returns-4 c = search needs
+
+pub numbers-spec : {M : Type 1} → statement M
+numbers-spec =
+    tie.close
+    (tie.spec
+    Inv-loop
+    μ-loop
+    slice-aggregate-say
+    say-requires
+    returns
+    loop-holds
+    read-number-requires
+    enum-known-number
+    dot-requires
+    decimal-requires
+    loop-less
+    loop-again
+    enum-told
+    enum-told-2
+    returns-2
+    returns-3
+    returns-4)
