@@ -98,11 +98,11 @@ module _ {All : Out → Type 0} {base : Rows} {rows : Rows} {count : ℕ} where
         gives = λ y d. h .gives y (contents-in s k o row me above p before (h .es) e w l (inside .gives) (closed-in s outer j inside c q .0) m d);
       }
 
-    module _ {after j k′ which : ℕ} {outer : Open} {g : Tag} {rows′ : Rows} {x v : Walked}
+    module _ {after j k′ which parent : ℕ} {outer : Open} {g : Tag} {rows′ : Rows} {x v : Walked}
         (e : memberAt s p o k row above before ≡ Items after which outer g j) (w : p < length s) (l : p < g .start) (ek : k′ ≡ j - 1)
-        (f : ItemsFill s k′ (g .inner) which (me + 1) above (g .start) count rows rows′ x) (c : Closes s outer j x v) where
+        (f : ItemsFill s k′ (g .inner) which parent above (g .start) count rows rows′ x) (ep : parent ≡ me + 1) (c : Closes s outer j x v) where
       within : Fills (ItemsGive s (j - 1) (g .inner) which (me + 1) above (g .start) (h .es)) base rows′ x
-      within = rw (← ek) (f (h .es) base (h .counts) (h .holds))
+      within = rw (← ek, ← ep) (f (h .es) base (h .counts) (h .holds))
 
       pub held-list-no : {r : No} → v ≡ NotRead r → Fills All base rows′ (NotRead r)
       held-list-no {r} q = record {

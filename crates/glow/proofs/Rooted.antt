@@ -1,6 +1,6 @@
 -- Laws of Root and of the whole message, and of the small tables that the walk reads.
 use Prim.Native.Nat.{ℕ, suc, _+_, _-_, _*_, _/_, _%_, _^_, _≤_, _<_}
-use mathlib.Core.Path.{_≡_, refl, sym, ap, _∙_}
+use mathlib.Core.Path.{_≡_, refl, sym, ap, subst, _∙_}
 use mathlib.Core.List.{List, [], _∷_, _++_}
 use mathlib.Core.Bool.{true, false}
 use native.Mathlib.Omega.{arith}
@@ -131,11 +131,12 @@ module _ (s : List ℕ) (rows rows′ : Rows) where
   unfolding walk overlay
   message-no h same = record { answers = rw h; holds = rw h same }
 
-  pub message-root : {which : ℕ} {outer : Open} {g : Tag} {w v : Walked} {r : Whole} → topAt s ≡ Root which outer g
-      → Fills (ItemsGive s 62 (g .inner) which 0 0 (g .start) []) rows rows′ w
+  pub message-root : {which k : ℕ} {outer : Open} {g : Tag} {w v : Walked} {r : Whole} → topAt s ≡ Root which outer g
+      → Fills (ItemsGive s k (g .inner) which 0 0 (g .start) []) rows rows′ w → k ≡ 62
       → Closes s outer 63 w v → Finishes s which v r → MessageFill s rows rows′ r
   unfolding walk
-  message-root h f c d =
+  message-root {which = which} {g = g} {w = w} h f′ e c d =
+      let f = subst (λ n. Fills (ItemsGive s n (g .inner) which 0 0 (g .start) []) rows rows′ w) e f′ in
       let x = f .gives (suc (length s)) (omega arith) in
       record {
         answers = rw (h, x) (d _ _ (c _ _ (f .answers)));
@@ -187,7 +188,9 @@ module _ (s : List ℕ) (rows : Rows) where
 
         pub read-no : {w : Whole} {e : No} → MessageFill s [] l w → w ≡ NotWhole e → readAt s rows ≡ result (NoTree (e .0) (e .1)) (l ++ rows)
         read-no {e = e} f h =
-            judged ∙ ap (readOf rows (walk s .which) (walk s .out .entries)) (whole-no (walk s .which) (walk s .out .answer) (length (walk s .out .entries)) (f .answers ∙ h))
+            judged
+            ∙ ap (readOf rows (walk s .which) (walk s .out .entries))
+            (whole-no (walk s .which) (walk s .out .answer) (length (walk s .out .entries)) (f .answers ∙ h))
             ∙ ap (result (NoTree (e .0) (e .1))) (sym same)
 
         module _ {w : Whole} {which count : ℕ} (f : MessageFill s [] l w) (h : w ≡ ReadWhole which count) where

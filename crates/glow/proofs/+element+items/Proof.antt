@@ -301,7 +301,7 @@ element-returns-4 t c =
     let i = the-loop .inv in (
       λ es base f h.
           held-list-no _ _ _ _ _ _ _ _ (i .held es base f h) (the-member-at .ensures .0 ∙ the-after4 .given .1) (w .0) (w .1) (the-less2 .ensures)
-          (the-items .ensures .0) (the-close2 .ensures .0) (the-e3 .given .1),
+          (the-items .ensures .0) refl (the-close2 .ensures .0) (the-e3 .given .1),
       tt,
     )
 
@@ -338,7 +338,7 @@ element-loop-again-4 t c =
       same = the-items .kept .1 .1 .1 .1 .1 .1 .1 .1 .0 ∙ i .same;
       held = λ es base e h.
           held-list _ _ _ _ _ _ _ _ (i .held es base e h) (the-member-at .ensures .0 ∙ the-after4 .given .1) (w .0) (w .1) (the-less2 .ensures)
-          (the-items .ensures .0) (the-close2 .ensures .0) (the-next3 .given .1) (omega arith);
+          (the-items .ensures .0) refl (the-close2 .ensures .0) (the-next3 .given .1) (omega arith);
     }
 
 abbrev items-Inv-loop : items-lts.InvT-loop

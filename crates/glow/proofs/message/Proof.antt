@@ -40,7 +40,8 @@ returns-2 c =
     let the-items = c .before .before .before .items in
     let the-close = c .before .close in
     let the-finish = c .finish in
-    message-root _ _ _ (the-root-of .ensures ∙ the-which .given .1) (the-items .ensures .0 [] _ refl (overlay-nothing _)) (the-close .ensures .0) (the-finish .ensures)
+    message-root _ _ _ (the-root-of .ensures ∙ the-which .given .1) (the-items .ensures .0 [] _ refl (overlay-nothing _)) refl
+    (the-close .ensures .0) (the-finish .ensures)
 
 pub message-spec : {M : Type 1} → statement M
 message-spec =
