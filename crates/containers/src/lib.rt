@@ -153,7 +153,7 @@ fn shut(s: &[u8], p: usize, o: Open) -> usize
 }
 
 // The length of a tag at p whose tag and length take one octet each; 128 for one that 00 00 ends, 129 where that is for `standing` to say.
-fn short(s: &[u8], p: usize, end: usize) -> usize
+pub fn short(s: &[u8], p: usize, end: usize) -> usize
     ensures { λ r. ⌜ Shortens (now (s .entry)) p end r ⌝ }
 {
     if s.len() <= p {

@@ -9,3 +9,4 @@ pub mod Places
 pub mod Within
 pub mod Marks
 pub mod Answers
+pub mod Quick

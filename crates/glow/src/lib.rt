@@ -14,6 +14,7 @@ ghost use Rattle.containers.specs.Progress.{Ahead};
 ghost use Rattle.grammar.specs.Grammar.{ruleOf, innerClass, innerNumber, collectionOf, rootOf};
 ghost use Rattle.glow.specs.Members.{marked, mark, due, inOrder, again, afterListed, afterOther, column};
 ghost use Rattle.glow.specs.Members.{plainAt, innerAt, listedAt, ruledAt, memberAt, kindOf, itemAt};
+ghost use Rattle.glow.specs.Brief.{Brief, NextRule};
 ghost use Rattle.glow.specs.Message.{rootKind, topAt, result, readAt};
 ghost use Rattle.glow.specs.Progress.{MemberOnward, InnerOnward, ItemOnward, WalkedOnward, Keeps, Closes, Finishes, MembersFill, ItemsFill, MessageFill};
 
@@ -266,11 +267,90 @@ fn ruled(s: &[u8], p: usize, t: Tag, k: usize, row: u64, above: usize, before: u
     )
 }
 
+fn wide(x: u8) -> u64
+    ensures { λ r. ⌜ r ≡ x ⌝ }
+    ensures { λ r. ⌜ r < 256 ⌝ }
+{
+    x as u64
+}
+
+// The length of the one value that fills a member at p, tags and lengths of one octet each; 128 where that is for the general turn to say.
+fn brief(s: &[u8], p: usize, end: usize) -> usize
+    ensures { λ r. ⌜ (r < 128 → Brief (now (s .entry)) p end r) ⌝ }
+{
+    let l = containers::short(s, p, end);
+    if 128 <= l {
+        return 128;
+    }
+    let at = p + 2;
+    let n = containers::short(s, at, at + l);
+    if 128 <= n {
+        return 128;
+    }
+    if n + 2 != l {
+        return 128;
+    }
+    n
+}
+
+// What stands at the member of a constructed context tag b, if that is one value that may come now; 0 where that is for the general turn to say.
+fn next_rule(b: u8, row: u64, before: u64) -> u64
+    ensures { λ r. ⌜ ((r ≡ 0 → ⊥) → NextRule b row before r) ⌝ }
+{
+    if b / 32 != 5 {
+        return 0;
+    }
+    let n = wide(b % 32);
+    let what = grammar::rule_of(row, n);
+    if what == 0 {
+        return 0;
+    }
+    if 13 <= what {
+        return 0;
+    }
+    if !in_order(row, before, n) {
+        return 0;
+    }
+    if is_again(row, before, n) {
+        return 0;
+    }
+    what
+}
+
 // One turn of the members of a row.
 fn member_at(s: &[u8], p: usize, o: Open, k: usize, row: u64, above: usize, before: u64) -> Member
     ensures { λ r. ⌜ memberAt (now (s .entry)) p o k row above before ≡ r ⌝ }
     ensures { λ r. ⌜ MemberOnward (now (s .entry)) p r ⌝ }
 {
+    let end = o.end;
+    let len = brief(s, p, end);
+    if len < 128 {
+        if 0 < k {
+            let b = s[p];
+            let what = next_rule(b, row, before);
+            let value = s[p + 2];
+            if what != 0 {
+                if value < 31 {
+                    let start = p + 4;
+                    match grammar::read_leaf(s, p + 2, wide(value), start, len, what, above) {
+                        Leaf::Refused(number, place) => {
+                            return Member::Refused(No(number, place));
+                        }
+                        Leaf::Kept(v, path) => {
+                            let n = wide(b % 32);
+                            return Member::Leaf(
+                                after_listed(row, before, n),
+                                column_of(row, n),
+                                v,
+                                path,
+                                start + len,
+                            );
+                        }
+                    }
+                }
+            }
+        }
+    }
     match containers::entering(s, p, o, k) {
         Stands::Refused(e) => Member::Refused(e),
         Stands::Ended(next) => {
