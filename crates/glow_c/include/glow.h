@@ -1,0 +1,90 @@
+/* The Glow tree for C: reads a message into the rows of a lent table.
+ *
+ * Link libglow_c.a, which `rt staticlib glow_c` proves and builds (x86-64 Linux). The library keeps nothing between
+ * calls, allocates nothing and calls nothing: all memory is lent by the caller. A call is proved for every message,
+ * every length and every content of the table, and always ends; it cannot test a pointer. So a pointer and its count
+ * name memory of the caller's that is as long as the count says, aligned for its type, and shared by no other
+ * argument of the call that is written to; where the count is 0 the pointer may be anything. */
+#ifndef GLOW_H
+#define GLOW_H
+
+#include <stddef.h>
+#include <stdint.h>
+
+#ifdef __cplusplus
+extern "C" {
+#endif
+
+/* The longest message in bytes, and the longest table in rows. The table needs no clearing. */
+#define GLOW_MESSAGE_MAX 16384
+#define GLOW_ROWS_MAX 256
+
+/* An entry is a row of fifty words, one for each element, connection and stream entry, in message order:
+ *   0: its kind
+ *   1: its parent's place in the table and 1; 0 if it has none
+ *   2 + 3c, 3 + 3c, 4 + 3c: cell c, for c from 0 to 15: the type of a member's value, and two words of content
+ * Of an element, cell 0 is its number or path, and cell n + 1 is the member with context number n of its contents. Of a
+ * command, a connection and a stream entry, cell n is the member with context number n. Every other cell is absent. */
+#define GLOW_ROW_WORDS 50
+#define GLOW_KIND 0
+#define GLOW_PARENT 1
+#define GLOW_CELLS 2
+#define GLOW_CELL_WORDS 3
+
+/* The kinds, and their cells. Contents of a parameter: 1 identifier, 2 description, 3 value, 4 minimum, 5 maximum,
+ * 6 access, 9 factor, 10 online, 12 step, 15 stream. Of a node: 1 identifier, 2 description, 3 root, 4 online. Of a
+ * matrix: 1 identifier, 2 description, 3 type, 4 mode, 5 targets, 6 sources, 7 total limit, 8 limit per target. */
+#define GLOW_PARAMETER 1           /* 0 number, and contents */
+#define GLOW_COMMAND 2             /* 0 number, 1 mask */
+#define GLOW_NODE 3                /* 0 number, and contents */
+#define GLOW_MATRIX 4              /* 0 number, and contents */
+#define GLOW_QUALIFIED_PARAMETER 5 /* 0 path, and contents */
+#define GLOW_QUALIFIED_NODE 6      /* 0 path, and contents */
+#define GLOW_QUALIFIED_MATRIX 7    /* 0 path, and contents */
+#define GLOW_CONNECTION 8          /* 0 target, 1 sources, 2 operation */
+#define GLOW_STREAM_ENTRY 9        /* 0 stream, 1 value */
+
+/* The type in a cell's first word is a universal tag number; its other two words follow. A part of the message that is
+ * named by start and length lies in the message. */
+#define GLOW_TYPE_ABSENT 0        /* no such member; 0, 0 */
+#define GLOW_TYPE_BOOLEAN 1       /* 1 for true, 0 for false; 0 */
+#define GLOW_TYPE_INTEGER 2       /* 64 bits in two's complement; 0 */
+#define GLOW_TYPE_OCTETS 4        /* start and length in the message */
+#define GLOW_TYPE_REAL 9          /* the 64 bits of the double; 0 */
+#define GLOW_TYPE_TEXT 12         /* start and length in the message */
+#define GLOW_TYPE_RELATIVE_OID 13 /* a path or sources: start and length of its octets in the message */
+
+/* The answer, three words. Where a word says nothing it is 0.
+ *   0: the place of a refusal, 30 to 37: a position in the message, or its length
+ *   1: how many entries were read, or for GLOW_ROOM how many the message has
+ *   2: after GLOW_DONE, what Root holds: GLOW_ELEMENTS or GLOW_STREAMS */
+#define GLOW_ANSWER_WORDS 3
+#define GLOW_PLACE 0
+#define GLOW_COUNT 1
+#define GLOW_ROOT 2
+#define GLOW_ELEMENTS 0
+#define GLOW_STREAMS 3
+
+/* The numbers answered. */
+#define GLOW_DONE 0    /* read: the table's first rows are the entries */
+#define GLOW_SETUP 1   /* a table over 256 rows, a message over 16,384 bytes, or an answer of other than three words */
+#define GLOW_BER 30    /* bad tag, length or value octets, a tag 00 that ends nothing, bytes run out or left after Root */
+#define GLOW_FORM 31   /* an outer tag and its value, one definite and one indefinite */
+#define GLOW_DEPTH 32  /* a 65th container open at once */
+#define GLOW_GLOW 33   /* a tag unexpected, repeated or out of order, a member or value missing */
+#define GLOW_NUMBER 34 /* a number out of its range */
+#define GLOW_REAL 35   /* a real that is not accepted */
+#define GLOW_NAME 36   /* an identifier against its rule */
+#define GLOW_PATH 37   /* a path that is empty, over 16 numbers (parents counted) or has a number out of range */
+#define GLOW_ROOM 38   /* the message is right, the table too small */
+
+/* Reads a message into the table's rows. Rows past the count stay as they were. Any answer but GLOW_DONE leaves the
+ * whole table as it was; GLOW_SETUP leaves the answer's words too. */
+uint64_t glow_read(const uint8_t *message, size_t message_bytes, uint64_t (*table)[GLOW_ROW_WORDS], size_t table_rows,
+                   uint64_t *answer, size_t answer_words);
+
+#ifdef __cplusplus
+}
+#endif
+
+#endif
