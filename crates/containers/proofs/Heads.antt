@@ -54,7 +54,8 @@ module _ (s : List ℕ) (at bound : ℕ) where
       (λ e. pick-by (NumberAhead at p (length s)) (ltb (getD s p 0) 128)
       (λ e. (omega arith, (h, power-le 128 {n = i + 1} {k = 4} (omega arith) (omega arith) (digit-more 128 i a (ltb-true (getD s p 0) 128 e)))))
       (λ e. let m : getD s p 0 % 128 < 128 = omega arith in
-      weaken (longNumber s at bound k (acc * 128 + getD s p 0 % 128) (p + 1)) (long-ahead k (i + 1) (acc * 128 + getD s p 0 % 128) (p + 1) (omega arith) (digit-more 128 i a m) h)))
+      weaken (longNumber s at bound k (acc * 128 + getD s p 0 % 128) (p + 1))
+      (long-ahead k (i + 1) (acc * 128 + getD s p 0 % 128) (p + 1) (omega arith) (digit-more 128 i a m) h)))
     where
       weaken : (r : Numbered) → NumberAhead at (p + 1) (length s) r → NumberAhead at p (length s) r
       weaken (Number n q) w = (omega arith, w .1)
@@ -94,10 +95,12 @@ module _ (s : List ℕ) (at bound : ℕ) where
   unfolding headAt
   head-ahead = by-number (tagNumber s at bound) number-ahead
     where
-      by-length : (p : ℕ) (b n : ℕ) (z : Sized) → (at < p) → (at < length s) → n < 268435456 → SizedAhead p bound z → HeadAhead at bound (length s) (headOf b n z)
+      by-length : (p : ℕ) (b n : ℕ) (z : Sized) → (at < p) → (at < length s) → n < 268435456 → SizedAhead p bound z → HeadAhead at bound (length s)
+          (headOf b n z)
       by-length p b n (Long l next) h k m w = (k, (omega arith, (m, w .1)))
       by-length p b n (NoLength place) h k m w = tt
 
       by-number : (r : Numbered) → NumberAhead at at (length s) r → HeadAhead at bound (length s) (afterNumber s at bound r)
-      by-number (Number n p) w = by-length p (getD s at 0) n (lengthAt s at bound (leb 32 (getD s at 0 % 64)) p) (w .0) (w .1 .0) (w .1 .1) (length-ahead (leb 32 (getD s at 0 % 64)) p)
+      by-number (Number n p) w = by-length p (getD s at 0) n (lengthAt s at bound (leb 32 (getD s at 0 % 64)) p) (w .0) (w .1 .0) (w .1 .1)
+          (length-ahead (leb 32 (getD s at 0 % 64)) p)
       by-number (NoNumber place) w = tt

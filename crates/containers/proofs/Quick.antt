@@ -118,11 +118,13 @@ module _ (s : List ℕ) (p end : ℕ) (h : p + 1 < length s) (k : p + 1 < end) w
 
 -- such a tag, as the code puts it together
 module _ (b start n end : ℕ) {x y z : ℕ} (ex : x ≡ b / 64) (ey : y ≡ b % 64 / 32) (ez : z ≡ b % 32) where
-  pub tag-definite : n < 128 → shortTag b start n end ≡ record { class = x; constructed = y; number = z; start = start; inner = record { definite = 1; end = start + n } }
+  pub tag-definite : n < 128
+      → shortTag b start n end ≡ record { class = x; constructed = y; number = z; start = start; inner = record { definite = 1; end = start + n } }
   unfolding shortTag
   tag-definite h = rw (ex, ey, ez, lt-ltb _ _ h)
 
-  pub tag-open : 128 ≤ n → shortTag b start n end ≡ record { class = x; constructed = y; number = z; start = start; inner = record { definite = 0; end = end } }
+  pub tag-open : 128 ≤ n
+      → shortTag b start n end ≡ record { class = x; constructed = y; number = z; start = start; inner = record { definite = 0; end = end } }
   unfolding shortTag
   tag-open h = rw (ex, ey, ez, le-ltb _ _ h)
 

@@ -73,7 +73,8 @@ module _ (s : List ℕ) (p : ℕ) (o : Open) (k row above before n what : ℕ) (
       ∙ listed-plain s outer (k - 1) what above after cell found (r .plain)
 
   universal : isTag value 0 0 (value .number) ≡ true
-  universal = let a : getD s (p + 2) 0 / 64 ≡ 0 = omega arith in let b : getD s (p + 2) 0 % 64 / 32 ≡ 0 = omega arith in tag-form value 0 0 (value .number) a refl ∙ eq-eqb _ _ b
+  universal = let a : getD s (p + 2) 0 / 64 ≡ 0 = omega arith in let b : getD s (p + 2) 0 % 64 / 32 ≡ 0 = omega arith in tag-form value 0 0
+      (value .number) a refl ∙ eq-eqb _ _ b
 
   ended : lastAt s (p + 2 + 2 + n) (definite (p + 2 + (n + 2))) (k - 1) ≡ Next (p + 2 + 2 + n)
   ended = last-ended s _ (definite (p + 2 + (n + 2))) (k - 1) (standing-ended s _ (definite (p + 2 + (n + 2))) (omega arith) refl)

@@ -47,14 +47,21 @@ through-enum-known-next t c = search needs
 
 through-returns : (t : ℕ) → through-lts.Need-returns (through-calls t) (through-at t) through.Post through-Inv-loop through-μ-loop
 through-returns t c =
-    let w = subst (CrossOnward _ _) (c .before .next .given .1) (c .before .before .before .cross .ensures .1) in
-    (c .before .before .before .before .loop .inv .1 _ (through-over _ _ _ _ (c .before .before .before .cross .ensures .0 ∙ c .before .next .given .1)), omega arith)
+    let w = subst (CrossOnward _ _) (c .before .next .given .1) (c .before .before .before .cross .ensures .1) in (
+      c .before .before .before .before .loop .inv .1 _
+          (through-over _ _ _ _ (c .before .before .before .cross .ensures .0 ∙ c .before .next .given .1)),
+      omega arith,
+    )
 
 through-enum-known-n : (t : ℕ) → through-lts.Need-enum-known-n (through-calls t) (through-at t) through.Post through-Inv-loop through-μ-loop
 through-enum-known-n t c = search needs
 
 through-returns-2 : (t : ℕ) → through-lts.Need-returns-2 (through-calls t) (through-at t) through.Post through-Inv-loop through-μ-loop
-through-returns-2 t c = (c .before .before .before .before .loop .inv .1 _ (through-stuck _ _ _ _ (c .before .before .before .cross .ensures .0 ∙ c .before .n .given .1)), tt)
+through-returns-2 t c = (
+  c .before .before .before .before .loop .inv .1 _
+      (through-stuck _ _ _ _ (c .before .before .before .cross .ensures .0 ∙ c .before .n .given .1)),
+  tt,
+)
 
 through-enum-known-next-2 : (t : ℕ) → through-lts.Need-enum-known-next-2 (through-calls t) (through-at t) through.Post through-Inv-loop through-μ-loop
 through-enum-known-next-2 t c = search needs
@@ -64,8 +71,11 @@ through-loop-less t c = let w = subst (CrossOnward _ _) (c .before .next2 .given
 
 through-loop-again : (t : ℕ) → through-lts.Need-loop-again (through-calls t) (through-at t) through.Post through-Inv-loop through-μ-loop
 through-loop-again t c =
-    let w = subst (CrossOnward _ _) (c .before .next2 .given .1) (c .before .before .before .cross .ensures .1) in
-    (omega arith, λ x h. c .before .before .before .before .loop .inv .1 x (through-past _ _ _ _ (c .before .before .before .cross .ensures .0 ∙ c .before .next2 .given .1) (w .0) (w .1) h))
+    let w = subst (CrossOnward _ _) (c .before .next2 .given .1) (c .before .before .before .cross .ensures .1) in (
+      omega arith,
+      λ x h. c .before .before .before .before .loop .inv .1 x
+          (through-past _ _ _ _ (c .before .before .before .cross .ensures .0 ∙ c .before .next2 .given .1) (w .0) (w .1) h),
+    )
 
 through-enum-known-t : (t : ℕ) → through-lts.Need-enum-known-t (through-calls t) (through-at t) through.Post through-Inv-loop through-μ-loop
 through-enum-known-t t c = search needs
@@ -74,32 +84,44 @@ through-less-requires : (t : ℕ) → through-lts.Need-less-requires (through-ca
 through-less-requires t c κs = search needs
 
 through-through-requires : (t : ℕ) → through-lts.Need-through-requires (through-calls t) (through-at t) through.Post through-Inv-loop through-μ-loop
-through-through-requires t c κs = let w = subst (CrossOnward _ _) (c .before .before .t .given .1) (c .before .before .before .before .cross .ensures .1) in omega arith
+through-through-requires t c κs = let w = subst (CrossOnward _ _) (c .before .before .t .given .1)
+    (c .before .before .before .before .cross .ensures .1) in omega arith
 
 through-enum-known-next-3 : (t : ℕ) → through-lts.Need-enum-known-next-3 (through-calls t) (through-at t) through.Post through-Inv-loop through-μ-loop
 through-enum-known-next-3 t c = search needs
 
 through-loop-less-2 : (t : ℕ) → through-lts.Need-loop-less-2 (through-calls t) (through-at t) through.Post through-Inv-loop through-μ-loop
 through-loop-less-2 t c =
-    let w = subst (CrossOnward _ _) (c .before .before .before .before .before .before .t .given .1) (c .before .before .before .before .before .before .before .before .cross .ensures .1) in
+    let w = subst (CrossOnward _ _) (c .before .before .before .before .before .before .t .given .1)
+    (c .before .before .before .before .before .before .before .before .cross .ensures .1) in
     let n = subst (OntoOnward _) (c .before .next3 .given .1) (c .before .before .before .through .ensures .1) in
     omega arith
 
 through-loop-again-2 : (t : ℕ) → through-lts.Need-loop-again-2 (through-calls t) (through-at t) through.Post through-Inv-loop through-μ-loop
 through-loop-again-2 t c =
-    let w = subst (CrossOnward _ _) (c .before .before .before .before .before .before .t .given .1) (c .before .before .before .before .before .before .before .before .cross .ensures .1) in
+    let w = subst (CrossOnward _ _) (c .before .before .before .before .before .before .t .given .1)
+    (c .before .before .before .before .before .before .before .before .cross .ensures .1) in
     let n = subst (OntoOnward _) (c .before .next3 .given .1) (c .before .before .before .through .ensures .1) in
-    let i = rw (c .before .before .before .before .less .ensures, c .before .next3 .given .1) at (c .before .before .before .through .ensures .0) in
-    (omega arith, λ x h. c .before .before .before .before .before .before .before .before .before .loop .inv .1 x (through-into _ _ _ _ (c .before .before .before .before .before .before .before .before .cross .ensures .0 ∙ c .before .before .before .before .before .before .t .given .1) w i n h))
+    let i = rw (c .before .before .before .before .less .ensures, c .before .next3 .given .1) at (c .before .before .before .through .ensures .0) in (
+      omega arith,
+      λ x h. c .before .before .before .before .before .before .before .before .before .loop .inv .1 x
+          (through-into _ _ _ _ (c .before .before .before .before .before .before .before .before .cross .ensures .0
+          ∙ c .before .before .before .before .before .before .t .given .1) w i n h),
+    )
 
 through-enum-known-n-2 : (t : ℕ) → through-lts.Need-enum-known-n-2 (through-calls t) (through-at t) through.Post through-Inv-loop through-μ-loop
 through-enum-known-n-2 t c = search needs
 
 through-returns-3 : (t : ℕ) → through-lts.Need-returns-3 (through-calls t) (through-at t) through.Post through-Inv-loop through-μ-loop
 through-returns-3 t c =
-    let w = subst (CrossOnward _ _) (c .before .before .before .before .before .before .t .given .1) (c .before .before .before .before .before .before .before .before .cross .ensures .1) in
-    let i = rw (c .before .before .before .before .less .ensures, c .before .n2 .given .1) at (c .before .before .before .through .ensures .0) in
-    (c .before .before .before .before .before .before .before .before .before .loop .inv .1 _ (through-in-stuck _ _ _ _ (c .before .before .before .before .before .before .before .before .cross .ensures .0 ∙ c .before .before .before .before .before .before .t .given .1) w i), tt)
+    let w = subst (CrossOnward _ _) (c .before .before .before .before .before .before .t .given .1)
+    (c .before .before .before .before .before .before .before .before .cross .ensures .1) in
+    let i = rw (c .before .before .before .before .less .ensures, c .before .n2 .given .1) at (c .before .before .before .through .ensures .0) in (
+      c .before .before .before .before .before .before .before .before .before .loop .inv .1 _
+          (through-in-stuck _ _ _ _ (c .before .before .before .before .before .before .before .before .cross .ensures .0
+          ∙ c .before .before .before .before .before .before .t .given .1) w i),
+      tt,
+    )
 
 pub +through-spec : {M : Type 1} → statement M
 +through-spec = close μ-through λ t. through-lts.spec (through-calls t) (through-at t)

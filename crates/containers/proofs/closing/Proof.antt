@@ -23,10 +23,18 @@ add-t13 : tie.Need-add-t13
 add-t13 c = search needs
 
 returns-4 : tie.Need-returns-4
-returns-4 c = (closing-two _ _ _ (c .before .before .before .before .before .if1 .left) (c .before .before .before .if2 .left) (c .before .before .if3 .left) (c .if4 .taken), omega arith)
+returns-4 c = (
+  closing-two _ _ _ (c .before .before .before .before .before .if1 .left) (c .before .before .before .if2 .left)
+      (c .before .before .if3 .left) (c .if4 .taken),
+  omega arith,
+)
 
 returns-5 : tie.Need-returns-5
-returns-5 c = (closing-one _ _ _ (c .before .before .before .before .before .if1 .left) (c .before .before .before .if2 .left) (c .before .before .if3 .left) (c .if4 .left), tt)
+returns-5 c = (
+  closing-one _ _ _ (c .before .before .before .before .before .if1 .left) (c .before .before .before .if2 .left)
+      (c .before .before .if3 .left) (c .if4 .left),
+  tt,
+)
 
 pub closing-spec : {M : Type 1} → statement M
 closing-spec =

@@ -118,8 +118,11 @@ returns-7 c =
     let the-standing = c .before .before .before .before .before .before .standing in
     let the-t = c .before .before .before .before .t in
     let the-if5 = c .before .if5 in
-    let the-if6 = c .if6 in
-    (cross-into _ _ _ _ (the-standing .ensures .0 ∙ the-t .given .1) (the-if5 .taken) (the-if6 .left), subst (Onward _ _) (the-t .given .1) (the-standing .ensures .1))
+    let the-if6 = c .if6 in (
+      cross-into _ _ _ _ (the-standing .ensures .0 ∙ the-t .given .1) (the-if5 .taken) (the-if6 .left),
+      subst (Onward _ _) (the-t .given .1)
+          (the-standing .ensures .1),
+    )
 
 skip-requires-2 : tie.Need-skip-requires-2
 skip-requires-2 c κs = search needs

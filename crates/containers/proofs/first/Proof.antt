@@ -105,7 +105,8 @@ returns-5 c =
     let the-if4 = c .before .before .if4 in
     let the-too-deep2 = c .before .too-deep2 in
     let the-if5 = c .if5 in (
-      first-deep _ _ _ _ (the-standing .ensures .0 ∙ the-t .given .1) (the-agree2 .ensures ∙ not-false _ (the-if4 .left)) (the-too-deep2 .ensures ∙ the-if5 .taken),
+      first-deep _ _ _ _ (the-standing .ensures .0 ∙ the-t .given .1) (the-agree2 .ensures ∙ not-false _ (the-if4 .left))
+          (the-too-deep2 .ensures ∙ the-if5 .taken),
       tt,
     )
 
@@ -129,7 +130,8 @@ returns-8 c =
     let the-if4 = c .before .before .if4 in
     let the-too-deep2 = c .before .too-deep2 in
     let the-if5 = c .if5 in (
-      first-here _ _ _ _ (the-standing .ensures .0 ∙ the-t .given .1) (the-agree2 .ensures ∙ not-false _ (the-if4 .left)) (the-too-deep2 .ensures ∙ the-if5 .left),
+      first-here _ _ _ _ (the-standing .ensures .0 ∙ the-t .given .1) (the-agree2 .ensures ∙ not-false _ (the-if4 .left))
+          (the-too-deep2 .ensures ∙ the-if5 .left),
       subst (Onward _ _) (the-t .given .1) (the-standing .ensures .1),
     )
 

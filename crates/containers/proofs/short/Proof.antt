@@ -47,7 +47,8 @@ returns-7 c =
     let the-size = c .before .before .size in
     let the-if6 = c .before .if6 in
     let the-if7 = c .if7 in
-    λ h. short-definite _ _ _ (the-if2 .left) (the-if3 .left) (omega (arith, the-if5 .left)) (the-if4 .left) (the-size .ensures) (the-if6 .taken) (the-if7 .left)
+    λ h. short-definite _ _ _ (the-if2 .left) (the-if3 .left) (omega (arith, the-if5 .left)) (the-if4 .left) (the-size .ensures) (the-if6 .taken)
+    (the-if7 .left)
 
 returns-8 : tie.Need-returns-8
 returns-8 c =
@@ -58,7 +59,8 @@ returns-8 c =
     let the-size = c .before .before .before .size in
     let the-if8 = c .before .if8 in
     let the-if9 = c .if9 in
-    λ h. short-open _ _ _ (the-if2 .left) (the-if3 .left) (omega (arith, the-if5 .left)) (the-if4 .left) (sym (the-size .ensures) ∙ the-if8 .taken) (the-if9 .taken)
+    λ h. short-open _ _ _ (the-if2 .left) (the-if3 .left) (omega (arith, the-if5 .left)) (the-if4 .left) (sym (the-size .ensures) ∙ the-if8 .taken)
+    (the-if9 .taken)
 
 returns-9 : tie.Need-returns-9
 returns-9 c = λ h. absurd (omega arith)

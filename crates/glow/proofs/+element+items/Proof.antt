@@ -66,10 +66,38 @@ abbrev items-below : ℕ → In 2 items-kinds.ps
 items-below t = and 2 items-kinds.ps (falls 2 items-kinds.ps _<_ μ-items t) items.Pre
 
 abbrev element-calls : ℕ → element-lts.Claims
-element-calls t = (member-at-reads.Asked, member-at-reads.Learnt, put-cell-reads.Asked, put-cell-reads.Learnt, less-reads.Asked, less-reads.Learnt, contents-of-reads.Asked, contents-of-reads.Learnt, element-below t, element.Post, close-reads.Asked, close-reads.Learnt, items-below t, items.Post)
+element-calls t = (
+  member-at-reads.Asked,
+  member-at-reads.Learnt,
+  put-cell-reads.Asked,
+  put-cell-reads.Learnt,
+  less-reads.Asked,
+  less-reads.Learnt,
+  contents-of-reads.Asked,
+  contents-of-reads.Learnt,
+  element-below t,
+  element.Post,
+  close-reads.Asked,
+  close-reads.Learnt,
+  items-below t,
+  items.Post,
+)
 
 abbrev items-calls : ℕ → items-lts.Claims
-items-calls t = (item-at-reads.Asked, item-at-reads.Learnt, word-reads.Asked, word-reads.Learnt, blank-reads.Asked, blank-reads.Learnt, less-reads.Asked, less-reads.Learnt, element-below t, element.Post, close-reads.Asked, close-reads.Learnt)
+items-calls t = (
+  item-at-reads.Asked,
+  item-at-reads.Learnt,
+  word-reads.Asked,
+  word-reads.Learnt,
+  blank-reads.Asked,
+  blank-reads.Learnt,
+  less-reads.Asked,
+  less-reads.Learnt,
+  element-below t,
+  element.Post,
+  close-reads.Asked,
+  close-reads.Learnt,
+)
 
 abbrev element-Inv-loop : element-lts.InvT-loop
 element-Inv-loop s from o k row me path n table₀ parent p₀ before₀ above₀ count₀ table p before above count =

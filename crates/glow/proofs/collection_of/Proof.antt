@@ -1,4 +1,4 @@
-use Rattle.glow.proofs.Rooted.{collection-kids, collection-links, class-kids, class-other, number-body, number-kids, number-links, root-elements, root-streams, root-none}
+use Rattle.glow.proofs.Rooted.{collection-kids, collection-links}
 use Rattle.grammar.specs.Grammar.{collectionOf}
 use borrow.Author.Tests.{eq-eqb, ne-eqb}
 use Rattle.glow.proofs.collection_of.Statement.{statement}

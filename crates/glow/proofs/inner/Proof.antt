@@ -28,8 +28,11 @@ returns-2 c =
     let the-inner-number = c .before .before .before .inner-number in
     let the-is-tag = c .before .before .is-tag in
     let the-if1 = c .before .if1 in
-    let the-if2 = c .if2 in
-    (inner-contents _ _ _ _ _ (rw (the-inner-class .ensures, the-inner-number .ensures) (the-is-tag .ensures ∙ not-false _ (the-if1 .left))) (the-if2 .taken), λ s p w l. (w, l))
+    let the-if2 = c .if2 in (
+      inner-contents _ _ _ _ _ (rw (the-inner-class .ensures, the-inner-number .ensures) (the-is-tag .ensures ∙ not-false _ (the-if1 .left)))
+          (the-if2 .taken),
+      λ s p w l. (w, l),
+    )
 
 collection-of-requires : tie.Need-collection-of-requires
 collection-of-requires c κs = search needs
@@ -41,8 +44,12 @@ returns-3 c =
     let the-inner-number = c .before .before .before .before .inner-number in
     let the-is-tag = c .before .before .before .is-tag in
     let the-if1 = c .before .before .if1 in
-    let the-if2 = c .before .if2 in
-    (rw (← the-collection-of .ensures) (inner-items _ _ _ _ _ (rw (the-inner-class .ensures, the-inner-number .ensures) (the-is-tag .ensures ∙ not-false _ (the-if1 .left))) (the-if2 .left)), λ s p w l. (w, l))
+    let the-if2 = c .before .if2 in (
+      rw (← the-collection-of .ensures)
+          (inner-items _ _ _ _ _ (rw (the-inner-class .ensures, the-inner-number .ensures) (the-is-tag .ensures ∙ not-false _ (the-if1 .left)))
+          (the-if2 .left)),
+      λ s p w l. (w, l),
+    )
 
 pub inner-spec : {M : Type 1} → statement M
 inner-spec =

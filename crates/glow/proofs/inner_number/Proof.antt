@@ -1,4 +1,4 @@
-use Rattle.glow.proofs.Rooted.{collection-kids, collection-links, class-kids, class-other, number-body, number-kids, number-links, root-elements, root-streams, root-none}
+use Rattle.glow.proofs.Rooted.{number-body, number-kids, number-links}
 use Rattle.glow.proofs.inner_number.Statement.{statement}
 use Rattle.glow.proofs.inner_number.Tie as tie
 

@@ -23,8 +23,11 @@ returns c =
     let the-first = c .before .before .before .before .before .first in
     let the-if1 = c .before .if1 in
     let the-inner = c .inner in
-    let a = subst (FoundOnward _ _) (the-g .given .1) (the-first .ensures .1) in
-    (listed-inner _ _ _ _ _ _ _ (the-first .ensures .0 ∙ the-g .given .1) (the-if1 .taken) ∙ the-inner .ensures .0, the-inner .ensures .1 _ _ (a .within) (a .later))
+    let a = subst (FoundOnward _ _) (the-g .given .1) (the-first .ensures .1) in (
+      listed-inner _ _ _ _ _ _ _ (the-first .ensures .0 ∙ the-g .given .1) (the-if1 .taken) ∙ the-inner .ensures .0,
+      the-inner .ensures .1 _ _
+          (a .within) (a .later),
+    )
 
 plain-requires : tie.Need-plain-requires
 plain-requires c κs =

@@ -69,8 +69,11 @@ returns c =
     let the-read-leaf = c .before .before .before .read-leaf in
     let the-number = c .before .number in
     let h = the-brief .ensures (the-if1 .taken) in
-    let r = the-next-rule .ensures (the-if3 .taken) in
-    (brief-no _ _ _ _ _ _ _ _ _ h (the-if2 .taken) r (the-if3 .taken) (the-if4 .taken) (the-wide .ensures .0) refl (the-read-leaf .ensures .0 ∙ the-number .given .1), tt)
+    let r = the-next-rule .ensures (the-if3 .taken) in (
+      brief-no _ _ _ _ _ _ _ _ _ h (the-if2 .taken) r (the-if3 .taken) (the-if4 .taken) (the-wide .ensures .0) refl
+          (the-read-leaf .ensures .0 ∙ the-number .given .1),
+      tt,
+    )
 
 enum-known-v : tie.Need-enum-known-v
 enum-known-v c = search needs
@@ -116,7 +119,8 @@ returns-2 c =
     let the-column-of = c .column-of in
     let h = the-brief .ensures (the-if1 .taken) in
     let r = the-next-rule .ensures (the-if3 .taken) in (
-      brief-kept _ _ _ _ _ _ _ _ _ h (the-if2 .taken) r (the-if3 .taken) (the-if4 .taken) (the-wide .ensures .0) refl (the-read-leaf .ensures .0 ∙ the-v .given .1)
+      brief-kept _ _ _ _ _ _ _ _ _ h (the-if2 .taken) r (the-if3 .taken) (the-if4 .taken) (the-wide .ensures .0) refl
+          (the-read-leaf .ensures .0 ∙ the-v .given .1)
           (the-wide2 .ensures .0) (the-after-listed .ensures) (the-column-of .ensures) refl,
       (omega (arith, h .outer .inside), omega arith),
     )

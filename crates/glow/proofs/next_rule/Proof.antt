@@ -46,7 +46,8 @@ returns-6 c =
     let the-if4 = c .before .before .if4 in
     let the-is-again = c .before .is-again in
     let the-if5 = c .if5 in
-    λ h. next-is _ _ _ (the-if1 .left) (the-wide .ensures .0) (the-rule-of .ensures) (the-if3 .left) (the-in-order .ensures ∙ not-false _ (the-if4 .left)) (the-is-again .ensures ∙ the-if5 .left)
+    λ h. next-is _ _ _ (the-if1 .left) (the-wide .ensures .0) (the-rule-of .ensures) (the-if3 .left)
+    (the-in-order .ensures ∙ not-false _ (the-if4 .left)) (the-is-again .ensures ∙ the-if5 .left)
 
 pub next-rule-spec : {M : Type 1} → statement M
 next-rule-spec =

@@ -1,4 +1,4 @@
-use Rattle.glow.proofs.Rooted.{collection-kids, collection-links, class-kids, class-other, number-body, number-kids, number-links, root-elements, root-streams, root-none}
+use Rattle.glow.proofs.Rooted.{root-elements, root-streams, root-none}
 use Rattle.glow.proofs.root_number.Statement.{statement}
 use Rattle.glow.proofs.root_number.Tie as tie
 
