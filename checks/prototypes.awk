@@ -37,7 +37,7 @@ function parameter(type,    const) {
         const = ""
         type = trim(substr(type, 5))
     }
-    # A slice has no ";" at its own level: [u64], [[u64; 34]].
+    # A slice has no ";" at its own level: [u64], [[u64; 50]].
     if (type ~ /^\[\[.*\]\]$/ || (type ~ /^\[/ && type !~ /;/))
         return pointer(trim(substr(type, 2, length(type) - 2)), const, 1) ", size_t"
     return pointer(type, const, 0)
