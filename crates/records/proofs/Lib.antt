@@ -2,3 +2,4 @@
 mod Answers
 mod Back
 pub mod RoundTrip
+pub mod Vectors

@@ -1,0 +1,80 @@
+-- A row of each kind, word for word, by computation: document 01's context numbers, each in its cell. Where a member is a number, it is here its own
+-- context number plus 100, so that a member in another's cell shows.
+use mathlib.Core.Path.{_≡_, refl}
+use mathlib.Core.Bool.{true, false}
+use mathlib.Core.List.{List, [], _∷_}
+use lib.IntN.{pos, negsuc}
+use Rattle.values.specs.declared.Value.the-variants.{Absent, Int, Real, Text, Bool as Truth, Octets}
+use Rattle.entries.specs.Entry.{words, blanks}
+use Rattle.records.specs.declared.Number.the-variants.{Absent as NoNumber, Is as IsNumber}
+use Rattle.records.specs.declared.Flag.the-variants.{Absent as NoFlag, Is as IsFlag}
+use Rattle.records.specs.declared.Part.the-variants.{Absent as NoPart, At as PartAt}
+use Rattle.records.specs.declared.Key.the-variants.{Number as ByNumber, Path as ByPath}
+use Rattle.records.specs.declared.Parent.the-variants.{Root, At}
+use Rattle.records.specs.Record.{parameterRow, nodeRow, matrixRow, commandRow, connectionRow, streamRow}
+
+-- "value 2, minimum 3, maximum 4, access 5, factor 8, online 9, step 11, stream identifier 14", behind identifier 0 and description 1
+pub v-parameter : parameterRow (record {
+  parent = At 4;
+  key = ByNumber (pos 7);
+  identifier = PartAt 10 3;
+  description = PartAt 20 5;
+  value = Int (negsuc 0);
+  minimum = Truth true;
+  maximum = Text 30 2;
+  access = IsNumber (pos 105);
+  factor = IsNumber (pos 108);
+  online = IsFlag true;
+  step = IsNumber (pos 111);
+  stream = IsNumber (pos 114);
+})
+    ≡ 1 ∷ 5 ∷ 2 ∷ 7 ∷ 0 ∷ 12 ∷ 10 ∷ 3 ∷ 12 ∷ 20 ∷ 5 ∷ 2 ∷ 18446744073709551615 ∷ 0 ∷ 1 ∷ 1 ∷ 0 ∷ 12 ∷ 30 ∷ 2 ∷ 2 ∷ 105 ∷ 0 ∷ 0 ∷ 0 ∷ 0 ∷ 0 ∷ 0 ∷ 0
+    ∷ 2 ∷ 108 ∷ 0 ∷ 1 ∷ 1 ∷ 0 ∷ 0 ∷ 0 ∷ 0 ∷ 2 ∷ 111 ∷ 0 ∷ 0 ∷ 0 ∷ 0 ∷ 0 ∷ 0 ∷ 0 ∷ 2 ∷ 114 ∷ 0 ∷ []
+unfolding parameterRow words
+v-parameter = refl
+
+-- "root flag 2, online 3"; a qualified one has a path
+pub v-node : nodeRow (record {
+  parent = Root;
+  key = ByPath 40 2;
+  identifier = PartAt 10 3;
+  description = NoPart;
+  root = IsFlag true;
+  online = IsFlag false;
+})
+    ≡ 6 ∷ 0 ∷ 13 ∷ 40 ∷ 2 ∷ 12 ∷ 10 ∷ 3 ∷ 0 ∷ 0 ∷ 0 ∷ 1 ∷ 1 ∷ 0 ∷ 1 ∷ 0 ∷ 0 ∷ words (blanks 11)
+unfolding nodeRow words
+v-node = refl
+
+-- "type 2, mode 3, targets 4, sources 5, total limit 6, limit per target 7"
+pub v-matrix : matrixRow (record {
+  parent = Root;
+  key = ByNumber (pos 9);
+  identifier = NoPart;
+  description = PartAt 20 5;
+  «matrix_type» = IsNumber (pos 102);
+  mode = IsNumber (pos 103);
+  targets = IsNumber (pos 104);
+  sources = IsNumber (pos 105);
+  «total_limit» = IsNumber (pos 106);
+  «target_limit» = IsNumber (pos 107);
+})
+    ≡ 4 ∷ 0 ∷ 2 ∷ 9 ∷ 0 ∷ 0 ∷ 0 ∷ 0 ∷ 12 ∷ 20 ∷ 5 ∷ 2 ∷ 102 ∷ 0 ∷ 2 ∷ 103 ∷ 0 ∷ 2 ∷ 104 ∷ 0 ∷ 2 ∷ 105 ∷ 0 ∷ 2 ∷ 106 ∷ 0 ∷ 2 ∷ 107 ∷ 0 ∷ words (blanks 7)
+unfolding matrixRow words
+v-matrix = refl
+
+-- "Command: number 0, mask 1. StreamEntry: identifier 0, value 1. Connection: target 0, sources 1, operation 2."
+pub v-command : commandRow (record { parent = At 0; number = pos 100; mask = IsNumber (negsuc 0) })
+    ≡ 2 ∷ 1 ∷ 2 ∷ 100 ∷ 0 ∷ 2 ∷ 18446744073709551615 ∷ 0 ∷ words (blanks 14)
+unfolding commandRow words
+v-command = refl
+
+pub v-connection : connectionRow (record { parent = At 2; target = pos 100; sources = PartAt 50 4; operation = IsNumber (pos 102) })
+    ≡ 8 ∷ 3 ∷ 2 ∷ 100 ∷ 0 ∷ 13 ∷ 50 ∷ 4 ∷ 2 ∷ 102 ∷ 0 ∷ words (blanks 13)
+unfolding connectionRow words
+v-connection = refl
+
+pub v-stream : streamRow (record { parent = Root; identifier = pos 100; value = Octets 60 6 })
+    ≡ 9 ∷ 0 ∷ 2 ∷ 100 ∷ 0 ∷ 4 ∷ 60 ∷ 6 ∷ words (blanks 14)
+unfolding streamRow words
+v-stream = refl
