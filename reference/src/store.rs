@@ -1,6 +1,6 @@
 //! The stored inputs and expected outputs of the programs and of a C example.
 
-use crate::{gateway, gen, programs, tree_text};
+use crate::{gateway, gen, listing, programs, tree_text};
 use std::path::{Path, PathBuf};
 
 /// Every stored file, from the repository's root, with what it must hold.
@@ -11,6 +11,7 @@ fn files() -> Vec<(&'static str, Vec<u8>)> {
     let stream = gateway::stream();
     let (passed, counts) = gateway::gateway(&stream);
     let packets = gen::packets::stored();
+    let stored_listing = gen::tree::stored_listing();
     vec![
         ("crates/frames/stdout", programs::frames(&frames).into_bytes()),
         ("crates/frames/stdin", frames),
@@ -23,6 +24,8 @@ fn files() -> Vec<(&'static str, Vec<u8>)> {
         ("examples/gateway/check/stream.hex", gateway::hex_lines(&stream)),
         ("crates/packets/stdout", programs::packets(&packets).into_bytes()),
         ("crates/packets/stdin", packets),
+        ("crates/listing/stdout", listing::listing(&stored_listing).into_bytes()),
+        ("crates/listing/stdin", stored_listing),
     ]
 }
 

@@ -276,6 +276,23 @@ fn parts(random: &mut Random, count: usize) -> Vec<usize> {
     kinds
 }
 
+/// A part of each kind but the longest, in a drawn order; with `long` also every header and flag, long frames, and
+/// messages over the limit.
+pub fn some_of_each(random: &mut Random, long: bool) -> Vec<u8> {
+    let mut kinds: Vec<usize> = (0..13).filter(|kind| long || *kind != 7).collect();
+    random.shuffle(&mut kinds);
+    let mut stream = Vec::new();
+    for kind in kinds {
+        stream.extend(part(random, kind));
+    }
+    if long {
+        stream.extend(headers());
+        stream.extend(every_flags());
+        stream.extend(big_messages(random));
+    }
+    stream
+}
+
 /// An input of the program `frames`, and how many parts of each kind it has.
 pub fn input(seed: u64, count: usize) -> (Vec<u8>, [usize; KINDS.len()]) {
     let mut random = Random::new(seed);

@@ -3,8 +3,8 @@
 pub mod requests;
 pub mod rules;
 
-use super::{bad_hex_line, chunked, mutate_bytes, Random};
-use crate::framing::{packet, write_frame, write_keep_alive, MESSAGE_MAX};
+use super::{bad_hex_line, chunked, chunked_in, frames, mutate_bytes, Random};
+use crate::framing::{packet, write_frame, write_keep_alive, write_message, MESSAGE_MAX};
 use crate::lines::hex;
 use crate::tree::*;
 use crate::values::{
@@ -736,6 +736,34 @@ pub fn listing_input(seed: u64, count: usize) -> (Vec<u8>, [usize; KINDS.len()])
     (text, kinds_seen)
 }
 
+/// The stored input of the listing program: every event and every answer of the tree reader, in many chunkings, then
+/// the sample of document 01, in which nothing is open. No bad line.
+pub fn stored_listing() -> Vec<u8> {
+    let mut random = Random::new(401);
+    let random = &mut random;
+    let mut text = String::new();
+    for round in 0..12 {
+        let mut stream = frames::some_of_each(random, round == 0);
+        let mut wanted = vec![0, 30, 31, 32, 33, 34, 35, 36, 37];
+        if round == 0 {
+            wanted.push(38);
+        }
+        while !wanted.is_empty() {
+            let (message, _) = message(random);
+            let number = read(&message, TABLE_MAX).number();
+            if let Some(at) = wanted.iter().position(|one| *one == number) {
+                if message.len() <= 400 || number == 38 {
+                    wanted.remove(at);
+                    stream.extend(write_message(&message).unwrap().concat());
+                }
+            }
+        }
+        text += &chunked_in(random, &stream, round % 8);
+    }
+    text += "FE000E010194E4FF\nFE000E0201FDDCCEFF\nFEFF\n00\n";
+    text.into_bytes()
+}
+
 #[cfg(test)]
 mod tests {
     use super::*;
@@ -759,6 +787,24 @@ mod tests {
             assert!(written.len() <= message.len());
         }
         assert!(long < 30, "{long}");
+    }
+
+    #[test]
+    fn stored_listing_shows_every_number() {
+        let input = stored_listing();
+        assert!(input.len() < 400_000, "{}", input.len());
+        let output = crate::listing::listing(&input);
+        let shown = |end: &str| output.lines().filter(|line| line.split_once(' ').is_some_and(|(_, rest)| rest == end)).count();
+        for number in [2, 4, 5, 10, 11, 12, 13, 14, 15, 16, 20, 21, 22, 23, 24] {
+            assert!(shown(&number.to_string()) > 0, "no event {number}");
+        }
+        for number in [0, 30, 31, 32, 33, 34, 35, 36, 37, 38] {
+            assert!(shown(&format!("3 {number}")) > 0, "no answer {number}");
+        }
+        // The sample: the last four events.
+        let last: Vec<&str> = output.lines().rev().take(5).filter_map(|line| line.split(' ').nth(1)).collect();
+        assert_eq!(last[1..], ["10", "15", "5", "4"]);
+        assert!(output.lines().all(|line| line != "bad line"));
     }
 
     #[test]
