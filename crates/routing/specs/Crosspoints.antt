@@ -12,12 +12,14 @@ use Rattle.routing.specs.Figures.{oneToOne, nToN, both, figuresFit, most
 abbrev pub Cells : Type 0
 Cells = List ℕ
 
+-- 1 for a cell that is set
+unfoldable pub bit : ℕ → ℕ
+bit c = pick (eqb c 0) 0 1
+
 -- how many cells are set
 unfoldable pub count : Cells → ℕ
 count [] = 0
-count (c ∷ cs) =
-    let rest : ℕ = count cs in
-    pick (eqb c 0) rest (suc rest)
+count (c ∷ cs) = bit c + count cs
 
 -- every cell is 0 or 1
 unfoldable pub allBits : Cells → Bool
@@ -42,9 +44,7 @@ withRow w cells t new = take (t * w) cells ++ (new ++ drop (t * w + w) cells)
 -- how many of the first n targets have a source
 unfoldable pub holders : ℕ → Cells → ℕ → ℕ → ℕ
 holders w cells s zero = 0
-holders w cells s (suc n) =
-    let rest : ℕ = holders w cells s n in
-    pick (eqb (getD cells (n * w + s) 0) 0) rest (suc rest)
+holders w cells s (suc n) = bit (getD cells (n * w + s) 0) + holders w cells s n
 
 -- a source taken from the first n targets
 unfoldable pub takenFrom : ℕ → Cells → ℕ → ℕ → Cells

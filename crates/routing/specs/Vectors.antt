@@ -8,7 +8,7 @@ use Rattle.routing.specs.declared.Limit.{Limit}
 use Rattle.routing.specs.declared.Limit.the-variants.{Absent, Most}
 use Rattle.routing.specs.declared.Figures.{Figures}
 use Rattle.routing.specs.Figures.{isCount, figuresFit, mostEach, mostTotal}
-use Rattle.routing.specs.Crosspoints.{Cells, count, allBits, clear, rowAt, withRow, holders, takenFrom, mostAt, rowFits, rowsFit, sourcesFit}
+use Rattle.routing.specs.Crosspoints.{Cells, bit, count, allBits, clear, rowAt, withRow, holders, takenFrom, mostAt, rowFits, rowsFit, sourcesFit}
 use Rattle.routing.specs.Crosspoints.{kindFits, cellsFit, legal, Answer, answer, opened}
 use Rattle.routing.specs.Request.{marked, named, allBelow, replaces, becomes, takes, others, result, many, overTotal, judged, asked, requested}
 
@@ -63,7 +63,8 @@ pub v-legality :
     (legal 3 (figures 2 3 2 Absent Absent) (cells9 0 0 1 0 0 0 0 0 0) ≡ false) ×
     -- cells of another count
     (legal 3 (desk 0) (0 ∷ []) ≡ false)
-unfolding isCount figuresFit mostEach mostTotal count allBits clear rowAt withRow holders takenFrom mostAt rowFits rowsFit sourcesFit kindFits cellsFit legal
+unfolding isCount figuresFit mostEach mostTotal
+    bit count allBits clear rowAt withRow holders takenFrom mostAt rowFits rowsFit sourcesFit kindFits cellsFit legal
 v-legality = (refl, refl, refl, refl, refl, refl, refl, refl, refl, refl, refl, refl, refl)
 
 -- "1 SETUP": a desk that is not legal, then an operation that is none.
@@ -74,7 +75,8 @@ pub v-refused :
     (requested 3 (figures 2 2 3 Absent Absent) 2 (9 ∷ []) 0 (cells9 1 0 0 0 0 0 0 0 0) ≡ answer 41 (cells9 1 0 0 0 0 0 0 0 0)) ×
     (requested 3 (figures 2 2 2 Absent Absent) 1 (1 ∷ 2 ∷ []) 0 (cells9 1 0 0 0 0 0 0 0 0) ≡ answer 42 (cells9 1 0 0 0 0 0 0 0 0)) ×
     (requested 3 (figures 2 2 2 Absent Absent) 1 (2 ∷ []) 2 (cells9 1 0 0 0 0 0 0 0 0) ≡ answer 42 (cells9 1 0 0 0 0 0 0 0 0))
-unfolding isCount figuresFit mostEach mostTotal count allBits clear rowAt withRow holders takenFrom mostAt rowFits rowsFit sourcesFit kindFits cellsFit legal
+unfolding isCount figuresFit mostEach mostTotal
+    bit count allBits clear rowAt withRow holders takenFrom mostAt rowFits rowsFit sourcesFit kindFits cellsFit legal
     marked named allBelow replaces becomes takes others result many overTotal judged asked requested
 v-refused = (refl, refl, refl, refl, refl)
 
@@ -86,7 +88,8 @@ pub v-many-sources :
     -- "A missing list is empty."
     (requested 3 (desk 2) 0 [] 0 (cells9 1 1 1 0 1 0 0 0 0) ≡ answer 0 (cells9 0 0 0 0 1 0 0 0 0)) ×
     (requested 3 (desk 2) 0 [] 1 (cells9 1 1 1 0 1 0 0 0 0) ≡ answer 0 (cells9 1 1 1 0 1 0 0 0 0))
-unfolding isCount figuresFit mostEach mostTotal count allBits clear rowAt withRow holders takenFrom mostAt rowFits rowsFit sourcesFit kindFits cellsFit legal
+unfolding isCount figuresFit mostEach mostTotal
+    bit count allBits clear rowAt withRow holders takenFrom mostAt rowFits rowsFit sourcesFit kindFits cellsFit legal
     marked named allBelow replaces becomes takes others result many overTotal judged asked requested
 v-many-sources = (refl, refl, refl, refl, refl)
 
@@ -101,7 +104,8 @@ pub v-limits :
     (requested 3 (figures 2 3 3 (Most 3) (Most 2)) 2 (1 ∷ []) 0 (cells9 1 1 0 0 0 0 1 0 0) ≡ answer 0 (cells9 1 1 0 0 0 0 0 1 0)) ×
     -- 43 before 44
     (requested 3 (figures 2 3 3 (Most 3) (Most 2)) 2 (0 ∷ 1 ∷ 2 ∷ []) 0 (cells9 1 1 0 0 0 0 1 0 0) ≡ answer 43 (cells9 1 1 0 0 0 0 1 0 0))
-unfolding isCount figuresFit mostEach mostTotal count allBits clear rowAt withRow holders takenFrom mostAt rowFits rowsFit sourcesFit kindFits cellsFit legal
+unfolding isCount figuresFit mostEach mostTotal
+    bit count allBits clear rowAt withRow holders takenFrom mostAt rowFits rowsFit sourcesFit kindFits cellsFit legal
     marked named allBelow replaces becomes takes others result many overTotal judged asked requested
 v-limits = (refl, refl, refl, refl, refl, refl)
 
@@ -117,7 +121,8 @@ pub v-one-source :
     (requested 3 (desk 0) 0 (0 ∷ 1 ∷ 2 ∷ []) 2 (cells9 0 0 1 1 0 0 0 0 0) ≡ answer 0 (cells9 0 0 0 1 0 0 0 0 0)) ×
     -- "only N:N heeds them"
     (requested 3 (figures 0 3 3 (Most 1) (Most 1)) 1 (2 ∷ []) 1 (cells9 0 0 1 0 0 0 0 0 0) ≡ answer 0 (cells9 0 0 1 0 0 1 0 0 0))
-unfolding isCount figuresFit mostEach mostTotal count allBits clear rowAt withRow holders takenFrom mostAt rowFits rowsFit sourcesFit kindFits cellsFit legal
+unfolding isCount figuresFit mostEach mostTotal
+    bit count allBits clear rowAt withRow holders takenFrom mostAt rowFits rowsFit sourcesFit kindFits cellsFit legal
     marked named allBelow replaces becomes takes others result many overTotal judged asked requested
 v-one-source = (refl, refl, refl, refl, refl, refl, refl)
 
@@ -128,6 +133,7 @@ pub v-taken :
     -- absolute with no source empties this target alone; disconnect takes from this target alone
     (requested 3 (desk 1) 0 [] 0 (cells9 0 0 1 1 0 0 0 1 0) ≡ answer 0 (cells9 0 0 0 1 0 0 0 1 0)) ×
     (requested 3 (desk 1) 0 (0 ∷ []) 2 (cells9 0 0 1 1 0 0 0 1 0) ≡ answer 0 (cells9 0 0 1 1 0 0 0 1 0))
-unfolding isCount figuresFit mostEach mostTotal count allBits clear rowAt withRow holders takenFrom mostAt rowFits rowsFit sourcesFit kindFits cellsFit legal
+unfolding isCount figuresFit mostEach mostTotal
+    bit count allBits clear rowAt withRow holders takenFrom mostAt rowFits rowsFit sourcesFit kindFits cellsFit legal
     marked named allBelow replaces becomes takes others result many overTotal judged asked requested
 v-taken = (refl, refl, refl, refl)
