@@ -1,0 +1,4 @@
+pub mod Figures
+pub mod Crosspoints
+pub mod Request
+pub mod Vectors
