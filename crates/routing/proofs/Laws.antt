@@ -322,3 +322,23 @@ pub part-length : (w : ℕ) (cells : Cells) (n : ℕ) → n * w + w ≤ length c
 part-length w cells n h =
     let d : n * w + w - n * w ≡ w = omega arith in
     length-take-le _ _ (omega (arith, length-drop (n * w) cells, h)) ∙ d
+
+-- one request
+pub marked-end : (v : ℕ) (r : Cells) (l : List ℕ) (i : ℕ) → length l ≤ i → marked v r (drop i l) ≡ r
+unfolding marked
+marked-end v r l i h = rw (part-none l i h)
+
+pub marked-more : (v : ℕ) (r r′ : Cells) (l : List ℕ) (i : ℕ) → i < length l → r′ ≡ set r (getD l i 0) v
+    → marked v r (drop i l) ≡ marked v r′ (drop (i + 1) l)
+unfolding marked
+marked-more v r r′ l i h e = rw (part-one l i h, e)
+
+pub taken-end : (w : ℕ) (cells : Cells) (s t : ℕ) → t ≤ 0 → takenFrom w cells s t ≡ cells
+unfolding takenFrom
+taken-end w cells s zero h = refl
+taken-end w cells s (suc n) h = absurd (omega arith)
+
+pub taken-more : (w : ℕ) (cells cells′ : Cells) (s t n : ℕ) → t ≡ suc n → cells′ ≡ set cells (n * w + s) 0
+    → takenFrom w cells s t ≡ takenFrom w cells′ s n
+unfolding takenFrom
+taken-more w cells cells′ s t n k e = rw (k, e)

@@ -2,11 +2,11 @@
 ghost use mathlib.Core.Path.{_≡_};
 ghost use Prim.Native.Nat.{_+_, _≤_};
 ghost use lib.Dec.{leb};
-ghost use lib.ListN.{length};
+ghost use lib.ListN.{length, set};
 ghost use Rattle.routing.specs.Figures.{side, isCount, isLimit, figuresFit, limitOr, mostEach, mostTotal};
-ghost use Rattle.routing.specs.Crosspoints.{bit, count, allBits, clear, holders, mostAt, rowFits, rowsFit, sourcesFit};
+ghost use Rattle.routing.specs.Crosspoints.{bit, count, allBits, clear, holders, takenFrom, mostAt, rowFits, rowsFit, sourcesFit};
 ghost use Rattle.routing.specs.Crosspoints.{kindFits, cellsFit, legal, answer, opened};
-ghost use Rattle.routing.specs.Request.{allBelow};
+ghost use Rattle.routing.specs.Request.{marked, allBelow};
 
 // "1 to 64 targets, 1 to 64 sources": also the row size of the crosspoints.
 const SIDE: usize = 64;
@@ -298,4 +298,36 @@ pub fn open(f: Figures, mode: u64, crosspoints: &mut [u8]) -> u64
     }
     wipe(crosspoints);
     0
+}
+
+// The cells of the sources named set to v; a source past the cells' end does nothing.
+fn mark(cells: &mut [u8], sources: &[u64], v: u8)
+    ensures { λ _. ⌜ now (cells .exit) ≡ marked v (now (cells .entry)) (now (sources .entry)) ⌝ }
+{
+    let mut i = 0;
+    while i < sources.len() {
+        put(cells, sources[i], v);
+        i += 1;
+    }
+}
+
+fn put(cells: &mut [u8], at: u64, v: u8)
+    ensures { λ _. ⌜ now (cells .exit) ≡ set (now (cells .entry)) at v ⌝ }
+{
+    if at < word(cells.len()) {
+        let i = at as usize;
+        cells[i] = v;
+    }
+}
+
+// A source taken from every target.
+fn take_from(cells: &mut [u8], s: u64)
+    requires { ⌜ s + 1 ≤ 64 ⌝ }
+    ensures { λ _. ⌜ now (cells .exit) ≡ takenFrom side (now (cells .entry)) s side ⌝ }
+{
+    let mut t = 64;
+    while 0 < t {
+        t -= 1;
+        put(cells, t * 64 + s, 0);
+    }
 }
