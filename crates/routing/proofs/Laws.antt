@@ -6,7 +6,7 @@ use mathlib.Core.Bool.{Bool, true, false, true≢false}
 use native.Mathlib.Omega.{arith}
 use borrow.Author.Tests.{leb-true, le-leb, lt-leb, lt-ltb, le-ltb, eq-eqb, ne-eqb}
 use lib.ListN.{length, take, drop, getD, set, drop-of-length-le, length-drop}
-use lib.Seq.{drop-cons, length-take-le, take-suc-set, take-all}
+use lib.Seq.{drop-cons, length-take-le, take-suc, take-suc-set, take-all}
 use lib.Dec.{leb, ltb, eqb}
 use Rattle.integers.specs.Digits.{pick}
 use Rattle.routing.specs.declared.Limit.{Limit}
@@ -15,7 +15,7 @@ use Rattle.routing.specs.declared.Figures.{Figures}
 use Rattle.routing.specs.Figures.{both, isCount, isLimit, figuresFit, limitOr, mostEach, mostTotal}
 use Rattle.routing.specs.Crosspoints.{Cells, bit, count, allBits, clear, rowAt, withRow, holders, takenFrom, mostAt, rowFits, rowsFit, sourcesFit}
 use Rattle.routing.specs.Crosspoints.{kindFits, cellsFit, legal, answer, opened}
-use Rattle.routing.specs.Request.{marked, allBelow}
+use Rattle.routing.specs.Request.{marked, named, allBelow, replaces, becomes}
 
 -- figures
 module _ (w n : ℕ) where
@@ -322,3 +322,63 @@ pub part-length : (w : ℕ) (cells : Cells) (n : ℕ) → n * w + w ≤ length c
 part-length w cells n h =
     let d : n * w + w - n * w ≡ w = omega arith in
     length-take-le _ _ (omega (arith, length-drop (n * w) cells, h)) ∙ d
+
+-- one request
+pub marked-end : (v : ℕ) (r : Cells) (l : List ℕ) (i : ℕ) → length l ≤ i → marked v r (drop i l) ≡ r
+unfolding marked
+marked-end v r l i h = rw (part-none l i h)
+
+pub marked-more : (v : ℕ) (r r′ : Cells) (l : List ℕ) (i : ℕ) → i < length l → r′ ≡ set r (getD l i 0) v
+    → marked v r (drop i l) ≡ marked v r′ (drop (i + 1) l)
+unfolding marked
+marked-more v r r′ l i h e = rw (part-one l i h, e)
+
+pub taken-end : (w : ℕ) (cells : Cells) (s t : ℕ) → t ≤ 0 → takenFrom w cells s t ≡ cells
+unfolding takenFrom
+taken-end w cells s zero h = refl
+taken-end w cells s (suc n) h = absurd (omega arith)
+
+pub taken-more : (w : ℕ) (cells cells′ : Cells) (s t n : ℕ) → t ≡ suc n → cells′ ≡ set cells (n * w + s) 0
+    → takenFrom w cells s t ≡ takenFrom w cells′ s n
+unfolding takenFrom
+taken-more w cells cells′ s t n k e = rw (k, e)
+
+pub copy-more : (to from : Cells) (i : ℕ) → i < length from → length to ≡ length from → take i to ≡ take i from
+    → take (i + 1) (set to i (getD from i 0)) ≡ take (i + 1) from
+copy-more to from i h k e =
+    let d : i + 1 ≡ suc i = omega arith in
+    ap (λ (j : ℕ). take j (set to i (getD from i 0))) d ∙ take-suc-set to i (getD from i 0) (omega (arith, h, k))
+    ∙ ap (λ (x : Cells). x ++ (getD from i 0 ∷ [])) e ∙ sym (take-suc from i 0 h) ∙ ap (λ (j : ℕ). take j from) (sym d)
+
+pub copy-end : (to from : Cells) (i : ℕ) → length from ≤ i → length to ≡ length from → take i to ≡ take i from → to ≡ from
+copy-end to from i h k e = sym (take-all i to (omega (arith, h, k))) ∙ e ∙ take-all i from h
+
+pub replaces-not : (k n : ℕ) → 2 ≤ k → both (ltb k 2) (eqb n 1) ≡ false
+replaces-not k n h = both-no _ _ (le-ltb _ _ h)
+
+pub replaces-if : (k n : ℕ) → k < 2 → both (ltb k 2) (eqb n 1) ≡ eqb n 1
+replaces-if k n h = both-yes _ _ (lt-ltb _ _ h)
+
+pub listed : (n : ℕ) (before after : Cells) (l : List ℕ) (r : Cells) → length before ≡ n
+    → after ≡ clear (length before) → r ≡ marked 1 after l → r ≡ named n l
+unfolding named
+listed n before after l r k a e = e ∙ ap (λ (x : Cells). marked 1 x l) (a ∙ ap clear k)
+
+module _ (w : ℕ) (f : Figures) (l : List ℕ) (operation : ℕ) (old : Cells) where
+  pub becomes-less : operation ≡ 2 → becomes w f l operation old ≡ marked 0 old l
+  unfolding becomes
+  becomes-less h = rw h
+
+  pub becomes-list : (operation ≡ 2 → ⊥) → (operation ≡ 1 → ⊥) → becomes w f l operation old ≡ named w l
+  unfolding becomes
+  becomes-list a b = simp (ne-eqb _ _ a, ne-eqb _ _ b)
+
+  pub becomes-one : (n : ℕ) → operation ≡ 1 → count (named w l) ≡ n → both (ltb (f .kind) 2) (eqb n 1) ≡ true
+      → becomes w f l operation old ≡ named w l
+  unfolding becomes replaces
+  becomes-one n h k e = rw (h, k, e)
+
+  pub becomes-more : (n : ℕ) → operation ≡ 1 → count (named w l) ≡ n → both (ltb (f .kind) 2) (eqb n 1) ≡ false
+      → becomes w f l operation old ≡ marked 1 old l
+  unfolding becomes replaces
+  becomes-more n h k e = rw (h, k, e)

@@ -1,12 +1,12 @@
-// The desk: figures and crosspoints, legality and opening.
+// The desk: figures and crosspoints, legality, opening, and the parts of a request.
 ghost use mathlib.Core.Path.{_≡_};
 ghost use Prim.Native.Nat.{_+_, _≤_};
-ghost use lib.Dec.{leb};
-ghost use lib.ListN.{length};
-ghost use Rattle.routing.specs.Figures.{side, isCount, isLimit, figuresFit, limitOr, mostEach, mostTotal};
-ghost use Rattle.routing.specs.Crosspoints.{bit, count, allBits, clear, holders, mostAt, rowFits, rowsFit, sourcesFit};
+ghost use lib.Dec.{leb, ltb, eqb};
+ghost use lib.ListN.{length, set};
+ghost use Rattle.routing.specs.Figures.{side, both, isCount, isLimit, figuresFit, limitOr, mostEach, mostTotal};
+ghost use Rattle.routing.specs.Crosspoints.{bit, count, allBits, clear, holders, takenFrom, mostAt, rowFits, rowsFit, sourcesFit};
 ghost use Rattle.routing.specs.Crosspoints.{kindFits, cellsFit, legal, answer, opened};
-ghost use Rattle.routing.specs.Request.{allBelow};
+ghost use Rattle.routing.specs.Request.{marked, named, becomes, allBelow};
 
 // "1 to 64 targets, 1 to 64 sources": also the row size of the crosspoints.
 const SIDE: usize = 64;
@@ -298,4 +298,88 @@ pub fn open(f: Figures, mode: u64, crosspoints: &mut [u8]) -> u64
     }
     wipe(crosspoints);
     0
+}
+
+// The cells of the sources named set to v; a source past the cells' end does nothing.
+fn mark(cells: &mut [u8], sources: &[u64], v: u8)
+    ensures { λ _. ⌜ now (cells .exit) ≡ marked v (now (cells .entry)) (now (sources .entry)) ⌝ }
+{
+    let mut i = 0;
+    while i < sources.len() {
+        put(cells, sources[i], v);
+        i += 1;
+    }
+}
+
+fn put(cells: &mut [u8], at: u64, v: u8)
+    ensures { λ _. ⌜ now (cells .exit) ≡ set (now (cells .entry)) at v ⌝ }
+{
+    if at < word(cells.len()) {
+        let i = at as usize;
+        cells[i] = v;
+    }
+}
+
+// A source taken from every target.
+fn take_from(cells: &mut [u8], s: u64)
+    requires { ⌜ s + 1 ≤ 64 ⌝ }
+    ensures { λ _. ⌜ now (cells .exit) ≡ takenFrom side (now (cells .entry)) s side ⌝ }
+{
+    let mut t = 64;
+    while 0 < t {
+        t -= 1;
+        put(cells, t * 64 + s, 0);
+    }
+}
+
+// One list of cells over another of the same length.
+fn copy(to: &mut [u8], from: &[u8])
+    requires { ⌜ length (now to) ≡ length (now from) ⌝ }
+    ensures { λ _. ⌜ now (to .exit) ≡ now (from .entry) ⌝ }
+{
+    let mut i = 0;
+    while i < from.len() {
+        to[i] = from[i];
+        i += 1;
+    }
+}
+
+// Whether connect replaces: 1:N or 1:1, and one source named.
+fn replaces(f: Figures, named: u64) -> bool
+    ensures { λ r. ⌜ both (ltb (f .kind) 2) (eqb named 1) ≡ r ⌝ }
+{
+    if 2 <= f.kind {
+        return false;
+    }
+    named == 1
+}
+
+// The list as a target's cells.
+fn list_row(row: &mut [u8], sources: &[u64])
+    requires { ⌜ length (now row) ≡ 64 ⌝ }
+    ensures { λ _. ⌜ now (row .exit) ≡ named side (now (sources .entry)) ⌝ }
+{
+    wipe(row);
+    mark(row, sources, 1);
+}
+
+// A target's cells after a request; `ones` counts the sources named.
+fn become_row(f: Figures, sources: &[u64], operation: u64, ones: u64, row: &mut [u8])
+    requires { ⌜ length (now row) ≡ 64 ⌝ }
+    requires { ⌜ count (named side (now sources)) ≡ ones ⌝ }
+    ensures { λ _. ⌜ now (row .exit) ≡ becomes side f (now (sources .entry)) operation (now (row .entry)) ⌝ }
+{
+    if operation == 2 {
+        mark(row, sources, 0);
+        return;
+    }
+    if operation != 1 {
+        list_row(row, sources);
+        return;
+    }
+    if replaces(f, ones) {
+        list_row(row, sources);
+        return;
+    }
+    mark(row, sources, 1);
 }
