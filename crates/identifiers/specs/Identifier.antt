@@ -89,15 +89,15 @@ putOid out at ns = pick (inRange ns) (put out at (oidOctets ns)) (unchanged out)
 
 -- For each case of the answers what it says, at the tag: 30 for bad octets; a number out of its range has the number `range`, 37 in a path and 34 in sources.
 -- A number comes with the position after it; of an identifier the count of its numbers is told.
-abbrev pub arcSays : ℕ → ℕ → Arc → Said (ℕ × ℕ)
-arcSays range at (Number n next) = done (n, next)
-arcSays range at (Over next) = refused range at
-arcSays range at NoArc = refused 30 at
+abbrev pub arcSays : Arc → ℕ → ℕ → Said (ℕ × ℕ)
+arcSays (Number n next) range at = done (n, next)
+arcSays (Over next) range at = refused range at
+arcSays NoArc range at = refused 30 at
 
-abbrev pub oidSays : ℕ → ℕ → Oid → Said ℕ
-oidSays range at (Numbers n) = done n
-oidSays range at Range = refused range at
-oidSays range at Refused = refused 30 at
+abbrev pub oidSays : Oid → ℕ → ℕ → Said ℕ
+oidSays (Numbers n) range at = done n
+oidSays Range range at = refused range at
+oidSays Refused range at = refused 30 at
 
 -- an answer goes on, and stays within
 abbrev pub ArcWithin : ℕ → ℕ → Arc → Type 0

@@ -1,4 +1,5 @@
 -- The round trip of the functions themselves, by their contracts: what a call of `write_real` writes, a call of `read_real` reads.
+use Rattle.integers.proofs.Told.{told}
 use Prim.Native.Nat.{ℕ, _+_, _-_, _≤_}
 use mathlib.Core.Path.{_≡_, refl, sym, ap, _∙_}
 use mathlib.Core.List.{List, []}
@@ -71,7 +72,8 @@ write-called x out at r out′ e =
     }
 
 pub read-says : {s : List ℕ} {at n : ℕ} {r : Read} → Reads s at n r → r ≡ realAt s at n
-read-says k = cc (k .ensured)
+read-says {s} {at} {n} {r} k =
+    let i = k .ensured .is in cc i
 
 pub read-called : (s : List ℕ) (at n : ℕ) (r : Read) → r ≡ realAt s at n → Reads s at n r
 unfolding lent
@@ -83,7 +85,7 @@ read-called s at n r e =
       slice-is = refl;
       at-is = refl;
       count-is = refl;
-      ensured = e;
+      ensured = told e;
     }
 
 pub round-trip : {x : Float} {out : List ℕ} {at n : ℕ} {out′ : List ℕ} {r : Read} → T (Ieee.fits binary64 x)

@@ -64,6 +64,6 @@ unfoldable pub realAt : List ℕ → ℕ → ℕ → Read
 realAt s at n = pick (leb (at + n) (length s)) (real (take n (drop at s))) Refused
 
 -- for each case of the answer what it says, at the tag: "35 REAL: any real not accepted"
-abbrev pub realSays : ℕ → Read → Said Float
-realSays at (Real x) = done x
-realSays at Refused = refused 35 at
+abbrev pub realSays : Read → ℕ → Said Float
+realSays (Real x) at = done x
+realSays Refused at = refused 35 at

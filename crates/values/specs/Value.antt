@@ -33,9 +33,9 @@ unfoldable pub boolAt : List ℕ → ℕ → ℕ → Flag
 boolAt s at n = pick (leb (at + n) (length s)) (boolean (take n (drop at s))) NoFlag
 
 -- for each case of the answer what it says, at the tag: "30 BER: bad .. value octets"
-abbrev pub flagSays : ℕ → Flag → Said Bool
-flagSays at (Is b) = done b
-flagSays at NoFlag = refused 30 at
+abbrev pub flagSays : Flag → ℕ → Said Bool
+flagSays (Is b) at = done b
+flagSays NoFlag at = refused 30 at
 
 -- what was read, as a value, with the position after it; or the number of the refusal and its place
 abbrev pub answering : {A : Type 0} → (A → Value) → ℕ → Said A → Answer
@@ -43,13 +43,13 @@ answering value next (done x) = Found (value x) next
 answering value next (refused number place) = Refused number place
 
 abbrev pub onFlag : ℕ → ℕ → Flag → Answer
-onFlag at next f = answering Truth next (flagSays at f)
+onFlag at next f = answering Truth next (flagSays f at)
 
 abbrev pub onNumber : ℕ → ℕ → Number → Answer
-onNumber at next n = answering Int next (integerSays at n)
+onNumber at next n = answering Int next (integerSays n at)
 
 abbrev pub onReal : ℕ → ℕ → Read → Answer
-onReal at next x = answering Real next (realSays at x)
+onReal at next x = answering Real next (realSays x at)
 
 unfoldable pub isListed : ℕ → Bool
 isListed kind = pick (eqb kind 1) true (pick (eqb kind 2) true (pick (eqb kind 4) true (pick (eqb kind 9) true (eqb kind 12))))
@@ -85,7 +85,7 @@ valueAt s at bound = onHead s at (headAt s at bound)
 
 -- For each case of the answer what it says: the value and the position after it; for a tag that is none of the five "33 GLOW: a tag unexpected", at the tag (a
 -- caller that expects something else there, as a closing 00, looks at the tag first); or the number and the place that it carries.
-abbrev pub answerSays : ℕ → Answer → Said (Value × ℕ)
-answerSays at (Found value next) = done (value, next)
-answerSays at Other = refused 33 at
-answerSays at (Refused number place) = refused number place
+abbrev pub answerSays : Answer → ℕ → Said (Value × ℕ)
+answerSays (Found value next) at = done (value, next)
+answerSays Other at = refused 33 at
+answerSays (Refused number place) at = refused number place

@@ -9,11 +9,12 @@ ghost use mathlib.Core.List.{[], _∷_};
 ghost use Prim.Native.Nat.{_+_, _-_, _≤_, _<_};
 ghost use lib.Dec.{leb};
 ghost use lib.ListN.{length, take, drop, getD};
-ghost use Rattle.values.specs.Value.{boolAt, onFlag, onNumber, onReal, isListed, kindAt, contentAt, valueAt};
+ghost use Rattle.values.specs.Value.{boolAt, onFlag, onNumber, onReal, isListed, kindAt, contentAt, valueAt, flagSays, answerSays};
 ghost use Rattle.reals.specs.Write.{octets, form};
 ghost use Rattle.integers.specs.Integer.{shortest};
 ghost use Rattle.values.specs.Write.{Sealable, putHead, boolOctet, part, putPart, putPrimitive, putValue};
 ghost use Rattle.integers.specs.Digits.{outcome};
+ghost use Rattle.integers.specs.Said.{Told};
 
 // A value, or that there is none. Texts and octets are parts of the message.
 pub enum Value {
@@ -40,7 +41,7 @@ pub enum Answer {
 
 // The boolean whose content octets are the n octets at a position.
 pub fn read_bool(s: &[u8], at: usize, n: usize) -> Flag
-    ensures { λ r. ⌜ r ≡ boolAt (now (s .entry)) at n ⌝ }
+    ensures { λ r. ⌜ Told flagSays (boolAt (now (s .entry)) at n) r ⌝ }
 {
     if s.len() < n {
         return Flag::Refused;
@@ -163,7 +164,7 @@ fn of_kind(s: &[u8], at: usize, kind: u64, start: usize, len: usize) -> Answer
 
 // The value of a kind (a universal tag number) whose content octets are those at `start`; its tag stands at `at`.
 pub fn read_content(s: &[u8], at: usize, kind: u64, start: usize, len: usize) -> Answer
-    ensures { λ r. ⌜ r ≡ contentAt (now (s .entry)) at kind start len ⌝ }
+    ensures { λ r. ⌜ Told answerSays (contentAt (now (s .entry)) at kind start len) r ⌝ }
 {
     if !listed(kind) {
         return Answer::Other;
@@ -179,7 +180,7 @@ pub fn read_content(s: &[u8], at: usize, kind: u64, start: usize, len: usize) ->
 
 // The value at a position, in a container that ends at `bound`.
 pub fn read_value(s: &[u8], at: usize, bound: usize) -> Answer
-    ensures { λ r. ⌜ r ≡ valueAt (now (s .entry)) at bound ⌝ }
+    ensures { λ r. ⌜ Told answerSays (valueAt (now (s .entry)) at bound) r ⌝ }
 {
     match tags::read_tag(s, at, bound) {
         Head::Refused { place } => Answer::Refused { number: 30, place },

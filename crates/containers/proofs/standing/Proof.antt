@@ -53,7 +53,7 @@ open-of-requires : tie.Need-open-of-requires
 open-of-requires c κs =
     let the-read-tag = c .before .before .before .before .before .read-tag in
     let the-class = c .before .before .before .class in
-    head-fits _ _ _ _ _ _ _ _ (sym (the-read-tag .ensures) ∙ the-class .given .1)
+    head-fits _ _ _ _ _ _ _ _ (sym (the-read-tag .ensures .is) ∙ the-class .given .1)
 
 returns-4 : tie.Need-returns-4
 returns-4 c =
@@ -62,7 +62,7 @@ returns-4 c =
     let the-if3 = c .before .before .before .before .if3 in
     let the-read-tag = c .before .before .before .read-tag in
     let the-place = c .before .place in
-    (standing-by _ _ _ (the-if1 .left) (the-zero-at .ensures ∙ the-if3 .left) (sym (the-read-tag .ensures) ∙ the-place .given .1), tt)
+    (standing-by _ _ _ (the-if1 .left) (the-zero-at .ensures ∙ the-if3 .left) (sym (the-read-tag .ensures .is) ∙ the-place .given .1), tt)
 
 returns-5 : tie.Need-returns-5
 returns-5 c =
@@ -74,7 +74,7 @@ returns-5 c =
     let the-if1 = c .before .before .before .before .before .before .before .before .before .if1 in
     let the-zero-at = c .before .before .before .before .before .before .before .before .zero-at in
     let the-if3 = c .before .before .before .before .before .before .before .if3 in
-    let e = sym (the-read-tag .ensures) ∙ the-class .given .1 in (
+    let e = sym (the-read-tag .ensures .is) ∙ the-class .given .1 in (
       standing-here _ _ _ e (the-wide .ensures) (the-flag .ensures) (the-open-of .ensures .0) (the-if1 .left) (the-zero-at .ensures ∙ the-if3 .left),
       ahead-here _ _ _ e (the-wide .ensures) (the-flag .ensures) (the-open-of .ensures .1),
     )

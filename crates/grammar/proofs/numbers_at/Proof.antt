@@ -30,7 +30,7 @@ returns-3 : tie.Need-returns-3
 returns-3 c =
     let a = c .before .before .before .before .before .before .args in
     let h = c .before .before .before .before .holds .ensures ∙ not-false _ (c .before .before .before .if1 .left) in
-    let q = sym (c .before .read-oid .ensures) in
+    let q = sym (c .before .read-oid .ensures .is) in
     numbers-list _ _ _ _ _ _ h (c .before .before .if2 .left) ∙ ap (oidLeaf (a .at) (a .start) (a .len) (a .above)) q ∙ c .list-leaf .ensures
 
 pub numbers-at-spec : {M : Type 1} → statement M

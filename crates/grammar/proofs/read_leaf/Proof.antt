@@ -34,7 +34,7 @@ returns-3 c =
     let a = c .before .before .before .before .before .before .args in
     let f = c .before .before .before .before .fits2 .ensures ∙ not-false _ (c .before .before .before .if1 .left) in
     let g = leaf-value _ _ _ _ _ _ _ f (c .before .before .if2 .left) in
-    let e = g ∙ ap (judged (a .s .now) (a .at) (a .what) (a .above)) (sym (c .before .read-content .ensures)) ∙ c .judge .ensures in
+    let e = g ∙ ap (judged (a .s .now) (a .at) (a .what) (a .above)) (sym (c .before .read-content .ensures .is)) ∙ c .judge .ensures in
     (e, subst (LeafBounded (a .above)) e (leaf-bounded _ _ _ _ _ _ _))
 
 pub read-leaf-spec : {M : Type 1} → statement M

@@ -29,7 +29,7 @@ module _ (c : tie.After-v) where
 
   value : v ≡ natural (take (entry .args .e) (drop (entry .args .at) (entry .args .s .now)))
   value =
-      read-value (entry .args .s .now) (entry .args .at) (entry .args .e) (omega arith) within (c .before .before .read-unsigned .result) (c .before .before .read-unsigned .ensures) v
+      read-value (entry .args .s .now) (entry .args .at) (entry .args .e) (omega arith) within (c .before .before .read-unsigned .result) (c .before .before .read-unsigned .ensures .is) v
       (c .v .given .1)
 
   small : v < 256 ^ entry .args .e
@@ -51,7 +51,7 @@ enum-told c = search needs
 returns : tie.Need-returns
 returns c =
     let a = c .before .before .before .before .args in
-    absurd (read-never (a .s .now) (a .at) (a .e) (omega arith) (omega arith) (c .before .before .read-unsigned .result) (c .before .before .read-unsigned .ensures) (c .enum-told .given .1))
+    absurd (read-never (a .s .now) (a .at) (a .e) (omega arith) (omega arith) (c .before .before .read-unsigned .result) (c .before .before .read-unsigned .ensures .is) (c .enum-told .given .1))
 
 add-raised : tie.Need-add-raised
 add-raised c = search needs

@@ -15,7 +15,7 @@ of-flag-requires : tie.Need-of-flag-requires
 of-flag-requires c κs = search needs
 
 returns : tie.Need-returns
-returns c = c .of-flag .ensures ∙ ap (onFlag _ _) (c .before .read-bool .ensures) ∙ kind-bool _ _ _ _ _ (c .before .before .if1 .taken)
+returns c = c .of-flag .ensures ∙ ap (onFlag _ _) (c .before .read-bool .ensures .is) ∙ kind-bool _ _ _ _ _ (c .before .before .if1 .taken)
 
 read-int-requires : tie.Need-read-int-requires
 read-int-requires c κs = search needs
@@ -24,7 +24,7 @@ of-number-requires : tie.Need-of-number-requires
 of-number-requires c κs = search needs
 
 returns-2 : tie.Need-returns-2
-returns-2 c = c .of-number .ensures ∙ ap (onNumber _ _) (c .before .read-int .ensures) ∙ kind-int _ _ _ _ _ (c .before .before .if2 .taken)
+returns-2 c = c .of-number .ensures ∙ ap (onNumber _ _) (c .before .read-int .ensures .is) ∙ kind-int _ _ _ _ _ (c .before .before .if2 .taken)
 
 returns-3 : tie.Need-returns-3
 returns-3 c = kind-octets _ _ _ _ _ (c .if3 .taken)
@@ -36,7 +36,7 @@ of-real-requires : tie.Need-of-real-requires
 of-real-requires c κs = search needs
 
 returns-4 : tie.Need-returns-4
-returns-4 c = c .of-real .ensures ∙ ap (onReal _ _) (c .before .read-real .ensures) ∙ kind-real _ _ _ _ _ (c .before .before .if4 .taken)
+returns-4 c = c .of-real .ensures ∙ ap (onReal _ _) (c .before .read-real .ensures .is) ∙ kind-real _ _ _ _ _ (c .before .before .if4 .taken)
 
 returns-5 : tie.Need-returns-5
 returns-5 c = kind-text _ _ _ _ _ (c .before .before .before .if1 .left) (c .before .before .if2 .left) (c .before .if3 .left) (c .if4 .left)
