@@ -1,0 +1,4 @@
+pub mod Content
+pub mod Trees
+pub mod Legal
+pub mod Written
