@@ -1,4 +1,5 @@
 pub mod Content
+pub mod Rows
 pub mod Trees
 pub mod Legal
 pub mod Written
