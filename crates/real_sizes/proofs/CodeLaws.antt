@@ -17,7 +17,7 @@ use Rattle.reals.proofs.Powers.{Is, minus-is}
 use Rattle.reals.proofs.Laws.{and-false}
 use Rattle.reals.proofs.Doubles.{odd-is}
 use Rattle.reals.proofs.WriteLaws.{isNegative, field, low, number-form, odd-of, bits-nan, bits-inf, bits-zero, bits-small, bits-normal}
-use Rattle.real_sizes.specs.Sizes.{isForm, isWritten, writtenSize, saves, spare, leastSize, numberSize, numberLeast}
+use Rattle.real_sizes.specs.Sizes.{isForm, isWritten, writtenSize, highest, saves, leastSize, numberSize, numberLeast}
 use Rattle.real_sizes.proofs.Laws.{written-number, power-some, power-few, power-more}
 use Rattle.real_sizes.proofs.Least.{least-written}
 
@@ -56,23 +56,23 @@ module _ (w b u : ℕ) (e : w ≡ numberSize b (minus u 1074)) where
   unsaved-low (pos k) d h = simp (le-ltb 127 k (omega arith))
   unsaved-low (negsuc k) d h = refl
 
-  unsaved-high : (z : ℤ) → Is z u 1074 → 130 + spare b < u - 1074 → saves b z ≡ false
+  unsaved-high : (z : ℤ) → Is z u 1074 → highest b < u - 1074 → saves b z ≡ false
   unfolding saves
-  unsaved-high (pos k) d h = simp (lt-leb k (130 + spare b) (omega arith), and-false)
+  unsaved-high (pos k) d h = simp (lt-leb k (highest b) (omega arith), and-false)
   unsaved-high (negsuc k) d h = refl
 
-  saved : (z : ℤ) → Is z u 1074 → 1201 < u → u - 1074 ≤ 130 + spare b → saves b z ≡ true
+  saved : (z : ℤ) → Is z u 1074 → 1201 < u → u - 1074 ≤ highest b → saves b z ≡ true
   unfolding saves
-  saved (pos k) d h l = simp (lt-ltb 127 k (omega arith), le-leb k (130 + spare b) (omega arith))
+  saved (pos k) d h l = simp (lt-ltb 127 k (omega arith), le-leb k (highest b) (omega arith))
   saved (negsuc k) d h l = absurd (omega arith)
 
   pub least-low : u ≤ 1201 → w ≡ numberLeast b (minus u 1074)
   least-low h = kept (minus u 1074) (unsaved-low (minus u 1074) (minus-is u 1074) h) e
 
-  pub least-high : 130 + spare b < u - 1074 → w ≡ numberLeast b (minus u 1074)
+  pub least-high : highest b < u - 1074 → w ≡ numberLeast b (minus u 1074)
   least-high h = kept (minus u 1074) (unsaved-high (minus u 1074) (minus-is u 1074) h) e
 
-  pub least-saved : 1201 < u → u - 1074 ≤ 130 + spare b → w - 1 ≡ numberLeast b (minus u 1074)
+  pub least-saved : 1201 < u → u - 1074 ≤ highest b → w - 1 ≡ numberLeast b (minus u 1074)
   least-saved h l =
       ap (λ (i : ℕ). i - 1) e ∙ ap (λ (t : Bool). numberSize b (minus u 1074) - cond t 1 0) (sym (saved (minus u 1074) (minus-is u 1074) h l))
 

@@ -29,12 +29,12 @@ use Rattle.reals.proofs.Powers.{over, below, Is, add-is}
 use Rattle.reals.proofs.Doubles.{levels, level-some, double-odd, odd-only}
 use Rattle.reals.proofs.Exactly.{exactly, formed-within, mantissa-word}
 use Rattle.reals.proofs.RoundTrip.{mantissa-small, power-small}
-use Rattle.real_sizes.specs.Sizes.{octetsFor, spare, saves, formOctets, writtenSize, leastSize}
+use Rattle.real_sizes.specs.Sizes.{octetsFor, highest, saves, formOctets, writtenSize, leastSize}
 use Rattle.real_sizes.proofs.Laws.{bytes, written-number, power-few}
 
 -- ---- m * 2 ^ p, spelled with the exponent z in e octets, the scale k, and m doubled h times in l octets
 
-saves-one : (b j : ℕ) → 127 < j → j ≤ 127 + 3 + spare b → _≡_ {A = ℕ} (cond (saves b (pos j)) 1 0) 1
+saves-one : (b j : ℕ) → 127 < j → j ≤ highest b → _≡_ {A = ℕ} (cond (saves b (pos j)) 1 0) 1
 unfolding saves
 saves-one b j g h = simp (lt-ltb _ _ g, le-leb _ _ h)
 
@@ -60,9 +60,9 @@ module _ (m : ℕ) (z : ℤ) (k h e l : ℕ) (scaled : k ≤ 3) (some : 0 < e) (
       let i : mag z * 2 < 256 ^ 1 = subst (λ (n : ℕ). mag z * 2 < 256 ^ n) a holds in
       let o = over-mag z in
       ⊎-elim
-      (λ (f : 127 + 3 + spare (size m) < j). omega arith)
-      (λ (f : j ≤ 127 + 3 + spare (size m)). let s = saves-one (size m) j g f in omega arith)
-      (lt-or-le (127 + 3 + spare (size m)) j)
+      (λ (f : highest (size m) < j). omega arith)
+      (λ (f : j ≤ highest (size m)). let s = saves-one (size m) j g f in omega arith)
+      (lt-or-le (highest (size m)) j)
 
   pub fewest : (p : ℤ) → mag p < 2048 → Is p (over z + k + h) (below z) → Fewest p
   fewest (negsuc j) w d = as-many (negsuc j) (let i = below-zero j z d in power-few (negsuc j) e some (omega arith))

@@ -28,7 +28,7 @@ use Rattle.reals.proofs.Odd.{size-under}
 use Rattle.reals.proofs.Doubles.{Level, level-is, same-eq, complete}
 use Rattle.reals.proofs.RealLaws.{binary-is, more-is}
 use Rattle.reals.proofs.RoundTrip.{written-read, mantissa-small, power-small}
-use Rattle.real_sizes.specs.Sizes.{octetsFor, spare, saves, doublings, savedOctets, formOctets, leastOctets, leastSize, writtenSize}
+use Rattle.real_sizes.specs.Sizes.{octetsFor, highest, saves, doublings, savedOctets, formOctets, leastOctets, leastSize, writtenSize}
 use Rattle.real_sizes.proofs.Laws.{bytes, written-number, power-more, power-few}
 
 -- ---- the first octet, of scale k and an exponent of one octet
@@ -76,7 +76,7 @@ raised m t p q e =
     ∙ sym (mul-assoc m (2 ^ t) (2 ^ (q + 0)))
     ∙ sym (level-is (m * 2 ^ t) (pos q) (pos p))
 
-module _ (s : Bool) (m p : ℕ) (some : 0 < m) (double : T (Ieee.fits binary64 (fin s m (pos p)))) (high : 127 < p) (low : p ≤ 127 + 3 + spare (size m)) where
+module _ (s : Bool) (m p : ℕ) (some : 0 < m) (double : T (Ieee.fits binary64 (fin s m (pos p)))) (high : 127 < p) (low : p ≤ highest (size m)) where
   abbrev t : ℕ
   t = doublings p
 
@@ -140,11 +140,11 @@ module _ (s : Bool) (m p : ℕ) (some : 0 < m) (double : T (Ieee.fits binary64 (
 -- ---- any double
 
 -- what the test tells of the power
-saves-is : (b : ℕ) (p : ℤ) → saves b p ≡ true → (k : ℕ) × ((p ≡ pos k) × ((127 < k) × (k ≤ 127 + 3 + spare b)))
+saves-is : (b : ℕ) (p : ℤ) → saves b p ≡ true → (k : ℕ) × ((p ≡ pos k) × ((127 < k) × (k ≤ highest b)))
 unfolding saves
 saves-is b (pos k) e =
     let w = subst T (sym e) tt in
-    let most = 127 + 3 + spare b in
+    let most = highest b in
     (k, (refl, (ltb→lt 127 k (and-l (ltb 127 k) (leb k most) w), leb→le k most (and-r (ltb 127 k) (leb k most) w))))
 saves-is b (negsuc k) e = absurd (let z : _≡_ {A = ℕ} 0 1 = cc in omega arith)
 

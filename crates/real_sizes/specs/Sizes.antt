@@ -40,16 +40,20 @@ octetsFor b = (b + 7) / 8
 abbrev pub spare : ℕ → ℕ
 spare b = 8 * octetsFor b - b
 
--- a power over 127 that a scale of up to 3 and the free bits of a mantissa of b bits bring down to 127
+-- the highest power that a scale of up to 3 and the free bits of a mantissa of b bits bring down to 127
+abbrev pub highest : ℕ → ℕ
+highest b = 127 + 3 + spare b
+
+-- a power over 127 that is brought down to it, which saves an exponent octet
 unfoldable pub saves : ℕ → ℤ → Bool
-saves b (pos p) = ltb 127 p && leb p (127 + 3 + spare b)
+saves b (pos p) = ltb 127 p && leb p (highest b)
 saves b (negsuc p) = false
 
 -- what the scale does not bring down, the mantissa takes: so often it is doubled
 abbrev pub doublings : ℕ → ℕ
 doublings p = p - (127 + 3)
 
--- ± m * 2 ^ p with the exponent 127
+-- ± m * 2 ^ p, that is, with the exponent 127
 abbrev pub savedOctets : Bool → ℕ → ℕ → List ℕ
 savedOctets s m p = (128 + cond s 64 0 + 4 * (p - 127 - doublings p)) ∷ (127 ∷ digits 256 (octetsFor (size m)) (m * 2 ^ doublings p))
 
