@@ -307,7 +307,7 @@ fn most_of(what: u64) -> u64
 }
 
 // Whether a number, by its word, is in the range of its member.
-fn in_range(what: u64, w: u64) -> bool
+pub fn in_range(what: u64, w: u64) -> bool
     ensures { λ r. ⌜ wordIn what w ≡ r ⌝ }
 {
     if what == 9 {
