@@ -1,18 +1,18 @@
 -- One law for each number that a request answers.
-use Prim.Native.Nat.{ℕ, _+_, _*_, _≤_, _<_}
+use Prim.Native.Nat.{ℕ, _*_, _≤_, _<_}
 use mathlib.Core.Path.{_≡_, refl, sym, ap, _∙_}
 use mathlib.Core.List.{List}
 use mathlib.Core.Bool.{Bool, true, false, not}
 use native.Mathlib.Omega.{arith}
-use borrow.Author.Tests.{leb-true, leb-false, eqb-true, eqb-false, lt-leb, le-leb, lt-ltb, le-ltb, eq-eqb, ne-eqb}
+use borrow.Author.Tests.{leb-true, leb-false, eqb-true, lt-leb, le-leb, lt-ltb, le-ltb, eq-eqb, ne-eqb}
 use lib.ListN.{length}
 use lib.Dec.{leb, ltb, eqb}
 use Rattle.integers.specs.Digits.{pick}
 use Rattle.routing.specs.declared.Figures.{Figures}
 use Rattle.routing.specs.Figures.{both, figuresFit, mostEach, mostTotal}
-use Rattle.routing.specs.Crosspoints.{Cells, count, allBits, rowAt, withRow, rowsFit, kindFits, cellsFit, legal, Answer, answer}
+use Rattle.routing.specs.Crosspoints.{Cells, count, allBits, rowAt, withRow, rowsFit, kindFits, cellsFit, legal, answer}
 use Rattle.routing.specs.Request.{named, allBelow, becomes, others, result, many, overTotal, judged, asked, requested}
-use Rattle.routing.proofs.Laws.{both-yes, both-left, both-right, fit-targets-le, fit-sources-le}
+use Rattle.routing.proofs.Laws.{both-yes, both-left, both-right}
 use Rattle.routing.proofs.Parts.{others-kind}
 
 pub over-not : (m n : ℕ) (b : Bool) → leb n m ≡ b → ltb m n ≡ not b

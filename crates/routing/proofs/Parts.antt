@@ -4,15 +4,14 @@ use mathlib.Core.Path.{_≡_, refl, sym, ap, _∙_}
 use mathlib.Core.List.{List, [], _∷_, _++_}
 use mathlib.Core.Bool.{Bool, true, false, true≢false}
 use native.Mathlib.Omega.{arith}
-use borrow.Author.Tests.{lt-ltb, le-ltb, eq-eqb, ne-eqb, ltb-true}
-use lib.ListN.{length, take, drop, getD, length-append, length-drop}
+use borrow.Author.Tests.{lt-ltb, le-ltb, ne-eqb, ltb-true}
+use lib.ListN.{length, take, drop, getD, length-drop}
 use lib.Seq.{drop-drop, take-all}
 use Rattle.routing.proofs.Laws.{count-le}
-use lib.Dec.{leb, ltb, eqb}
+use lib.Dec.{ltb}
 use Rattle.integers.specs.Digits.{pick}
 use Rattle.routing.specs.declared.Figures.{Figures}
-use Rattle.routing.specs.Figures.{both}
-use Rattle.routing.specs.Crosspoints.{Cells, bit, count, rowAt, withRow, takenFrom}
+use Rattle.routing.specs.Crosspoints.{Cells, count, withRow, takenFrom}
 use Rattle.routing.specs.Request.{named, allBelow, takes, others}
 
 pub count-append : (a b : Cells) → count (a ++ b) ≡ count a + count b
