@@ -20,8 +20,8 @@ over-not m n true e = le-ltb m n (leb-true n m e)
 over-not m n false e = lt-ltb m n (leb-false n m e)
 
 module _ (f : Figures) where
-  pub over-says : (n x : ℕ) (b : Bool) → f .kind ≡ 2 → n ≡ x → leb x (mostTotal f) ≡ b → both (eqb (f .kind) 2) (ltb (mostTotal f) n) ≡ not b
-  over-says n x b h i e = both-yes _ _ (eq-eqb _ _ h) ∙ ap (ltb (mostTotal f)) i ∙ over-not (mostTotal f) x b e
+  pub over-says : (n : ℕ) (b : Bool) → f .kind ≡ 2 → leb n (mostTotal f) ≡ b → both (eqb (f .kind) 2) (ltb (mostTotal f) n) ≡ not b
+  over-says n b h e = both-yes _ _ (eq-eqb _ _ h) ∙ over-not (mostTotal f) n b e
 
   pub over-other : (n : ℕ) → (f .kind ≡ 2 → ⊥) → both (eqb (f .kind) 2) (ltb (mostTotal f) n) ≡ false
   over-other n h = simp (ne-eqb _ _ h)
@@ -33,6 +33,16 @@ module _ (f : Figures) where
 
   pub many-list : (n o : ℕ) → (f .kind ≡ 2 → ⊥) → pick (eqb (f .kind) 2) (ltb (mostEach f) n) (ltb 1 o) ≡ ltb 1 o
   many-list n o h = simp (ne-eqb _ _ h)
+
+module _ (m t : Bool) where
+  pub limits-many : m ≡ true → _≡_ {A = ℕ} (pick m 43 (pick t 44 0)) 43
+  limits-many h = rw h
+
+  pub limits-total : m ≡ false → t ≡ true → _≡_ {A = ℕ} (pick m 43 (pick t 44 0)) 44
+  limits-total h k = rw (h, k)
+
+  pub limits-none : m ≡ false → t ≡ false → _≡_ {A = ℕ} (pick m 43 (pick t 44 0)) 0
+  limits-none h k = rw (h, k)
 
 module _ (w : ℕ) (f : Figures) (target : ℕ) (l : List ℕ) (operation : ℕ) (cells : Cells) where
   pub row-from : (old row : Cells) → old ≡ rowAt w cells target → row ≡ becomes w f l operation old → row ≡ becomes w f l operation (rowAt w cells target)
@@ -74,20 +84,15 @@ module _ (w : ℕ) (f : Figures) (target : ℕ) (l : List ℕ) (operation : ℕ)
     unfolding judged
     told-less e = simp (lt-leb _ _ h, b, eq-eqb _ _ e)
 
-    module _ (e : operation ≡ 2 → ⊥) where
-      pub told-many : many w f l operation (rowAt w cells target) ≡ true → judged w f target l operation cells ≡ 43
-      unfolding judged
-      told-many m = simp (lt-leb _ _ h, b, ne-eqb _ _ e, m)
-
-      pub told-total : many w f l operation (rowAt w cells target) ≡ false → overTotal w f target l operation cells ≡ true
-          → judged w f target l operation cells ≡ 44
-      unfolding judged
-      told-total m t = simp (lt-leb _ _ h, b, ne-eqb _ _ e, m, t)
-
-      pub told-done : many w f l operation (rowAt w cells target) ≡ false → overTotal w f target l operation cells ≡ false
-          → judged w f target l operation cells ≡ 0
-      unfolding judged
-      told-done m t = simp (lt-leb _ _ h, b, ne-eqb _ _ e, m, t)
+    pub told-limits : (row : Cells) (ones set total : ℕ) → (operation ≡ 2 → ⊥) → row ≡ becomes w f l operation (rowAt w cells target)
+        → count (named w l) ≡ ones → count row ≡ set → count (withRow w cells target row) ≡ total
+        → judged w f target l operation cells
+        ≡ pick (pick (eqb (f .kind) 2) (ltb (mostEach f) set) (ltb 1 ones)) 43 (pick (both (eqb (f .kind) 2) (ltb (mostTotal f) total)) 44 0)
+    unfolding judged
+    told-limits row ones set total e r o c t =
+        let m = many-is row set ones r c o in
+        let n = over-is row r ∙ ap (λ (x : ℕ). both (eqb (f .kind) 2) (ltb (mostTotal f) x)) t in
+        rw (lt-leb _ _ h, b, ne-eqb _ _ e, m, n)
 
   pub asked-no : (n : ℕ) → judged w f target l operation cells ≡ n → (n ≡ 0 → ⊥) → asked w f target l operation cells ≡ answer n cells
   unfolding asked

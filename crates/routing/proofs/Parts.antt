@@ -1,17 +1,17 @@
 -- A request's parts: what a source taken from every target leaves, a target's cells exchanged, and their count.
-use Prim.Native.Nat.{ℕ, zero, suc, _+_, _-_, _*_, _≤_, _<_}
+use Prim.Native.Nat.{ℕ, _+_, _-_, _*_, _≤_, _<_}
 use mathlib.Core.Path.{_≡_, refl, sym, ap, _∙_}
 use mathlib.Core.List.{List, [], _∷_, _++_}
 use mathlib.Core.Bool.{Bool, true, false, true≢false}
 use native.Mathlib.Omega.{arith}
 use borrow.Author.Tests.{lt-ltb, le-ltb, ne-eqb, ltb-true}
-use lib.ListN.{length, take, drop, getD, length-drop}
-use lib.Seq.{drop-drop, take-all}
+use lib.ListN.{length, take, drop, getD, take-append-drop}
+use lib.Seq.{drop-drop}
 use Rattle.routing.proofs.Laws.{count-le}
 use lib.Dec.{ltb}
 use Rattle.integers.specs.Digits.{pick}
 use Rattle.routing.specs.declared.Figures.{Figures}
-use Rattle.routing.specs.Crosspoints.{Cells, count, withRow, takenFrom}
+use Rattle.routing.specs.Crosspoints.{Cells, count, rowAt, withRow, takenFrom}
 use Rattle.routing.specs.Request.{named, allBelow, takes, others}
 
 pub count-append : (a b : Cells) → count (a ++ b) ≡ count a + count b
@@ -58,25 +58,34 @@ row-put w cells t last new a e h p q =
     ap (λ (x : Cells). take a cells ++ (last ++ x)) (drop-drop (e - a) a cells ∙ ap (λ (k : ℕ). drop k cells) d)
     ∙ with-row w cells t last a e p q ∙ ap (withRow w cells t) h
 
-pub count-with : (w : ℕ) (cells : Cells) (t : ℕ) (new : Cells) (a e n x y z : ℕ) → a ≡ t * w → e ≡ t * w + w → n ≡ length cells
-    → count (take (a - 0) (drop 0 cells)) ≡ x → count new ≡ y → count (take (n - e) (drop e cells)) ≡ z → count (withRow w cells t new) ≡ x + y + z
-count-with w cells t new a e n x y z p q h i j k =
-    let d : a - 0 ≡ a = omega arith in
-    let r : count (take a cells) ≡ x = ap (λ (m : ℕ). count (take m cells)) (sym d) ∙ i in
-    let u : count (drop e cells) ≡ z = ap count (sym (take-all (n - e) (drop e cells) (omega (arith, length-drop e cells, h)))) ∙ k in
-    ap count (sym (with-row w cells t new a e p q))
-    ∙ count-append (take a cells) (new ++ drop e cells)
-    ∙ omega (arith, count-append new (drop e cells), r, j, u)
+-- a target's cells exchanged for themselves
+pub row-same : (w : ℕ) (cells : Cells) (t : ℕ) → withRow w cells t (rowAt w cells t) ≡ cells
+unfolding withRow rowAt
+row-same w cells t =
+    ap (λ (x : Cells). take (t * w) cells ++ (take w (drop (t * w) cells) ++ x)) (sym (drop-drop w (t * w) cells))
+    ∙ ap (λ (x : Cells). take (t * w) cells ++ x) (take-append-drop w (drop (t * w) cells)) ∙ take-append-drop (t * w) cells
 
-pub take-length-le : (n : ℕ) (l : Cells) → length (take n l) ≤ length l
-take-length-le zero l = omega arith
-take-length-le (suc n) [] = omega arith
-take-length-le (suc n) (x ∷ xs) = omega (arith, take-length-le n xs)
+pub count-row : (w : ℕ) (cells : Cells) (t : ℕ) (new : Cells)
+    → count (withRow w cells t new) ≡ count (take (t * w) cells) + (count new + count (drop (t * w + w) cells))
+unfolding withRow
+count-row w cells t new =
+    count-append (take (t * w) cells) (new ++ drop (t * w + w) cells)
+    ∙ ap (λ (n : ℕ). count (take (t * w) cells) + n) (count-append new (drop (t * w + w) cells))
 
--- a part's count is no more than the whole's length
-pub part-under : (cells : Cells) (a b n x : ℕ) → length cells ≤ n → count (take b (drop a cells)) ≡ x → x ≤ n
-part-under cells a b n x h e =
-    omega (arith, h, sym e, count-le (take b (drop a cells)), take-length-le b (drop a cells), length-drop a cells)
+-- the total after: the total before, less the target's cells, and its new ones
+module _ (w : ℕ) (cells : Cells) (t : ℕ) (old : Cells) (total before : ℕ) (h : old ≡ rowAt w cells t) (i : count cells ≡ total) (j : count old ≡ before)
+  where
+    total-parts : total ≡ count (take (t * w) cells) + (before + count (drop (t * w + w) cells))
+    total-parts =
+        sym i ∙ ap count (sym (row-same w cells t)) ∙ count-row w cells t (rowAt w cells t)
+        ∙ ap (λ (n : ℕ). count (take (t * w) cells) + (n + count (drop (t * w + w) cells))) (ap count (sym h) ∙ j)
 
-pub all-under : (cells : Cells) (n x : ℕ) → length cells ≤ n → count cells ≡ x → x ≤ n
+    pub before-le : before ≤ total
+    before-le = omega (arith, total-parts)
+
+    pub total-after : (new : Cells) (after : ℕ) → count new ≡ after → count (withRow w cells t new) ≡ total - before + after
+    total-after new after k = omega (arith, total-parts, count-row w cells t new, k)
+
+-- no more cells are set than there are
+pub all-under : (cells : Cells) (n x : ℕ) → length cells ≡ n → count cells ≡ x → x ≤ n
 all-under cells n x h e = omega (arith, h, sym e, count-le cells)

@@ -436,18 +436,6 @@ fn put_row(cells: &mut [u8], target: u64, row: &[u8])
     copy(&mut cells[from..to], row);
 }
 
-// How many cells are set with other cells for a target.
-fn count_with(cells: &[u8], target: u64, row: &[u8]) -> u64
-    requires { ⌜ length (now cells) ≡ 4096 ⌝ }
-    requires { ⌜ target + 1 ≤ 64 ⌝ }
-    requires { ⌜ length (now row) ≡ 64 ⌝ }
-    ensures { λ r. ⌜ count (withRow side (now (cells .entry)) target (now (row .entry))) ≡ r ⌝ }
-{
-    let from = row_start(target);
-    let to = from + SIDE;
-    count(&cells[0..from]) + count(row) + count(&cells[to..])
-}
-
 // Whether a target has too many: for N:N its cells are over its limit, else the list is over one.
 fn is_many(f: Figures, ones: u64, set: u64) -> bool
     ensures { λ r. ⌜ pick (eqb (f .kind) 2) (ltb (mostEach f) set) (ltb 1 ones) ≡ r ⌝ }
@@ -458,19 +446,31 @@ fn is_many(f: Figures, ones: u64, set: u64) -> bool
     1 < ones
 }
 
-// Whether the total is over its limit with other cells for a target; only N:N heeds it.
-fn is_over(f: Figures, target: u64, row: &[u8], cells: &[u8]) -> bool
+// Whether n cells in total are over the limit; only N:N heeds it.
+fn is_over(f: Figures, n: u64) -> bool
     requires { ⌜ f .targets ≤ 64 ⌝ }
     requires { ⌜ f .sources ≤ 64 ⌝ }
-    requires { ⌜ length (now cells) ≡ 4096 ⌝ }
-    requires { ⌜ target + 1 ≤ 64 ⌝ }
-    requires { ⌜ length (now row) ≡ 64 ⌝ }
-    ensures { λ r. ⌜ both (eqb (f .kind) 2) (ltb (mostTotal f) (count (withRow side (now (cells .entry)) target (now (row .entry))))) ≡ r ⌝ }
+    ensures { λ r. ⌜ both (eqb (f .kind) 2) (ltb (mostTotal f) n) ≡ r ⌝ }
 {
     if f.kind != 2 {
         return false;
     }
-    !in_total(f, count_with(cells, target, row))
+    !in_total(f, n)
+}
+
+// 43, 44 or 0, from the sources named and the cells set after the request, of the target and in total.
+fn limits(f: Figures, ones: u64, set: u64, sum: u64) -> u64
+    requires { ⌜ f .targets ≤ 64 ⌝ }
+    requires { ⌜ f .sources ≤ 64 ⌝ }
+    ensures { λ r. ⌜ pick (pick (eqb (f .kind) 2) (ltb (mostEach f) set) (ltb 1 ones)) 43 (pick (both (eqb (f .kind) 2) (ltb (mostTotal f) sum)) 44 0) ≡ r ⌝ }
+{
+    if is_many(f, ones, set) {
+        return 43;
+    }
+    if is_over(f, sum) {
+        return 44;
+    }
+    0
 }
 
 // A target's cells.
@@ -506,17 +506,13 @@ fn judge(
     ensures { λ _. ⌜ now (row .exit) ≡ becomes side f (now (sources .entry)) operation (rowAt side (now (cells .entry)) target) ⌝ }
 {
     get_row(row, cells, target);
+    let before = count(row);
     become_row(f, sources, operation, ones, row);
-    if operation == 2 {
+    if 2 == operation {
         return 0;
     }
-    if is_many(f, ones, count(row)) {
-        return 43;
-    }
-    if is_over(f, target, row, cells) {
-        return 44;
-    }
-    0
+    let after = count(row);
+    limits(f, ones, after, count(cells) - before + after)
 }
 
 // A request on a legal desk; `row` is scratch.
