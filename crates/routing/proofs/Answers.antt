@@ -84,15 +84,15 @@ module _ (w : ℕ) (f : Figures) (target : ℕ) (l : List ℕ) (operation : ℕ)
     unfolding judged
     told-less e = simp (lt-leb _ _ h, b, eq-eqb _ _ e)
 
-    pub told-limits : (row : Cells) (ones set total : ℕ) → (operation ≡ 2 → ⊥) → row ≡ becomes w f l operation (rowAt w cells target)
+    pub told-limits : (row : Cells) (ones set total set′ total′ r : ℕ) → (operation ≡ 2 → ⊥) → row ≡ becomes w f l operation (rowAt w cells target)
         → count (named w l) ≡ ones → count row ≡ set → count (withRow w cells target row) ≡ total
-        → judged w f target l operation cells
-        ≡ pick (pick (eqb (f .kind) 2) (ltb (mostEach f) set) (ltb 1 ones)) 43 (pick (both (eqb (f .kind) 2) (ltb (mostTotal f) total)) 44 0)
+        → pick (pick (eqb (f .kind) 2) (ltb (mostEach f) set′) (ltb 1 ones)) 43 (pick (both (eqb (f .kind) 2) (ltb (mostTotal f) total′)) 44 0) ≡ r
+        → set ≡ set′ → total ≡ total′ → judged w f target l operation cells ≡ r
     unfolding judged
-    told-limits row ones set total e r o c t =
-        let m = many-is row set ones r c o in
-        let n = over-is row r ∙ ap (λ (x : ℕ). both (eqb (f .kind) 2) (ltb (mostTotal f) x)) t in
-        rw (lt-leb _ _ h, b, ne-eqb _ _ e, m, n)
+    told-limits row ones set total set′ total′ r e d o c t s i j =
+        let m = many-is row set′ ones d (c ∙ i) o in
+        let n = over-is row d ∙ ap (λ (x : ℕ). both (eqb (f .kind) 2) (ltb (mostTotal f) x)) (t ∙ j) in
+        rw (lt-leb _ _ h, b, ne-eqb _ _ e, m, n) s
 
   pub asked-no : (n : ℕ) → judged w f target l operation cells ≡ n → (n ≡ 0 → ⊥) → asked w f target l operation cells ≡ answer n cells
   unfolding asked

@@ -167,7 +167,11 @@ fn in_total(f: Figures, n: u64) -> bool
     ensures { λ r. ⌜ leb n (mostTotal f) ≡ r ⌝ }
 {
     let total = f.total;
-    n <= limit_or(total, f.targets * f.sources)
+    let most = limit_or(total, f.targets * f.sources);
+    if most < n {
+        return false;
+    }
+    true
 }
 
 // Whether the cells of target t fit.

@@ -59,7 +59,7 @@ returns-3 : tie.Need-returns-3
 returns-3 c =
     let the-judge = c .before .before .before .judge in
     let the-if3 = c .if3 in
-    asked-no 64 _ _ _ _ _ _ (the-judge .ensures .0) (the-if3 .taken)
+    asked-no 64 _ _ _ _ _ (the-judge .result) (the-judge .ensures .0) (λ e. omega arith)
 
 free-requires : tie.Need-free-requires
 free-requires c κs =

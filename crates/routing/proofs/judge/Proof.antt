@@ -1,6 +1,6 @@
 use Rattle.routing.proofs.Parts.{before-le, total-after, all-under}
 use Rattle.routing.proofs.Answers.{row-from, told-less, told-limits}
-use mathlib.Core.Path.{sym, _∙_}
+use mathlib.Core.Path.{refl, sym, _∙_}
 use Prim.Native.Nat.{_-_}
 use native.Mathlib.Omega.{arith}
 use borrow.Author.Needs.{needs}
@@ -82,8 +82,8 @@ returns-2 c =
     let t = total-after 64 (the-args .cells .now) (the-args .target) _ (the-count3 .result) (the-count .result)
     (the-get-row .ensures) (the-count3 .ensures) (the-count .ensures) _ _ (the-count2 .ensures) in
     let o = the-pre .1 .1 .1 .1 .1 in (
-      told-limits 64 _ _ _ _ _ (omega arith) (o .0) _ _ _ _ (λ z. the-if1 .left (sym z)) e (o .1) (the-count2 .ensures) t
-          ∙ the-limits .ensures,
+      told-limits 64 _ _ _ _ _ (omega arith) (o .0) _ _ _ _ _ _ _ (λ z. the-if1 .left (sym z)) e (o .1) (the-count2 .ensures) t
+          (the-limits .ensures) refl refl,
       e,
     )
 
