@@ -18,7 +18,7 @@ use Rattle.routing.specs.Request.{marked, named, allBelow, replaces, bec
 use Rattle.routing.proofs.Laws.{both-left, both-right, both-yes, replaces-if, fit-sources-le, fit-targets-le, each-one, at-there, kind-many}
 use Rattle.routing.proofs.Laws.{becomes-less, becomes-list, becomes-one, becomes-more}
 use Rattle.routing.proofs.Parts.{first-below, others-kind, others-take}
-use Rattle.routing.proofs.Answers.{legal-fit}
+use Rattle.routing.proofs.Answers.{legal-fit, legal-length, request-asked}
 use Rattle.routing.proofs.Under.{Under, under-count, under-drop, row-cell, row-past, row-length, bits-tell}
 use Rattle.routing.proofs.Under.{fits-most, fits-past, rows-tell, with-inside}
 use Rattle.routing.proofs.Rows.{count-none, taken-length, taken-under, taken-cell, marked-length, marked-under, marked-bits, marked-past}
@@ -371,3 +371,37 @@ module _ (w : ℕ) (f : Figures) (target : ℕ) (l : List ℕ) (operation : ℕ)
           let z : Done = done-tells (eqb-true (done .number) 0 e) in
           ap (λ (x : Cells). getD x (t * w + s) 0) (z .after) ∙ granted-other (z .legal-before) (z .known) (z .passed) t s j d
           ∙ ap (λ (x : Cells). getD x (t * w + s) 0) (others-kind w f l operation cells k)
+
+  pub request-length : length (done .cells) ≡ length cells
+  request-length = go (eqb (done .number) 0) refl
+    where
+      go : (u : Bool) → eqb (done .number) 0 ≡ u → length (done .cells) ≡ length cells
+      go false e = ap length (refused-same (eqb-false (done .number) 0 e))
+      go true e =
+          let z : Done = done-tells (eqb-true (done .number) 0 e) in
+          legal-length w f (done .cells) (request-legal (z .legal-before)) ∙ sym (legal-length w f cells (z .legal-before))
+
+  -- 1 is for a desk that is not legal or an operation that is none, and for nothing else
+  told-not-setup : judged w f target l operation cells ≡ 1 → ⊥
+  unfolding judged
+  told-not-setup =
+      go (leb (f .targets) target) (allBelow (f .sources) l) (eqb operation 2) (many w f l operation (rowAt w cells target))
+      (overTotal w f target l operation cells)
+    where
+      go : (a b c d e : Bool) → _≡_ {A = ℕ} (pick a 41 (pick b (pick c 0 (pick d 43 (pick e 44 0))) 42)) 1 → ⊥
+      go true b c d e z = omega (arith, z)
+      go false false c d e z = omega (arith, z)
+      go false true true d e z = omega (arith, z)
+      go false true false true e z = omega (arith, z)
+      go false true false false true z = omega (arith, z)
+      go false true false false false z = omega (arith, z)
+
+  pub request-not-setup : legal w f cells ≡ true → operation ≤ 2 → done .number ≡ 1 → ⊥
+  unfolding asked
+  request-not-setup h o n =
+      go (eqb (judged w f target l operation cells) 0) (sym (ap (λ (a : Answer). a .number) (request-asked w f target l operation cells h o)) ∙ n)
+    where
+      go : (v : Bool)
+          → (pick v (answer 0 (result w f target l operation cells)) (answer (judged w f target l operation cells) cells)) .number ≡ 1 → ⊥
+      go true z = omega (arith, z)
+      go false z = told-not-setup z
