@@ -299,9 +299,13 @@ module _ (w : ℕ) (f : Figures) (mode : ℕ) (cells : Cells) where
   open-done after h b m e = rw (eq-eqb _ _ h, b, m) (ap (answer 0) (ap clear (sym h) ∙ sym e))
 
 -- what the parts handed on tell
-pub total-says : (f : Figures) (n x : ℕ) → limitOr (f .total) (f .targets * f .sources) ≡ x → leb n (mostTotal f) ≡ leb n x
+pub total-over : (f : Figures) (n x : ℕ) → limitOr (f .total) (f .targets * f .sources) ≡ x → x < n → leb n (mostTotal f) ≡ false
 unfolding mostTotal
-total-says f n x e = ap (leb n) e
+total-over f n x e h = ap (leb n) e ∙ lt-leb n x h
+
+pub total-within : (f : Figures) (n x : ℕ) → limitOr (f .total) (f .targets * f .sources) ≡ x → n ≤ x → leb n (mostTotal f) ≡ true
+unfolding mostTotal
+total-within f n x e h = ap (leb n) e ∙ le-leb n x h
 
 pub row-says : (w : ℕ) (f : Figures) (cells : Cells) (n k : ℕ) (b : Bool) → k ≡ n
     → rowFits f k (take (n * w + w - n * w) (drop (n * w) cells)) ≡ b → rowFits f n (rowAt w cells n) ≡ b

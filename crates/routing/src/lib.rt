@@ -1,12 +1,14 @@
-// The desk: figures and crosspoints, legality, opening, and the parts of a request.
+// The desk: figures and crosspoints, legality, opening, and a request on plain numbers.
 ghost use mathlib.Core.Path.{_≡_};
-ghost use Prim.Native.Nat.{_+_, _≤_};
+ghost use Prim.Native.Nat.{_+_, _*_, _≤_};
+ghost use mathlib.Core.Bool.{true};
 ghost use lib.Dec.{leb, ltb, eqb};
-ghost use lib.ListN.{length, set};
+ghost use lib.ListN.{length, getD, set};
+ghost use Rattle.integers.specs.Digits.{pick};
 ghost use Rattle.routing.specs.Figures.{side, both, isCount, isLimit, figuresFit, limitOr, mostEach, mostTotal};
 ghost use Rattle.routing.specs.Crosspoints.{bit, count, allBits, clear, holders, takenFrom, mostAt, rowFits, rowsFit, sourcesFit};
-ghost use Rattle.routing.specs.Crosspoints.{kindFits, cellsFit, legal, answer, opened};
-ghost use Rattle.routing.specs.Request.{marked, named, becomes, allBelow};
+ghost use Rattle.routing.specs.Crosspoints.{kindFits, cellsFit, legal, answer, opened, rowAt, withRow};
+ghost use Rattle.routing.specs.Request.{marked, named, becomes, allBelow, others, judged, asked, requested};
 
 // "1 to 64 targets, 1 to 64 sources": also the row size of the crosspoints.
 const SIDE: usize = 64;
@@ -165,7 +167,11 @@ fn in_total(f: Figures, n: u64) -> bool
     ensures { λ r. ⌜ leb n (mostTotal f) ≡ r ⌝ }
 {
     let total = f.total;
-    n <= limit_or(total, f.targets * f.sources)
+    let most = limit_or(total, f.targets * f.sources);
+    if most < n {
+        return false;
+    }
+    true
 }
 
 // Whether the cells of target t fit.
@@ -382,4 +388,185 @@ fn become_row(f: Figures, sources: &[u64], operation: u64, ones: u64, row: &mut 
         return;
     }
     mark(row, sources, 1);
+}
+
+// The first source named, 0 if there is none.
+fn first(sources: &[u64]) -> u64
+    ensures { λ r. ⌜ getD (now (sources .entry)) 0 0 ≡ r ⌝ }
+{
+    if 0 < sources.len() {
+        return sources[0];
+    }
+    0
+}
+
+// In 1:1, absolute or connect with one source takes it from every target.
+fn free(f: Figures, sources: &[u64], operation: u64, ones: u64, cells: &mut [u8])
+    requires { ⌜ f .sources ≤ 64 ⌝ }
+    requires { ⌜ allBelow (f .sources) (now sources) ≡ true ⌝ }
+    requires { ⌜ count (named side (now sources)) ≡ ones ⌝ }
+    ensures { λ _. ⌜ now (cells .exit) ≡ others side f (now (sources .entry)) operation (now (cells .entry)) ⌝ }
+{
+    if f.kind != 1 {
+        return;
+    }
+    if 2 <= operation {
+        return;
+    }
+    if ones != 1 {
+        return;
+    }
+    take_from(cells, first(sources));
+}
+
+// Where a target's cells begin.
+fn row_start(t: u64) -> usize
+    requires { ⌜ t + 1 ≤ 64 ⌝ }
+    ensures { λ r. ⌜ r ≡ t * 64 ⌝ }
+{
+    let i = t as usize;
+    i * SIDE
+}
+
+// Other cells for a target.
+fn put_row(cells: &mut [u8], target: u64, row: &[u8])
+    requires { ⌜ length (now cells) ≡ 4096 ⌝ }
+    requires { ⌜ target + 1 ≤ 64 ⌝ }
+    requires { ⌜ length (now row) ≡ 64 ⌝ }
+    ensures { λ _. ⌜ now (cells .exit) ≡ withRow side (now (cells .entry)) target (now (row .entry)) ⌝ }
+{
+    let from = row_start(target);
+    let to = from + SIDE;
+    copy(&mut cells[from..to], row);
+}
+
+// Whether a target has too many: for N:N its cells are over its limit, else the list is over one.
+fn is_many(f: Figures, ones: u64, set: u64) -> bool
+    ensures { λ r. ⌜ pick (eqb (f .kind) 2) (ltb (mostEach f) set) (ltb 1 ones) ≡ r ⌝ }
+{
+    if f.kind == 2 {
+        return most_each(f) < set;
+    }
+    1 < ones
+}
+
+// Whether n cells in total are over the limit; only N:N heeds it.
+fn is_over(f: Figures, n: u64) -> bool
+    requires { ⌜ f .targets ≤ 64 ⌝ }
+    requires { ⌜ f .sources ≤ 64 ⌝ }
+    ensures { λ r. ⌜ both (eqb (f .kind) 2) (ltb (mostTotal f) n) ≡ r ⌝ }
+{
+    if f.kind != 2 {
+        return false;
+    }
+    !in_total(f, n)
+}
+
+// 43, 44 or 0, from the sources named and the cells set after the request, of the target and in total.
+fn limits(f: Figures, ones: u64, set: u64, sum: u64) -> u64
+    requires { ⌜ f .targets ≤ 64 ⌝ }
+    requires { ⌜ f .sources ≤ 64 ⌝ }
+    ensures { λ r. ⌜ pick (pick (eqb (f .kind) 2) (ltb (mostEach f) set) (ltb 1 ones)) 43 (pick (both (eqb (f .kind) 2) (ltb (mostTotal f) sum)) 44 0) ≡ r ⌝ }
+{
+    if is_many(f, ones, set) {
+        return 43;
+    }
+    if is_over(f, sum) {
+        return 44;
+    }
+    0
+}
+
+// A target's cells.
+fn get_row(row: &mut [u8], cells: &[u8], target: u64)
+    requires { ⌜ length (now cells) ≡ 4096 ⌝ }
+    requires { ⌜ target + 1 ≤ 64 ⌝ }
+    requires { ⌜ length (now row) ≡ 64 ⌝ }
+    ensures { λ _. ⌜ now (row .exit) ≡ rowAt side (now (cells .entry)) target ⌝ }
+{
+    let from = row_start(target);
+    let to = from + SIDE;
+    copy(row, &cells[from..to]);
+}
+
+// 0, 43 or 44 for a target's cells after the request, which `row` then holds; `ones` counts the sources named.
+fn judge(
+    f: Figures,
+    target: u64,
+    sources: &[u64],
+    operation: u64,
+    ones: u64,
+    cells: &[u8],
+    row: &mut [u8],
+) -> u64
+    requires { ⌜ f .targets ≤ 64 ⌝ }
+    requires { ⌜ f .sources ≤ 64 ⌝ }
+    requires { ⌜ length (now cells) ≡ 4096 ⌝ }
+    requires { ⌜ length (now row) ≡ 64 ⌝ }
+    requires { ⌜ target + 1 ≤ f .targets ⌝ }
+    requires { ⌜ allBelow (f .sources) (now sources) ≡ true ⌝ }
+    requires { ⌜ count (named side (now sources)) ≡ ones ⌝ }
+    ensures { λ r. ⌜ judged side f target (now (sources .entry)) operation (now (cells .entry)) ≡ r ⌝ }
+    ensures { λ _. ⌜ now (row .exit) ≡ becomes side f (now (sources .entry)) operation (rowAt side (now (cells .entry)) target) ⌝ }
+{
+    get_row(row, cells, target);
+    let before = count(row);
+    become_row(f, sources, operation, ones, row);
+    if 2 == operation {
+        return 0;
+    }
+    let after = count(row);
+    limits(f, ones, after, count(cells) - before + after)
+}
+
+// A request on a legal desk; `row` is scratch.
+fn ask(
+    f: Figures,
+    target: u64,
+    sources: &[u64],
+    operation: u64,
+    crosspoints: &mut [u8],
+    row: &mut [u8],
+) -> u64
+    requires { ⌜ f .targets ≤ 64 ⌝ }
+    requires { ⌜ f .sources ≤ 64 ⌝ }
+    requires { ⌜ length (now crosspoints) ≡ 4096 ⌝ }
+    requires { ⌜ length (now row) ≡ 64 ⌝ }
+    ensures { λ r. ⌜ asked side f target (now (sources .entry)) operation (now (crosspoints .entry)) ≡ answer r (now (crosspoints .exit)) ⌝ }
+{
+    if f.targets <= target {
+        return 41;
+    }
+    if !all_below(f.sources, sources) {
+        return 42;
+    }
+    list_row(row, sources);
+    let ones = count(row);
+    let told = judge(f, target, sources, operation, ones, crosspoints, row);
+    if told != 0 {
+        return told;
+    }
+    free(f, sources, operation, ones, crosspoints);
+    put_row(crosspoints, target, row);
+    0
+}
+
+// One request: 0 and the crosspoints as asked for; 41 to 44, or 1 where the desk is not legal or the operation none, and they stay as they were.
+pub fn request(
+    f: Figures,
+    target: u64,
+    sources: &[u64],
+    operation: u64,
+    crosspoints: &mut [u8],
+) -> u64
+    ensures { λ r. ⌜ requested side f target (now (sources .entry)) operation (now (crosspoints .entry)) ≡ answer r (now (crosspoints .exit)) ⌝ }
+{
+    if !is_legal(f, crosspoints) {
+        return 1;
+    }
+    if 2 < operation {
+        return 1;
+    }
+    let mut row = [0u8; 64];
+    ask(f, target, sources, operation, crosspoints, &mut row)
 }

@@ -1,0 +1,133 @@
+-- One law for each number that a request answers.
+use Prim.Native.Nat.{ℕ, _*_, _≤_, _<_}
+use mathlib.Core.Path.{_≡_, refl, sym, ap, _∙_}
+use mathlib.Core.List.{List}
+use mathlib.Core.Bool.{Bool, true, false, not}
+use native.Mathlib.Omega.{arith}
+use borrow.Author.Tests.{leb-true, leb-false, eqb-true, lt-leb, le-leb, lt-ltb, le-ltb, eq-eqb, ne-eqb}
+use lib.ListN.{length}
+use lib.Dec.{leb, ltb, eqb}
+use Rattle.integers.specs.Digits.{pick}
+use Rattle.routing.specs.declared.Figures.{Figures}
+use Rattle.routing.specs.Figures.{both, figuresFit, mostEach, mostTotal}
+use Rattle.routing.specs.Crosspoints.{Cells, count, allBits, rowAt, withRow, rowsFit, kindFits, cellsFit, legal, answer}
+use Rattle.routing.specs.Request.{named, allBelow, becomes, others, result, many, overTotal, judged, asked, requested}
+use Rattle.routing.proofs.Laws.{both-yes, both-left, both-right}
+use Rattle.routing.proofs.Parts.{others-kind}
+
+pub over-not : (m n : ℕ) (b : Bool) → leb n m ≡ b → ltb m n ≡ not b
+over-not m n true e = le-ltb m n (leb-true n m e)
+over-not m n false e = lt-ltb m n (leb-false n m e)
+
+module _ (f : Figures) where
+  pub over-says : (n : ℕ) (b : Bool) → f .kind ≡ 2 → leb n (mostTotal f) ≡ b → both (eqb (f .kind) 2) (ltb (mostTotal f) n) ≡ not b
+  over-says n b h e = both-yes _ _ (eq-eqb _ _ h) ∙ over-not (mostTotal f) n b e
+
+  pub over-other : (n : ℕ) → (f .kind ≡ 2 → ⊥) → both (eqb (f .kind) 2) (ltb (mostTotal f) n) ≡ false
+  over-other n h = simp (ne-eqb _ _ h)
+
+  pub many-says : (n o x : ℕ) → f .kind ≡ 2 → mostEach f ≡ x → pick (eqb (f .kind) 2) (ltb (mostEach f) n) (ltb 1 o) ≡ ltb x n
+  many-says n o x h e =
+      let p : pick (eqb (f .kind) 2) (ltb (mostEach f) n) (ltb 1 o) ≡ ltb (mostEach f) n = simp (eq-eqb _ _ h) in
+      p ∙ ap (λ (m : ℕ). ltb m n) e
+
+  pub many-list : (n o : ℕ) → (f .kind ≡ 2 → ⊥) → pick (eqb (f .kind) 2) (ltb (mostEach f) n) (ltb 1 o) ≡ ltb 1 o
+  many-list n o h = simp (ne-eqb _ _ h)
+
+module _ (m t : Bool) where
+  pub limits-many : m ≡ true → _≡_ {A = ℕ} (pick m 43 (pick t 44 0)) 43
+  limits-many h = rw h
+
+  pub limits-total : m ≡ false → t ≡ true → _≡_ {A = ℕ} (pick m 43 (pick t 44 0)) 44
+  limits-total h k = rw (h, k)
+
+  pub limits-none : m ≡ false → t ≡ false → _≡_ {A = ℕ} (pick m 43 (pick t 44 0)) 0
+  limits-none h k = rw (h, k)
+
+module _ (w : ℕ) (f : Figures) (target : ℕ) (l : List ℕ) (operation : ℕ) (cells : Cells) where
+  pub row-from : (old row : Cells) → old ≡ rowAt w cells target → row ≡ becomes w f l operation old → row ≡ becomes w f l operation (rowAt w cells target)
+  row-from old row e h = h ∙ ap (becomes w f l operation) e
+
+  pub result-is : (freed row : Cells) → freed ≡ others w f l operation cells → row ≡ becomes w f l operation (rowAt w cells target)
+      → result w f target l operation cells ≡ withRow w freed target row
+  unfolding result
+  result-is freed row e h = rw (e, h)
+
+  pub over-is : (row : Cells) → row ≡ becomes w f l operation (rowAt w cells target)
+      → overTotal w f target l operation cells ≡ both (eqb (f .kind) 2) (ltb (mostTotal f) (count (withRow w cells target row)))
+  unfolding overTotal
+  over-is row h = go (eqb (f .kind) 2) refl
+    where
+      go : (u : Bool) → eqb (f .kind) 2 ≡ u
+          → both u (ltb (mostTotal f) (count (result w f target l operation cells))) ≡ both u (ltb (mostTotal f) (count (withRow w cells target row)))
+      go false e = refl
+      go true e =
+          let k : f .kind ≡ 2 = eqb-true (f .kind) 2 e in
+          let o : cells ≡ others w f l operation cells = sym (others-kind w f l operation cells (λ q. omega (arith, q, k))) in
+          ap (λ (x : Cells). ltb (mostTotal f) (count x)) (result-is cells row o h)
+
+  pub many-is : (row : Cells) (n ones : ℕ) → row ≡ becomes w f l operation (rowAt w cells target) → count row ≡ n → count (named w l) ≡ ones
+      → many w f l operation (rowAt w cells target) ≡ pick (eqb (f .kind) 2) (ltb (mostEach f) n) (ltb 1 ones)
+  unfolding many
+  many-is row n ones h e k = rw (sym h, e, k)
+
+  pub told-target : f .targets ≤ target → judged w f target l operation cells ≡ 41
+  unfolding judged
+  told-target h = simp (le-leb _ _ h)
+
+  pub told-source : target < f .targets → allBelow (f .sources) l ≡ false → judged w f target l operation cells ≡ 42
+  unfolding judged
+  told-source h b = simp (lt-leb _ _ h, b)
+
+  module _ (h : target < f .targets) (b : allBelow (f .sources) l ≡ true) where
+    pub told-less : operation ≡ 2 → judged w f target l operation cells ≡ 0
+    unfolding judged
+    told-less e = simp (lt-leb _ _ h, b, eq-eqb _ _ e)
+
+    pub told-limits : (row : Cells) (ones set total set′ total′ r : ℕ) → (operation ≡ 2 → ⊥) → row ≡ becomes w f l operation (rowAt w cells target)
+        → count (named w l) ≡ ones → count row ≡ set → count (withRow w cells target row) ≡ total
+        → pick (pick (eqb (f .kind) 2) (ltb (mostEach f) set′) (ltb 1 ones)) 43 (pick (both (eqb (f .kind) 2) (ltb (mostTotal f) total′)) 44 0) ≡ r
+        → set ≡ set′ → total ≡ total′ → judged w f target l operation cells ≡ r
+    unfolding judged
+    told-limits row ones set total set′ total′ r e d o c t s i j =
+        let m = many-is row set′ ones d (c ∙ i) o in
+        let n = over-is row d ∙ ap (λ (x : ℕ). both (eqb (f .kind) 2) (ltb (mostTotal f) x)) (t ∙ j) in
+        rw (lt-leb _ _ h, b, ne-eqb _ _ e, m, n) s
+
+  pub asked-no : (n : ℕ) → judged w f target l operation cells ≡ n → (n ≡ 0 → ⊥) → asked w f target l operation cells ≡ answer n cells
+  unfolding asked
+  asked-no n j h = rw (j, ne-eqb n 0 h)
+
+  pub asked-yes : (freed row after : Cells) → judged w f target l operation cells ≡ 0 → freed ≡ others w f l operation cells
+      → row ≡ becomes w f l operation (rowAt w cells target) → after ≡ withRow w freed target row
+      → asked w f target l operation cells ≡ answer 0 after
+  unfolding asked
+  asked-yes freed row after j e r a = rw j (ap (answer 0) (result-is freed row e r ∙ sym a))
+
+  pub request-legal-not : legal w f cells ≡ false → requested w f target l operation cells ≡ answer 1 cells
+  unfolding requested
+  request-legal-not h = simp h
+
+  pub request-none : legal w f cells ≡ true → 2 < operation → requested w f target l operation cells ≡ answer 1 cells
+  unfolding requested
+  request-none h o = simp (h, lt-leb _ _ o)
+
+  pub request-asked : legal w f cells ≡ true → operation ≤ 2 → requested w f target l operation cells ≡ asked w f target l operation cells
+  unfolding requested
+  request-asked h o = simp (h, le-leb _ _ o)
+
+-- what a legal desk tells
+module _ (w : ℕ) (f : Figures) (cells : Cells) (h : legal w f cells ≡ true) where
+  pub legal-fit : figuresFit w f ≡ true
+  unfolding legal
+  legal-fit = both-left (figuresFit w f) (cellsFit w f cells) h
+
+  pub legal-cells-fit : cellsFit w f cells ≡ true
+  unfolding legal
+  legal-cells-fit = both-right (figuresFit w f) (cellsFit w f cells) h
+
+  pub legal-length : length cells ≡ w * w
+  unfolding cellsFit
+  legal-length =
+      eqb-true (length cells) (w * w)
+      (both-left (eqb (length cells) (w * w)) (both (allBits cells) (both (rowsFit w f cells w) (kindFits w f cells))) legal-cells-fit)
