@@ -1,1 +1,4 @@
 pub mod Standing
+pub mod Shift
+pub mod Bools
+pub mod Leaves
