@@ -2,3 +2,5 @@ pub mod Standing
 pub mod Shift
 pub mod Bools
 pub mod Leaves
+pub mod Order
+pub mod Turns
