@@ -4,3 +4,4 @@ pub mod Bools
 pub mod Leaves
 pub mod Order
 pub mod Turns
+pub mod Members
