@@ -5,3 +5,4 @@ pub mod Leaves
 pub mod Order
 pub mod Turns
 pub mod Members
+pub mod Known
