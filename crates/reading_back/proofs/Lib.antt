@@ -6,3 +6,4 @@ pub mod Order
 pub mod Turns
 pub mod Members
 pub mod Known
+pub mod Stages
