@@ -21,7 +21,7 @@ use Rattle.glow.specs.Members.{afterListed, column}
 use Rattle.glow.specs.Tree.{Out, out, closed, MembersGive, ItemsGive}
 use Rattle.glow.proofs.Ways.{members-done, contents-in, list-in}
 use Rattle.forest.specs.Content.{Content, nothing, word, bytes, wrong, contentsOf as say, itemsOf}
-use Rattle.forest.specs.Trees.{Trees, none, tree, count, flat}
+use Rattle.forest.specs.Trees.{Trees, none, tree, count, flat, standsIn}
 use Rattle.forest.specs.Legal.{suits, present, empty, complete, legal}
 use Rattle.forest.specs.Written.{tagged, outer, spelled, memberOctets, membersOctets, wrapped, treesOctets}
 use Rattle.reading_back.proofs.Bools.{never, both-left, both-right}
@@ -82,6 +82,27 @@ wrapped-some n class number (x ∷ xs) h = refl
 closes : (s : List ℕ) (q j : ℕ) → closed s (till q) j (Next q) ≡ Next q
 unfolding closed
 closes s q j = last-here s q q j refl
+
+-- The trees of a collection, read from p to its end.
+pub record Grown (s : List ℕ) (k end which parent above p : ℕ) (es : Entries) (t : Trees) : Type 0 where
+  pub more : Entries
+  pub says : itemsOf s more ≡ flat parent (length es) t
+  pub sized : length more ≡ count t
+  pub gives : ItemsGive s k (till end) which parent above p es (out (Next end) (es ++ more))
+
+abbrev pub Grows : (ℕ → List ℕ) → List ℕ → Trees → Type 0
+Grows real s t =
+    (k end which parent above p : ℕ) (es : Entries) (rest : List ℕ) → legal which k above t ≡ true → drop p s ≡ treesOctets real t ++ rest
+    → p + length (treesOctets real t) ≡ end → Grown s k end which parent above p es t
+
+trees-some : (real : ℕ → List ℕ) (kind : ℕ) (members : List Content) (kids links rest : Trees) → 0 < length (treesOctets real (tree kind members kids links rest))
+unfolding treesOctets
+trees-some real kind members kids links rest = longer (outer 0 1 true _ _) (treesOctets real rest) (tagged-some 2 true 0 _)
+
+legal-deep : (which k above kind : ℕ) (members : List Content) (kids links rest : Trees) → legal which k above (tree kind members kids links rest) ≡ true → 3 ≤ k
+unfolding legal
+legal-deep which k above kind members kids links rest e =
+    leb-true 3 k (both-left (leb 3 k) _ (both-right (eqb (length members) 16) _ (both-right (standsIn which kind) _ e)))
 
 module _ (real : ℕ → List ℕ) (spells : Spells real) (s : List ℕ) (few : length s ≤ 16384) (end k kind : ℕ) (pre : Entries) (parent above : ℕ) where
   -- from one place among the members to another
@@ -201,3 +222,70 @@ module _ (real : ℕ → List ℕ) (spells : Spells real) (s : List ℕ) (few : 
       go : (b : Bool) → empty xs ≡ b → pick b true (leb 3 k) ≡ true → Contented p before v xs rest
       go true e d = contents-none p before v xs rest e ready one t
       go false e d = contents-some p before v xs rest e ready one short set plain fit rule (leb-true _ _ d) t inside′
+
+  -- a collection, in the member n, or none
+  pub record Listed (n class number p before : ℕ) (es : Entries) (t : Trees) (rest : List ℕ) : Type 0 where
+    pub more : Entries
+    pub says : itemsOf s more ≡ flat (length pre + 1) (length es) t
+    pub sized : length more ≡ count t
+    pub next : ℕ
+    pub goes : next ≡ p + length (wrapped n class number (treesOctets real t))
+    pub there : drop next s ≡ rest
+    pub after : ℕ
+    pub ready : Ready kind after (suc n)
+    pub gives : Moves p before es next after (es ++ more)
+
+  pub list-none : (n class number p before m : ℕ) (es : Entries) (rest : List ℕ) → m ≤ n → Ready kind before m → required kind ≤ m
+      → drop p s ≡ wrapped n class number (treesOctets real none) ++ rest → Listed n class number p before es none rest
+  unfolding treesOctets wrapped itemsOf flat count
+  list-none n class number p before m es rest h ready one t = record {
+    more = [];
+    says = refl;
+    sized = refl;
+    next = p;
+    goes = omega arith;
+    there = t;
+    after = before;
+    ready = ready-skip kind before m ready (suc n) (omega arith) one;
+    gives = λ y g. subst (λ (l : Entries). MembersGive s k (till end) kind (length pre) above p before l y) (append-nil es) g;
+  }
+
+  module _ (n class number which what : ℕ) (rule : ruleOf kind n ≡ what) (holding : 13 < what) (classes : innerClass what ≡ class)
+      (numbers : innerNumber what ≡ number) (collects : collectionOf what ≡ which) (small : n < 31) (small′ : number < 31) (seen : 0 < class + number) where
+    list-some : (p before m : ℕ) (es : Entries) (t : Trees) (rest : List ℕ) → m ≤ n → Ready kind before m → required kind ≤ m → 0 < length (treesOctets real t)
+        → 1 < k → legal which (k - 1 - 1) above t ≡ true → Grows real s t
+        → drop p s ≡ wrapped n class number (treesOctets real t) ++ rest → p + length (wrapped n class number (treesOctets real t)) ≤ end
+        → Listed n class number p before es t rest
+    list-some p before m es t rest h ready one some deep right grows d inside′ =
+        let all = treesOctets real t in
+        let w = wrapped-some n class number all some in
+        let l = ap length w in
+        let y = outered s few p end n class true number all rest small small′ seen (d ∙ ap (λ (l : List ℕ). l ++ rest) w) (omega arith) in
+        let r = grows (k - 1 - 1) (y .q) which (length pre + 1) above (y .b) es rest right (y .there) (y .ends) in
+        let i = member-items s p end k kind above before n rest (omega arith) (ready-order kind before m ready n h (inl one))
+        (ready-fresh kind before m ready n h) what rule (λ z. omega arith) class number all y deep which holding classes numbers collects in
+        let later = y .later in
+        let later′ = y .later′ in
+        let ends = y .ends in
+        let next = y .next in
+        record {
+          more = r .more;
+          says = r .says;
+          sized = r .sized;
+          next = y .q;
+          goes = omega arith;
+          there = y .after;
+          after = afterListed kind before n;
+          ready = ready-after kind before n m ready h;
+          gives = λ z g. list-in s k (till end) kind (length pre) above p before es {g = tagOf class 1 number (y .b) (y .q)}
+              i (y .within) (omega arith) (r .gives) (closes s (y .q) (k - 1)) (omega arith) g;
+        }
+
+    pub list-read : (p before m : ℕ) (es : Entries) (t : Trees) (rest : List ℕ) → m ≤ n → Ready kind before m → required kind ≤ m
+        → legal which (k - 1 - 1) above t ≡ true → Grows real s t
+        → drop p s ≡ wrapped n class number (treesOctets real t) ++ rest → p + length (wrapped n class number (treesOctets real t)) ≤ end
+        → Listed n class number p before es t rest
+    list-read p before m es none rest h ready one right grows d inside′ = list-none n class number p before m es rest h ready one d
+    list-read p before m es (tree kind′ members kids links trees) rest h ready one right grows d inside′ =
+        let deep = legal-deep which (k - 1 - 1) above kind′ members kids links trees right in
+        list-some p before m es (tree kind′ members kids links trees) rest h ready one (trees-some real kind′ members kids links trees) (omega arith) right grows d inside′
