@@ -7,3 +7,4 @@ pub mod Turns
 pub mod Members
 pub mod Known
 pub mod Stages
+pub mod Elements

@@ -35,7 +35,7 @@ entry kind parent cells = record { kind = kind; parent = parent; cells = cells }
 abbrev pub with : Entries → Entry → Entries
 with pre e = pre ++ (e ∷ [])
 
-put-here : (pre : Entries) (kind parent : ℕ) (vs : List Cell) (u v : Cell) (ws : List Cell) → length vs < 16
+pub put-here : (pre : Entries) (kind parent : ℕ) (vs : List Cell) (u v : Cell) (ws : List Cell) → length vs < 16
     → putCell (with pre (entry kind parent (vs ++ (u ∷ ws)))) (length pre) (length vs) v ≡ with pre (entry kind parent (vs ++ (v ∷ ws)))
 unfolding putCell withCell
 put-here pre kind parent vs u v ws h =
