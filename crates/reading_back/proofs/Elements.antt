@@ -56,7 +56,7 @@ contents-fit kind n (x ∷ xs) z e =
     ≡ ruleOf (contentsOf kind) n = rw (ne-eqb _ _ z, ne-eqb _ _ i, j) in
     (subst (λ (i : ℕ). suits i x ≡ true) r (both-left _ _ e), contents-fit kind (suc n) xs z (both-right (suits (ruleAt kind (suc n)) x) _ e))
 
-first-rule : (kind : ℕ) → (contentsOf kind ≡ 0 → ⊥) → ruleAt kind 0 ≡ ruleOf kind 0
+pub first-rule : (kind : ℕ) → (contentsOf kind ≡ 0 → ⊥) → ruleAt kind 0 ≡ ruleOf kind 0
 unfolding ruleAt
 first-rule kind z = rw (ne-eqb _ _ z)
 
@@ -75,7 +75,7 @@ step-room what above (bytes kind bs) xs p i h e =
     (part-kinds kind (both-left (isPart kind) _ a))
 step-room what above wrong xs p i h e = never i
 
-path-first : (what above : ℕ) (x : Content) (xs : List Content) → pathOf what above (x ∷ []) ≡ pathOf what above (x ∷ xs)
+pub path-first : (what above : ℕ) (x : Content) (xs : List Content) → pathOf what above (x ∷ []) ≡ pathOf what above (x ∷ xs)
 path-first what above nothing xs = refl
 path-first what above (word kind w) xs = refl
 path-first what above (bytes kind bs) xs = refl

@@ -8,3 +8,4 @@ pub mod Members
 pub mod Known
 pub mod Stages
 pub mod Elements
+pub mod Growth

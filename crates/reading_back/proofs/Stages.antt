@@ -79,7 +79,7 @@ unfolding wrapped
 wrapped-some n class number [] h = absurd (omega arith)
 wrapped-some n class number (x ∷ xs) h = refl
 
-closes : (s : List ℕ) (q j : ℕ) → closed s (till q) j (Next q) ≡ Next q
+pub closes : (s : List ℕ) (q j : ℕ) → closed s (till q) j (Next q) ≡ Next q
 unfolding closed
 closes s q j = last-here s q q j refl
 
