@@ -166,3 +166,103 @@ module _ (real : ℕ → List ℕ) (spells : Spells real) (s : List ℕ) (few : 
       (subst (λ (v : Bool). pick v (legal 2 (k - 4) (pathAfter kind above members) links) (isNone links) ≡ true) (f .no-links) (r .linked)) t ends)
       (λ (f : Full kind). full-case members kids links r (known .sequence) f gk gl t ends)
       (known .shape)
+
+-- an item, and the trees after it
+module _ (real : ℕ → List ℕ) (s : List ℕ) (k end which parent above p kind : ℕ) (es : Entries) (members : List Content) (kids links others : Trees) (rest : List ℕ)
+    (known : Known which kind) (deep : 3 ≤ k) (y : Outered s p end 0 1 true (getD applications kind 0) (bodyOctets real kind members kids links) (treesOctets real others ++ rest))
+    (b : Body s (k - 1 - 1) (y .q) kind above (y .b) parent es members kids links) (r : Grown s k end which parent above (y .q) (es ++ b .more) others) where
+  item-gives : ItemsGive s k (till end) which parent above p es (out (Next end) ((es ++ b .more) ++ r .more))
+  item-gives =
+      let later = y .later in
+      let later′ = y .later′ in
+      let ends = y .ends in
+      element-in s k (till end) which parent above p es {g = tagOf 1 1 (getD applications kind 0) (y .b) (y .q)}
+      (item-here s p end k which (getD applications kind 0) kind (bodyOctets real kind members kids links) (treesOctets real others ++ rest) y (omega arith)
+      (known .known) (known .some))
+      (y .within) (omega arith) (b .gives) (closes s (y .q) (k - 1)) (omega arith) (r .gives)
+
+  items-say : itemsOf s (b .more ++ r .more) ≡ flat parent (length es) (tree kind members kids links others)
+  unfolding flat
+  items-say =
+      let l = length-append es (b .more) in
+      let z = b .sized in
+      let i : length (es ++ b .more) ≡ suc (length es) + (count kids + count links) = omega arith in
+      items-append s (b .more) (r .more)
+      ∙ ap (λ (x : List Item). x ++ itemsOf s (r .more)) (b .says)
+      ∙ ap (λ (x : List Item). item kind parent members ∷ x)
+      (append-assoc (flat (suc (length es)) (suc (length es)) kids) (flat (suc (length es)) (suc (length es) + count kids) links) (itemsOf s (r .more))
+      ∙ ap (λ (x : List Item). flat (suc (length es)) (suc (length es)) kids ++ (flat (suc (length es)) (suc (length es) + count kids) links ++ x))
+      (r .says ∙ ap (λ (n : ℕ). flat parent n others) i))
+
+  grown : Grown s k end which parent above p es (tree kind members kids links others)
+  unfolding count
+  grown =
+      let l = length-append (b .more) (r .more) in
+      let z = b .sized in
+      let z′ = r .sized in
+      record {
+        more = b .more ++ r .more;
+        says = items-say;
+        sized = omega arith;
+        gives = subst (λ (l : Entries). ItemsGive s k (till end) which parent above p es (out (Next end) l)) (append-assoc es (b .more) (r .more)) item-gives;
+      }
+
+module _ (real : ℕ → List ℕ) (spells : Spells real) (s : List ℕ) (few : length s ≤ 16384) where
+  none-grows : Grows real s none
+  unfolding treesOctets itemsOf flat count
+  none-grows k end which parent above p es rest legal t ends =
+      let e : p ≡ end = omega arith in
+      record {
+        more = [];
+        says = refl;
+        sized = refl;
+        gives = subst (λ (l : Entries). ItemsGive s k (till end) which parent above p es (out (Next end) l)) (sym (append-nil es))
+            (subst (λ (i : ℕ). ItemsGive s k (till end) which parent above p es (out (Next i) es)) e
+            (items-done s k (till end) which parent above p es (item-done s p end k which e)));
+      }
+
+  tree-grows : (kind : ℕ) (members : List Content) (kids links others : Trees) → Grows real s kids → Grows real s links → Grows real s others
+      → Grows real s (tree kind members kids links others)
+  unfolding treesOctets
+  tree-grows kind members kids links others gk gl go k end which parent above p es rest e t ends = begin (known-kind which kind (r .stands))
+    where
+      r : Right which k above kind members kids links others
+      r = right which k above kind members kids links others e
+
+      number : ℕ
+      number = getD applications kind 0
+
+      inside : List ℕ
+      inside = bodyOctets real kind members kids links
+
+      first : List ℕ
+      first = outer 0 1 true (getD applications kind 0) inside
+
+      long : length (first ++ treesOctets real others) ≡ length first + length (treesOctets real others)
+      long = length-append first (treesOctets real others)
+
+      last : (known : Known which kind) (y : Outered s p end 0 1 true number inside (treesOctets real others ++ rest))
+          → Body s (k - 1 - 1) (y .q) kind above (y .b) parent es members kids links → Grown s k end which parent above p es (tree kind members kids links others)
+      last known y b =
+          let n = y .next in
+          let l = long in
+          grown real s k end which parent above p kind es members kids links others rest known (r .deep) y b
+          (go k end which parent above (y .q) (es ++ b .more) rest (r .others) (y .after) (omega arith))
+
+      middle : (known : Known which kind) (y : Outered s p end 0 1 true number inside (treesOctets real others ++ rest))
+          → Grown s k end which parent above p es (tree kind members kids links others)
+      middle known y =
+          last known y
+          (body-read real spells s few which k above kind (y .q) (y .b) parent es others (treesOctets real others ++ rest) members kids links r known gk gl
+          (y .there) (y .ends))
+
+      begin : Known which kind → Grown s k end which parent above p es (tree kind members kids links others)
+      begin known =
+          let l = long in
+          middle known
+          (outered s few p end 0 1 true number inside (treesOctets real others ++ rest) (omega arith) (known .small) (omega arith)
+          (t ∙ append-assoc first (treesOctets real others) rest) (omega arith))
+
+  pub grows : (t : Trees) → Grows real s t
+  grows none = none-grows
+  grows (tree kind members kids links others) = tree-grows kind members kids links others (grows kids) (grows links) (grows others)
