@@ -9,3 +9,4 @@ pub mod Known
 pub mod Stages
 pub mod Elements
 pub mod Growth
+pub mod ReadBack
