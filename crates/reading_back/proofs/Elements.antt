@@ -123,7 +123,8 @@ module _ (real : ℕ → List ℕ) (spells : Spells real) (s : List ℕ) (few : 
         let w = f .few in
         inside .gives (out (Next (inside .next)) made)
         (members-done s k (till q) kind (length pre) above (inside .next) (inside .after) made
-        (member-done s (inside .next) q k kind above (inside .after) (omega arith) (ready-done kind (inside .after) (0 + length xs) (inside .ready) (omega arith))))
+        (member-done s (inside .next) q k kind above (inside .after) (omega arith)
+        (ready-done kind (inside .after) (0 + length xs) (inside .ready) (omega arith))))
 
     pub simple-body : Body s k q kind above p parent pre xs none none
     unfolding itemsOf flat count
@@ -135,7 +136,8 @@ module _ (real : ℕ → List ℕ) (spells : Spells real) (s : List ℕ) (few : 
           says = rw (append-nil (inside .us), inside .says) refl;
           sized = refl;
           gives = subst (λ (i : ℕ). MembersGive s k (till q) kind (length pre) above p 0 (with pre (blank kind parent)) (out (Next i) made)) e
-              (subst (λ (cs : List Cell). MembersGive s k (till q) kind (length pre) above p 0 (with pre (entry kind parent cs)) (out (Next (inside .next)) made))
+              (subst (λ (cs : List Cell). MembersGive s k (till q) kind (length pre) above p 0 (with pre (entry kind parent cs))
+              (out (Next (inside .next)) made))
               (append-nil (blanks (length xs)) ∙ ap blanks size) done);
         }
 
@@ -178,7 +180,8 @@ module _ (real : ℕ → List ℕ) (spells : Spells real) (s : List ℕ) (few : 
             members-done s k (till q) kind (length pre) path (b .next) (b .after) whole
             (member-done s (b .next) q k kind path (b .after) (omega arith) (ready-done kind (b .after) 6 (b .ready) (omega arith)))
 
-        start : putCell (with pre (entry kind parent (blanks 16))) (length pre) (column kind 0) (one .value) ≡ with pre (entry kind parent (one .value ∷ blanks (length xs)))
+        start : putCell (with pre (entry kind parent (blanks 16))) (length pre) (column kind 0) (one .value)
+            ≡ with pre (entry kind parent (one .value ∷ blanks (length xs)))
         unfolding blanks
         start =
             ap (λ (i : ℕ). putCell (with pre (entry kind parent (blanks 16))) (length pre) i (one .value)) first-column
@@ -188,7 +191,8 @@ module _ (real : ℕ → List ℕ) (spells : Spells real) (s : List ℕ) (few : 
         walked : MembersGive s k (till q) kind (length pre) above p 0 (with pre (blank kind parent)) (out (Next (b .next)) whole)
         walked =
             one .gives (with pre (blank kind parent)) (out (Next (b .next)) whole)
-            (subst (λ (es : Entries). MembersGive s k (till q) kind (length pre) path (one .next) (afterListed kind 0 0) es (out (Next (b .next)) whole)) (sym start)
+            (subst (λ (es : Entries). MembersGive s k (till q) kind (length pre) path (one .next) (afterListed kind 0 0) es
+            (out (Next (b .next)) whole)) (sym start)
             (c .gives (out (Next (b .next)) whole) (a .gives (out (Next (b .next)) whole) (b .gives (out (Next (b .next)) whole) last))))
 
         joined : whole ≡ pre ++ (entry kind parent (one .value ∷ c .us) ∷ (a .more ++ b .more))
@@ -231,9 +235,12 @@ module _ (real : ℕ → List ℕ) (spells : Spells real) (s : List ℕ) (few : 
                   (subst (λ (i : ℕ). MembersGive s k (till q) kind (length pre) above p 0 (with pre (blank kind parent)) (out (Next i) whole)) e walked);
             }
 
-    links-none : (lk : Trees) (p′ before : ℕ) (es : Entries) → isNone lk ≡ true → Ready kind before 3 → drop p′ s ≡ wrapped 5 0 16 (treesOctets real lk) ++ rest
+    links-none : (lk : Trees) (p′ before : ℕ) (es : Entries) → isNone lk ≡ true → Ready kind before 3
+        → drop p′ s ≡ wrapped 5 0 16 (treesOctets real lk) ++ rest
         → Listed real spells s few q k kind pre parent path 5 0 16 p′ before es lk rest
-    links-none none p′ before es e ready t = let r = f .one in list-none real spells s few q k kind pre parent path 5 0 16 p′ before 3 es rest (omega arith) ready (omega arith) t
+    links-none none p′ before es e ready t =
+        let r = f .one in
+        list-none real spells s few q k kind pre parent path 5 0 16 p′ before 3 es rest (omega arith) ready (omega arith) t
     links-none (tree kind′ members kids′ links′ trees) p′ before es e ready t = never e
 
     links-read : (p′ before : ℕ) (es : Entries) (v : Bool) → eqb (ruleOf kind 5) 15 ≡ v → pick v (legal 2 (k - 1 - 1) path links) (isNone links) ≡ true
@@ -242,7 +249,8 @@ module _ (real : ℕ → List ℕ) (spells : Spells real) (s : List ℕ) (few : 
     unfolding innerClass innerNumber collectionOf
     links-read p′ before es true e r g ready t ends =
         let o = f .one in
-        list-read real spells s few q k kind pre parent path 5 0 16 2 15 (eqb-true _ _ e) (omega arith) refl refl refl (omega arith) (omega arith) (omega arith)
+        list-read real spells s few q k kind pre parent path 5 0 16 2 15 (eqb-true _ _ e) (omega arith) refl refl refl (omega arith) (omega arith)
+        (omega arith)
         p′ before 3 es links rest (omega arith) ready (omega arith) r g t ends
     links-read p′ before es false e r g ready t ends = links-none links p′ before es r ready t
 
@@ -275,7 +283,8 @@ module _ (real : ℕ → List ℕ) (spells : Spells real) (s : List ℕ) (few : 
             let g0 = one .goes in
             let g1 = c .goes in
             let g2 = a .goes in
-            together one c a (links-read (a .next) (a .after) (own one c ++ a .more) (eqb (ruleOf kind 5) 15) refl rl gl (a .ready) (a .there) (omega arith)) size ends
+            together one c a (links-read (a .next) (a .after) (own one c ++ a .more) (eqb (ruleOf kind 5) 15) refl rl gl (a .ready) (a .there)
+            (omega arith)) size ends
 
         middle : (one : One real spells s few q k kind some (length pre) above path p 0 0 x (w1 ++ (w2 ++ (w5 ++ rest))))
             (c : Contented real spells s few q k kind pre parent path (one .next) (afterListed kind 0 0) (one .value) xs (w2 ++ (w5 ++ rest)))

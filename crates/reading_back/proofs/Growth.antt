@@ -82,7 +82,8 @@ full-octets : (real : ℕ → List ℕ) (kind : ℕ) (x : Content) (xs : List Co
     ≡ memberOctets real 0 x ++ (wrapped 1 0 17 (membersOctets real 0 xs) ++ (wrapped 2 1 4 (treesOctets real kids) ++ wrapped 5 0 16 (treesOctets real links)))
 unfolding own inner membersOctets
 full-octets real kind x xs kids links z =
-    rw (ne-eqb _ _ z) (ap (λ (l : List ℕ). l ++ (wrapped 1 0 17 (membersOctets real 0 xs) ++ (wrapped 2 1 4 (treesOctets real kids) ++ wrapped 5 0 16 (treesOctets real links))))
+    let others = wrapped 1 0 17 (membersOctets real 0 xs) ++ (wrapped 2 1 4 (treesOctets real kids) ++ wrapped 5 0 16 (treesOctets real links)) in
+    rw (ne-eqb _ _ z) (ap (λ (l : List ℕ). l ++ others)
     (append-nil (memberOctets real 0 x)))
 
 -- four lists, one after another
@@ -102,7 +103,8 @@ inner-full : (kind : ℕ) (x : Content) (xs : List Content) → (contentsOf kind
 unfolding inner
 inner-full kind x xs z = rw (ne-eqb _ _ z)
 
-path-is : (kind above : ℕ) (x : Content) (xs : List Content) → (contentsOf kind ≡ 0 → ⊥) → pathAfter kind above (x ∷ xs) ≡ pathOf (ruleOf kind 0) above (x ∷ xs)
+path-is : (kind above : ℕ) (x : Content) (xs : List Content) → (contentsOf kind ≡ 0 → ⊥)
+    → pathAfter kind above (x ∷ xs) ≡ pathOf (ruleOf kind 0) above (x ∷ xs)
 unfolding pathAfter
 path-is kind above x xs z = ap (λ (i : ℕ). pathOf i above (x ∷ xs)) (first-rule kind z)
 
@@ -138,7 +140,8 @@ module _ (real : ℕ → List ℕ) (spells : Spells real) (s : List ℕ) (few : 
       let pa = path-is kind above x xs z in
       let pb : pathAfter kind above (x ∷ xs) ≡ pathOf (ruleOf kind 0) above (x ∷ []) = pa ∙ sym (path-first (ruleOf kind 0) above x xs) in
       let low : pathOf (ruleOf kind 0) above (x ∷ xs) ≤ 16 = subst (λ (i : ℕ). i ≤ 16) pa (r .low) in
-      let dp : pick (empty xs) true (leb 5 k) ≡ true = subst (λ (l : List Content). pick (empty l) true (leb 5 k) ≡ true) (inner-full kind x xs z) (r .contents) in
+      let dp : pick (empty xs) true (leb 5 k) ≡ true =
+      subst (λ (l : List Content). pick (empty l) true (leb 5 k) ≡ true) (inner-full kind x xs z) (r .contents) in
       let i : k - 4 ≡ k - 1 - 1 - 1 - 1 = omega arith in
       let rk : legal 1 (k - 4) (pathAfter kind above (x ∷ xs)) kids ≡ true =
       subst (λ (v : Bool). pick v (legal 1 (k - 4) (pathAfter kind above (x ∷ xs)) kids) (isNone kids) ≡ true) (eq-eqb _ _ (f .third)) (r .below) in
@@ -168,8 +171,9 @@ module _ (real : ℕ → List ℕ) (spells : Spells real) (s : List ℕ) (few : 
       (known .shape)
 
 -- an item, and the trees after it
-module _ (real : ℕ → List ℕ) (s : List ℕ) (k end which parent above p kind : ℕ) (es : Entries) (members : List Content) (kids links others : Trees) (rest : List ℕ)
-    (known : Known which kind) (deep : 3 ≤ k) (y : Outered s p end 0 1 true (getD applications kind 0) (bodyOctets real kind members kids links) (treesOctets real others ++ rest))
+module _ (real : ℕ → List ℕ) (s : List ℕ) (k end which parent above p kind : ℕ) (es : Entries) (members : List Content) (kids links others : Trees)
+    (rest : List ℕ) (known : Known which kind) (deep : 3 ≤ k)
+    (y : Outered s p end 0 1 true (getD applications kind 0) (bodyOctets real kind members kids links) (treesOctets real others ++ rest))
     (b : Body s (k - 1 - 1) (y .q) kind above (y .b) parent es members kids links) (r : Grown s k end which parent above (y .q) (es ++ b .more) others) where
   item-gives : ItemsGive s k (till end) which parent above p es (out (Next end) ((es ++ b .more) ++ r .more))
   item-gives =
@@ -242,7 +246,8 @@ module _ (real : ℕ → List ℕ) (spells : Spells real) (s : List ℕ) (few : 
       long = length-append first (treesOctets real others)
 
       last : (known : Known which kind) (y : Outered s p end 0 1 true number inside (treesOctets real others ++ rest))
-          → Body s (k - 1 - 1) (y .q) kind above (y .b) parent es members kids links → Grown s k end which parent above p es (tree kind members kids links others)
+          → Body s (k - 1 - 1) (y .q) kind above (y .b) parent es members kids links
+          → Grown s k end which parent above p es (tree kind members kids links others)
       last known y b =
           let n = y .next in
           let l = long in

@@ -66,7 +66,8 @@ pub record Known (which kind : ℕ) : Type 0 where
 -- kind by kind
 shape-1 : Simple 1 ⊎ Full 1
 unfolding members ruleOf requirements required isSet contentsRows contentsOf
-shape-1 = inr (record { row-some = λ q. omega arith; row-set = refl; plain = plain-row 10 refl; one = refl; first = ltb-true _ _ refl; second = refl; third = refl })
+shape-1 =
+    inr (record { row-some = λ q. omega arith; row-set = refl; plain = plain-row 10 refl; one = refl; first = ltb-true _ _ refl; second = refl; third = refl })
 
 shape-2 : Simple 2 ⊎ Full 2
 unfolding members ruleOf requirements required isSet contentsRows contentsOf
@@ -74,23 +75,28 @@ shape-2 = inl (record { alone = refl; plain = plain-row 2 refl; no-kids = refl; 
 
 shape-3 : Simple 3 ⊎ Full 3
 unfolding members ruleOf requirements required isSet contentsRows contentsOf
-shape-3 = inr (record { row-some = λ q. omega arith; row-set = refl; plain = plain-row 11 refl; one = refl; first = ltb-true _ _ refl; second = refl; third = refl })
+shape-3 =
+    inr (record { row-some = λ q. omega arith; row-set = refl; plain = plain-row 11 refl; one = refl; first = ltb-true _ _ refl; second = refl; third = refl })
 
 shape-4 : Simple 4 ⊎ Full 4
 unfolding members ruleOf requirements required isSet contentsRows contentsOf
-shape-4 = inr (record { row-some = λ q. omega arith; row-set = refl; plain = plain-row 12 refl; one = refl; first = ltb-true _ _ refl; second = refl; third = refl })
+shape-4 =
+    inr (record { row-some = λ q. omega arith; row-set = refl; plain = plain-row 12 refl; one = refl; first = ltb-true _ _ refl; second = refl; third = refl })
 
 shape-5 : Simple 5 ⊎ Full 5
 unfolding members ruleOf requirements required isSet contentsRows contentsOf
-shape-5 = inr (record { row-some = λ q. omega arith; row-set = refl; plain = plain-row 10 refl; one = refl; first = ltb-true _ _ refl; second = refl; third = refl })
+shape-5 =
+    inr (record { row-some = λ q. omega arith; row-set = refl; plain = plain-row 10 refl; one = refl; first = ltb-true _ _ refl; second = refl; third = refl })
 
 shape-6 : Simple 6 ⊎ Full 6
 unfolding members ruleOf requirements required isSet contentsRows contentsOf
-shape-6 = inr (record { row-some = λ q. omega arith; row-set = refl; plain = plain-row 11 refl; one = refl; first = ltb-true _ _ refl; second = refl; third = refl })
+shape-6 =
+    inr (record { row-some = λ q. omega arith; row-set = refl; plain = plain-row 11 refl; one = refl; first = ltb-true _ _ refl; second = refl; third = refl })
 
 shape-7 : Simple 7 ⊎ Full 7
 unfolding members ruleOf requirements required isSet contentsRows contentsOf
-shape-7 = inr (record { row-some = λ q. omega arith; row-set = refl; plain = plain-row 12 refl; one = refl; first = ltb-true _ _ refl; second = refl; third = refl })
+shape-7 =
+    inr (record { row-some = λ q. omega arith; row-set = refl; plain = plain-row 12 refl; one = refl; first = ltb-true _ _ refl; second = refl; third = refl })
 
 shape-8 : Simple 8 ⊎ Full 8
 unfolding members ruleOf requirements required isSet contentsRows contentsOf

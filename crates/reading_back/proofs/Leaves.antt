@@ -148,13 +148,22 @@ module _ (s : List ℕ) (at start what above : ℕ) (rest : List ℕ) where
         → Leafed s at 1 start (length (spelled real 1 w)) what above (word 1 w)
     unfolding spelled
     leaf-flag zero l e t h =
-        record { value = cell 1 0 0; kept = flag-kept 0 t h e ∙ ap (Kept (cell 1 0 0)) (path-word what above 1 0 (not-step 1 what e (λ q. omega arith))); says = says-1 s 0 (omega arith) }
+        record {
+          value = cell 1 0 0;
+          kept = flag-kept 0 t h e ∙ ap (Kept (cell 1 0 0)) (path-word what above 1 0 (not-step 1 what e (λ q. omega arith)));
+          says = says-1 s 0 (omega arith);
+        }
     leaf-flag (suc zero) l e t h =
-        record { value = cell 1 1 0; kept = flag-kept 255 t h e ∙ ap (Kept (cell 1 1 0)) (path-word what above 1 1 (not-step 1 what e (λ q. omega arith))); says = says-1 s 1 (omega arith) }
+        record {
+          value = cell 1 1 0;
+          kept = flag-kept 255 t h e ∙ ap (Kept (cell 1 1 0)) (path-word what above 1 1 (not-step 1 what e (λ q. omega arith)));
+          says = says-1 s 1 (omega arith);
+        }
     leaf-flag (suc (suc w)) l e t h = absurd (omega arith)
 
     int-kept : (w : ℕ) → w < 18446744073709551616 → expects what 2 ≡ true → pick (eqb what any) true (inRange what (intOf w)) ≡ true
-        → (what ≡ 5 → above < 16) → judged s at what above (Found (Int (intOf w)) (start + length (shortest (intOf w)))) ≡ Kept (cell 2 w 0) (pathOf what above (word 2 w ∷ []))
+        → (what ≡ 5 → above < 16)
+        → judged s at what above (Found (Int (intOf w)) (start + length (shortest (intOf w)))) ≡ Kept (cell 2 w 0) (pathOf what above (word 2 w ∷ []))
     int-kept w k e i deep = go (eqb what 4) refl i
       where
         z : ℤ
@@ -168,7 +177,8 @@ module _ (s : List ℕ) (at start what above : ℕ) (rest : List ℕ) where
         step-or true q n r =
             let five = eqb-true what 5 q in
             let one : above + 1 ≡ suc above = omega arith in
-            number-step at what above (intOf w) n r five (deep five) ∙ ap (λ (v : Cell). Kept v (above + 1)) same ∙ ap (Kept (cell 2 w 0)) one ∙ simp (eq-eqb _ _ five)
+            number-step at what above (intOf w) n r five (deep five) ∙ ap (λ (v : Cell). Kept v (above + 1)) same ∙ ap (Kept (cell 2 w 0)) one
+            ∙ simp (eq-eqb _ _ five)
         step-or false q n r =
             let ne = eqb-false what 5 q in
             number-kept at what above (intOf w) n r ne ∙ ap (λ (v : Cell). Kept v above) same ∙ ap (Kept (cell 2 w 0)) (path-word what above 2 w ne)
@@ -188,7 +198,8 @@ module _ (s : List ℕ) (at start what above : ℕ) (rest : List ℕ) where
         let bs = shortest (intOf w) in
         let n : integerAt s start (length bs) ≡ Whole (intOf w) =
         sym (at-part s start (length bs) h) ∙ ap integer (there-part bs t) ∙ written-read (intOf w) (int-fits w k) in
-        let a : contentAt s at 2 start (length bs) ≡ Found (Int (intOf w)) (start + length bs) = sym (content-int s at 2 start (length bs) refl (le-leb _ _ h)) ∙ rw n in
+        let a : contentAt s at 2 start (length bs) ≡ Found (Int (intOf w)) (start + length bs) =
+        sym (content-int s at 2 start (length bs) refl (le-leb _ _ h)) ∙ rw n in
         record {
           value = cell 2 w 0;
           kept = leaf-value s at start (length bs) what above 2 e (λ q. omega arith) ∙ ap (judged s at what above) a ∙ int-kept w k e i deep;
@@ -205,7 +216,8 @@ module _ (s : List ℕ) (at start what above : ℕ) (rest : List ℕ) where
         let bs = real w in
         let x = Ieee.ofBits binary64 w in
         let n : realAt s start (length bs) ≡ Double x = real-part (length bs) h ∙ ap reals.real (there-part bs t) ∙ spells w k i in
-        let a : contentAt s at 9 start (length bs) ≡ Found (Real x) (start + length bs) = sym (content-real s at 9 start (length bs) refl (le-leb _ _ h)) ∙ rw n in
+        let a : contentAt s at 9 start (length bs) ≡ Found (Real x) (start + length bs) =
+        sym (content-real s at 9 start (length bs) refl (le-leb _ _ h)) ∙ rw n in
         record {
           value = cell 9 w 0;
           kept =
@@ -259,12 +271,14 @@ module _ (s : List ℕ) (at start what above : ℕ) (rest : List ℕ) where
     leaf-ids bs e i t h =
         record {
           value = cell 13 start (length bs);
-          kept = leaf-numbers s at start (length bs) what above 13 e refl ∙ rw (le-leb _ _ h, arcs-there s bs rest start t h) (go (eqb what 6) (arcs bs 0 (length bs)) i);
+          kept = leaf-numbers s at start (length bs) what above 13 e refl
+              ∙ rw (le-leb _ _ h, arcs-there s bs rest start t h) (go (eqb what 6) (arcs bs 0 (length bs)) i);
           says = says-13 s start (length bs) h ∙ ap (bytes 13) (there-part bs t);
         }
       where
         go : (b : Bool) (a : Arcs) → pick b (pathSuits a) (listSuits a) ≡ true
-            → pick b (pathLeaf at start (length bs) a) (listLeaf at start (length bs) above a) ≡ Kept (numbersCell start (length bs)) (pick b (lengthOf a) above)
+            → pick b (pathLeaf at start (length bs) a) (listLeaf at start (length bs) above a)
+            ≡ Kept (numbersCell start (length bs)) (pick b (lengthOf a) above)
         go true bad r = never r
         go true over r = never r
         go true (numbers ns) r = rw r

@@ -178,15 +178,18 @@ module _ (real : ℕ → List ℕ) (spells : Spells real) (s : List ℕ) (few : 
         → MembersGive s k (till end) row (length pre) above p before (with pre (entry kind parent ((vs ++ (v ∷ [])) ++ us))) y
         → MembersGive s k (till end) row (length pre) above p before (with pre (entry kind parent (vs ++ (v ∷ us)))) y
     along p before vs v us y g =
-        subst (λ (cs : List Cell). MembersGive s k (till end) row (length pre) above p before (with pre (entry kind parent cs)) y) (append-assoc vs (v ∷ []) us) g
+        subst (λ (cs : List Cell). MembersGive s k (till end) row (length pre) above p before (with pre (entry kind parent cs)) y)
+        (append-assoc vs (v ∷ []) us) g
 
     back : (p before : ℕ) (vs : List Cell) (v : Cell) (us : List Cell) (y : Out)
         → MembersGive s k (till end) row (length pre) above p before (with pre (entry kind parent (vs ++ (v ∷ us)))) y
         → MembersGive s k (till end) row (length pre) above p before (with pre (entry kind parent ((vs ++ (v ∷ [])) ++ us))) y
     back p before vs v us y g =
-        subst (λ (cs : List Cell). MembersGive s k (till end) row (length pre) above p before (with pre (entry kind parent cs)) y) (sym (append-assoc vs (v ∷ []) us)) g
+        subst (λ (cs : List Cell). MembersGive s k (till end) row (length pre) above p before (with pre (entry kind parent cs)) y)
+        (sym (append-assoc vs (v ∷ []) us)) g
 
-    skip-step : (p before n : ℕ) (vs : List Cell) (xs : List Content) → Several p before (suc n) (vs ++ (absent ∷ [])) xs → Several p before n vs (nothing ∷ xs)
+    skip-step : (p before n : ℕ) (vs : List Cell) (xs : List Content) → Several p before (suc n) (vs ++ (absent ∷ [])) xs
+        → Several p before n vs (nothing ∷ xs)
     unfolding contentsOf membersOctets memberOctets blanks
     skip-step p before n vs xs r =
         let e : suc n + length xs ≡ n + suc (length xs) = omega arith in
@@ -202,7 +205,8 @@ module _ (real : ℕ → List ℕ) (spells : Spells real) (s : List ℕ) (few : 
           gives = λ y g. along p before vs absent (blanks (length xs) ++ ws) y (r .gives y (back (r .next) (r .after) vs absent (r .us ++ ws) y g));
         }
 
-    one-step : (p before n : ℕ) (vs : List Cell) (x : Content) (xs : List Content) (o : One (length pre) above above p before n x (membersOctets real (suc n) xs ++ rest))
+    one-step : (p before n : ℕ) (vs : List Cell) (x : Content) (xs : List Content)
+        (o : One (length pre) above above p before n x (membersOctets real (suc n) xs ++ rest))
         → column row n ≡ length vs → length vs < 16
         → Several (o .next) (afterListed row before n) (suc n) (vs ++ (o .value ∷ [])) xs → Several p before n vs (x ∷ xs)
     unfolding contentsOf membersOctets blanks

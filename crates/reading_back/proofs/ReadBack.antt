@@ -84,7 +84,8 @@ rooted root e =
 
 -- the two tags around Root's collection
 module _ (s : List ℕ) (a b q number root : ℕ) where
-  top-here : enterAt s 0 unbounded 64 ≡ Here (tagOf 1 1 0 a q) → firstAt s a (till q) 63 ≡ Value (tagOf 1 1 number b q) → rootOf number ≡ root → eqb root 4 ≡ false
+  top-here : enterAt s 0 unbounded 64 ≡ Here (tagOf 1 1 0 a q) → firstAt s a (till q) 63 ≡ Value (tagOf 1 1 number b q) → rootOf number ≡ root
+      → eqb root 4 ≡ false
       → topAt s ≡ Root root (till q) (tagOf 1 1 number b q)
   unfolding topAt rootKind isTag
   top-here h f r z = rw (h, f, eq-eqb number number refl, r, z) refl
@@ -94,7 +95,8 @@ module _ (s : List ℕ) (a b q number root : ℕ) where
   unfolding walk finished
   walk-here es t i e = rw (t, i, closes s q 63, eq-eqb q (length s) e) (ap (λ (n : ℕ). record { which = root; out = out (Next n) es }) e)
 
-module _ (real : ℕ → List ℕ) (spells : Spells real) (root : ℕ) (t : Trees) (right : legalRoot root t ≡ true) (few : length (messageOctets real root t) ≤ 16384) where
+module _ (real : ℕ → List ℕ) (spells : Spells real) (root : ℕ) (t : Trees) (right : legalRoot root t ≡ true)
+    (few : length (messageOctets real root t) ≤ 16384) where
   abbrev m : List ℕ
   m = messageOctets real root t
 
@@ -123,11 +125,13 @@ module _ (real : ℕ → List ℕ) (spells : Spells real) (root : ℕ) (t : Tree
   inside : Stood m (outside .start) (length m) 1 true (rootNumber root) (treesOctets real t) []
   inside =
       let e = outside .ends in
-      stood m few (outside .start) (length m) 1 true (rootNumber root) (treesOctets real t) [] (facts .small) (omega arith) (outside .there) (omega (arith, all))
+      stood m few (outside .start) (length m) 1 true (rootNumber root) (treesOctets real t) [] (facts .small) (omega arith) (outside .there)
+      (omega (arith, all))
 
   entered : enterAt m 0 unbounded 64 ≡ Here (tagOf 1 1 0 (outside .start) (length m))
   entered =
-      enter-here m 0 18446744073709551615 64 1 0 (outside .start) (length m) (outside .here ∙ ap (λ (i : ℕ). Here (tagOf 1 1 0 (outside .start) i)) all) (omega arith)
+      enter-here m 0 18446744073709551615 64 1 0 (outside .start) (length m)
+      (outside .here ∙ ap (λ (i : ℕ). Here (tagOf 1 1 0 (outside .start) i)) all) (omega arith)
 
   first : firstAt m (outside .start) (till (length m)) 63 ≡ Value (tagOf 1 1 (rootNumber root) (inside .start) (length m))
   first =

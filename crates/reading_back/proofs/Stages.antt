@@ -67,7 +67,8 @@ some-octets real row n [] e f = never (sym e)
 some-octets real row n (nothing ∷ xs) e f = some-octets real row (suc n) xs e (f .1)
 some-octets real row n (word kind w ∷ xs) e f =
     longer (outer n 0 false kind (spelled real kind w)) (membersOctets real (suc n) xs) (tagged-some 2 true n (tagged 0 false kind (spelled real kind w)))
-some-octets real row n (bytes kind bs ∷ xs) e f = longer (outer n 0 false kind bs) (membersOctets real (suc n) xs) (tagged-some 2 true n (tagged 0 false kind bs))
+some-octets real row n (bytes kind bs ∷ xs) e f =
+    longer (outer n 0 false kind bs) (membersOctets real (suc n) xs) (tagged-some 2 true n (tagged 0 false kind bs))
 some-octets real row n (wrong ∷ xs) e f = never (f .0)
 
 wrapped-none : (n class number : ℕ) (l : List ℕ) → l ≡ [] → wrapped n class number l ≡ []
@@ -95,11 +96,13 @@ Grows real s t =
     (k end which parent above p : ℕ) (es : Entries) (rest : List ℕ) → legal which k above t ≡ true → drop p s ≡ treesOctets real t ++ rest
     → p + length (treesOctets real t) ≡ end → Grown s k end which parent above p es t
 
-trees-some : (real : ℕ → List ℕ) (kind : ℕ) (members : List Content) (kids links rest : Trees) → 0 < length (treesOctets real (tree kind members kids links rest))
+trees-some : (real : ℕ → List ℕ) (kind : ℕ) (members : List Content) (kids links rest : Trees)
+    → 0 < length (treesOctets real (tree kind members kids links rest))
 unfolding treesOctets
 trees-some real kind members kids links rest = longer (outer 0 1 true _ _) (treesOctets real rest) (tagged-some 2 true 0 _)
 
-legal-deep : (which k above kind : ℕ) (members : List Content) (kids links rest : Trees) → legal which k above (tree kind members kids links rest) ≡ true → 3 ≤ k
+legal-deep : (which k above kind : ℕ) (members : List Content) (kids links rest : Trees)
+    → legal which k above (tree kind members kids links rest) ≡ true → 3 ≤ k
 unfolding legal
 legal-deep which k above kind members kids links rest e =
     leb-true 3 k (both-left (leb 3 k) _ (both-right (eqb (length members) 16) _ (both-right (standsIn which kind) _ e)))
@@ -164,10 +167,12 @@ module _ (real : ℕ → List ℕ) (spells : Spells real) (s : List ℕ) (few : 
         let g = inside .goes in
         inside .gives (out (Next (inside .next)) (with pre (entry kind parent (v ∷ (inside .us ++ [])))))
         (members-done s j (till q) row (length pre) above (inside .next) (inside .after) (with pre (entry kind parent (v ∷ (inside .us ++ []))))
-        (member-done s (inside .next) q j row above (inside .after) (omega arith) (ready-done row (inside .after) (0 + length xs) (inside .ready) (omega arith))))
+        (member-done s (inside .next) q j row above (inside .after) (omega arith)
+        (ready-done row (inside .after) (0 + length xs) (inside .ready) (omega arith))))
 
     -- in the container that ends at q
-    pub held : (us : List Cell) × ((say s us ≡ xs) × MembersGive s j (till q) row (length pre) above p 0 (with pre (entry kind parent (v ∷ blanks (length xs))))
+    pub held : (us : List Cell) × ((say s us ≡ xs) × MembersGive s j (till q) row (length pre) above p 0
+        (with pre (entry kind parent (v ∷ blanks (length xs))))
         (out (Next q) (with pre (entry kind parent (v ∷ us)))))
     held =
         let g = inside .goes in
@@ -288,4 +293,5 @@ module _ (real : ℕ → List ℕ) (spells : Spells real) (s : List ℕ) (few : 
     list-read p before m es none rest h ready one right grows d inside′ = list-none n class number p before m es rest h ready one d
     list-read p before m es (tree kind′ members kids links trees) rest h ready one right grows d inside′ =
         let deep = legal-deep which (k - 1 - 1) above kind′ members kids links trees right in
-        list-some p before m es (tree kind′ members kids links trees) rest h ready one (trees-some real kind′ members kids links trees) (omega arith) right grows d inside′
+        list-some p before m es (tree kind′ members kids links trees) rest h ready one (trees-some real kind′ members kids links trees)
+        (omega arith) right grows d inside′
