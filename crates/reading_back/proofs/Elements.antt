@@ -1,25 +1,25 @@
 -- What stands in an element: a command's, a connection's or a stream entry's members; number or path, contents, children and connections.
-use Prim.Native.Nat.{ℕ, zero, suc, _+_, _-_, _≤_, _<_}
+use Prim.Native.Nat.{ℕ, suc, _+_, _-_, _≤_, _<_}
 use mathlib.Core.Path.{_≡_, refl, sym, ap, subst, _∙_}
 use mathlib.Core.List.{List, [], _∷_, _++_, append-assoc, append-nil}
-use mathlib.Core.Bool.{Bool, true, false, not}
-use mathlib.Core.Logic.{_⊎_, inl, inr, ⊎-elim}
+use mathlib.Core.Bool.{Bool, true, false}
+use mathlib.Core.Logic.{⊎-elim}
 use native.Mathlib.Omega.{arith}
-use borrow.Author.Tests.{leb-true, eqb-true, eq-eqb, ne-eqb}
+use borrow.Author.Tests.{eqb-true, eq-eqb, ne-eqb}
 use lib.ListN.{length, drop, length-append}
 use lib.Dec.{leb, eqb}
 use Rattle.integers.specs.Digits.{pick}
 use Rattle.containers.specs.declared.Onto.the-variants.{Next}
 use Rattle.entries.specs.declared.Cell.{Cell}
 use Rattle.entries.specs.Cell.{absent}
-use Rattle.entries.specs.Entry.{Entry, Entries, blank, blanks, putCell}
+use Rattle.entries.specs.Entry.{Entries, blank, blanks, putCell}
 use Rattle.grammar.specs.Grammar.{ruleOf, required, isSet, contentsOf, innerClass, innerNumber, collectionOf}
-use Rattle.grammar.specs.Leaf.{both, expects}
+use Rattle.grammar.specs.Leaf.{expects}
 use Rattle.grammar.proofs.Tables.{expects-step}
 use Rattle.glow.specs.Members.{afterListed, column}
-use Rattle.glow.specs.Tree.{Out, out, MembersGive}
+use Rattle.glow.specs.Tree.{out, MembersGive}
 use Rattle.glow.proofs.Ways.{members-done}
-use Rattle.forest.specs.Content.{Content, nothing, word, bytes, wrong, isPart, Item, item, contentsOf as say, itemsOf}
+use Rattle.forest.specs.Content.{Content, nothing, word, bytes, wrong, isPart, item, contentsOf as say, itemsOf}
 use Rattle.forest.specs.Trees.{Trees, none, tree, count, flat}
 use Rattle.forest.specs.Legal.{suits, present, empty, complete, ruleAt, suited, pathOf, isNone, legal}
 use Rattle.forest.specs.Written.{memberOctets, membersOctets, wrapped, treesOctets}
@@ -28,7 +28,7 @@ use Rattle.reading_back.proofs.Standing.{till}
 use Rattle.reading_back.proofs.Leaves.{Spells}
 use Rattle.reading_back.proofs.Order.{Ready, ready-start, ready-done, ready-after}
 use Rattle.reading_back.proofs.Turns.{member-done}
-use Rattle.reading_back.proofs.Members.{entry, with, put-here, Fit, Plain, One, one-read, Several, several-read}
+use Rattle.reading_back.proofs.Members.{entry, with, put-here, Fit, One, one-read, Several, several-read}
 use Rattle.reading_back.proofs.Known.{Simple, Full}
 use Rattle.reading_back.proofs.Stages.{Grows, Contented, contents-read, Listed, list-none, list-read}
 

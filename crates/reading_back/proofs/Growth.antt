@@ -1,47 +1,45 @@
 -- The trees of a collection are read as the same trees, by induction on them.
-use Prim.Native.Nat.{ℕ, zero, suc, _+_, _-_, _≤_, _<_}
+use Prim.Native.Nat.{ℕ, suc, _+_, _-_, _≤_}
 use mathlib.Core.Path.{_≡_, refl, sym, ap, subst, _∙_}
 use mathlib.Core.List.{List, [], _∷_, _++_, append-assoc, append-nil}
-use mathlib.Core.Bool.{Bool, true, false, not}
-use mathlib.Core.Logic.{_⊎_, inl, inr, ⊎-elim}
+use mathlib.Core.Bool.{Bool, true, false}
+use mathlib.Core.Logic.{⊎-elim}
 use native.Mathlib.Omega.{arith}
 use borrow.Author.Tests.{leb-true, le-leb, eqb-true, eq-eqb, ne-eqb}
 use lib.ListN.{length, drop, getD, length-append}
 use lib.Dec.{leb, eqb}
 use Rattle.integers.specs.Digits.{pick}
 use Rattle.containers.specs.declared.Onto.the-variants.{Next}
-use Rattle.entries.specs.Entry.{Entry, Entries, blank}
+use Rattle.entries.specs.Entry.{Entries}
 use Rattle.grammar.specs.Grammar.{ruleOf, required, isSet, contentsOf, applications}
-use Rattle.grammar.specs.Leaf.{both}
-use Rattle.glow.specs.Tree.{Out, out, closed, MembersGive, ItemsGive}
+use Rattle.glow.specs.Tree.{out, ItemsGive}
 use Rattle.glow.proofs.Ways.{items-done, element-in}
 use Rattle.forest.specs.Content.{Content, Item, item, itemsOf}
 use Rattle.forest.specs.Trees.{Trees, none, tree, count, flat, standsIn}
-use Rattle.forest.specs.Legal.{empty, complete, ruleAt, suited, pathOf, pathAfter, inner, isNone, legal}
+use Rattle.forest.specs.Legal.{empty, complete, suited, pathOf, pathAfter, inner, isNone, legal}
 use Rattle.forest.specs.Written.{outer, memberOctets, membersOctets, wrapped, own, treesOctets}
 use Rattle.reading_back.proofs.Bools.{never, both-left, both-right}
-use Rattle.reading_back.proofs.Standing.{till, tagOf, Outered, outered, last-here}
+use Rattle.reading_back.proofs.Standing.{till, tagOf, Outered, outered}
 use Rattle.reading_back.proofs.Leaves.{Spells}
 use Rattle.reading_back.proofs.Turns.{item-done, item-here}
-use Rattle.reading_back.proofs.Members.{with}
 use Rattle.reading_back.proofs.Known.{Simple, Full, Known, known-kind}
 use Rattle.reading_back.proofs.Stages.{Grown, Grows, closes}
 use Rattle.reading_back.proofs.Elements.{items-append, first-rule, path-first, Body, simple-body, full-body}
 
 -- what is legal of a tree, part by part
-record Right (which k above kind : ℕ) (members : List Content) (kids links rest : Trees) : Type 0 where
-  stands : standsIn which kind ≡ true
-  size : length members ≡ 16
-  deep : 3 ≤ k
-  suit : suited kind 0 members ≡ true
-  all : complete (required kind) members ≡ true
-  low : pathAfter kind above members ≤ 16
-  contents : pick (empty (inner kind members)) true (leb 5 k) ≡ true
-  below : pick (eqb (ruleOf kind 2) 14) (legal 1 (k - 4) (pathAfter kind above members) kids) (isNone kids) ≡ true
-  linked : pick (eqb (ruleOf kind 5) 15) (legal 2 (k - 4) (pathAfter kind above members) links) (isNone links) ≡ true
-  others : legal which k above rest ≡ true
+pub record Right (which k above kind : ℕ) (members : List Content) (kids links rest : Trees) : Type 0 where
+  pub stands : standsIn which kind ≡ true
+  pub size : length members ≡ 16
+  pub deep : 3 ≤ k
+  pub suit : suited kind 0 members ≡ true
+  pub all : complete (required kind) members ≡ true
+  pub low : pathAfter kind above members ≤ 16
+  pub contents : pick (empty (inner kind members)) true (leb 5 k) ≡ true
+  pub below : pick (eqb (ruleOf kind 2) 14) (legal 1 (k - 4) (pathAfter kind above members) kids) (isNone kids) ≡ true
+  pub linked : pick (eqb (ruleOf kind 5) 15) (legal 2 (k - 4) (pathAfter kind above members) links) (isNone links) ≡ true
+  pub others : legal which k above rest ≡ true
 
-right : (which k above kind : ℕ) (members : List Content) (kids links rest : Trees) → legal which k above (tree kind members kids links rest) ≡ true
+pub right : (which k above kind : ℕ) (members : List Content) (kids links rest : Trees) → legal which k above (tree kind members kids links rest) ≡ true
     → Right which k above kind members kids links rest
 unfolding legal
 right which k above kind members kids links rest e0 =

@@ -1,15 +1,15 @@
 -- One value that was written is kept, and its cell says it again.
-use Prim.Native.Nat.{ℕ, zero, suc, _+_, _-_, _^_, _≤_, _<_}
+use Prim.Native.Nat.{ℕ, zero, suc, _+_, _≤_, _<_}
 use mathlib.Core.Path.{_≡_, refl, sym, ap, subst, _∙_}
 use mathlib.Core.List.{List, [], _∷_, _++_}
 use mathlib.Core.Bool.{Bool, true, false, not}
-use mathlib.Core.Logic.{_⊎_, ⊎-elim}
+use mathlib.Core.Logic.{⊎-elim}
 use native.Mathlib.Omega.{arith}
 use borrow.Author.Tests.{le-leb, lt-ltb, le-ltb, ltb-true, leb-true, eqb-true, eqb-false, eq-eqb, ne-eqb}
 use lib.ListN.{length, take, drop}
 use lib.Seq.{take-append-seam}
-use lib.Dec.{T, leb, ltb, eqb}
-use lib.IntN.{ℤ, pos, negsuc}
+use lib.Dec.{T, ltb, eqb}
+use lib.IntN.{ℤ}
 use lib.Ieee as Ieee
 use lib.Ieee.{binary64}
 use lib.Ieee.Bits.{toBits-ofBits, nanBits-is}
@@ -25,18 +25,16 @@ use Rattle.reals.specs.declared.Read.the-variants.{Real as Double}
 use Rattle.reals.specs.Real as reals
 use Rattle.reals.specs.Real.{realAt}
 use Rattle.values.specs.declared.Flag.the-variants.{Is}
-use Rattle.values.specs.declared.Value.{Value}
-use Rattle.values.specs.declared.Value.the-variants.{Int, Real, Text, Bool as Truth, Octets}
-use Rattle.values.specs.declared.Answer.{Answer}
+use Rattle.values.specs.declared.Value.the-variants.{Int, Real, Text}
 use Rattle.values.specs.declared.Answer.the-variants.{Found}
-use Rattle.values.specs.Value.{boolean, boolAt, isListed, contentAt}
+use Rattle.values.specs.Value.{boolean, boolAt, contentAt}
 use Rattle.values.proofs.Laws.{content-bool, content-int, content-octets, content-real, content-text}
 use Rattle.identifiers.specs.Identifier.{Arcs, bad, over, numbers, arcs}
 use Rattle.entries.specs.declared.Cell.{Cell}
 use Rattle.entries.specs.Cell.{cell, wordOf, bitOf, cellOf, numbersCell}
 use Rattle.grammar.specs.declared.Leaf.the-variants.{Kept}
-use Rattle.grammar.specs.Grammar.{step, path, any, name}
-use Rattle.grammar.specs.Leaf.{both, expects, inRange, isName, isPath, judged, pathLeaf, listLeaf, numbersAt, leafAt}
+use Rattle.grammar.specs.Grammar.{path, any, name}
+use Rattle.grammar.specs.Leaf.{expects, inRange, isName, judged, pathLeaf, listLeaf, numbersAt, leafAt}
 use Rattle.grammar.proofs.Laws.{number-any, number-step, number-kept, text-free, text-name, leaf-value, leaf-numbers}
 use Rattle.grammar.proofs.Tables.{expects-step, expects-numbers}
 use Rattle.forest.specs.Content.{Content, nothing, word, bytes, wrong, isPart, isWord, contentOf, intOf}

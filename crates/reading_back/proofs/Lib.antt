@@ -9,4 +9,6 @@ pub mod Known
 pub mod Stages
 pub mod Elements
 pub mod Growth
+pub mod Same
 pub mod ReadBack
+pub mod Vectors

@@ -2,20 +2,17 @@
 use Prim.Native.Nat.{ℕ, zero, suc, _+_, _-_, _≤_, _<_}
 use mathlib.Core.Path.{_≡_, refl, sym, ap, subst, _∙_}
 use mathlib.Core.List.{List, [], _∷_, _++_, append-assoc}
-use mathlib.Core.Bool.{Bool, true, false}
-use mathlib.Core.Logic.{_⊎_, inl, inr, ⊎-elim}
+use mathlib.Core.Bool.{true, false}
+use mathlib.Core.Logic.{inr, ⊎-elim}
 use native.Mathlib.Omega.{arith}
-use borrow.Author.Tests.{lt-ltb, le-leb, eqb-false, ne-eqb}
-use lib.ListN.{length, drop, getD, set, length-append}
+use borrow.Author.Tests.{lt-ltb, eqb-false, ne-eqb}
+use lib.ListN.{length, drop, length-append}
 use lib.Seq.{getD-append-seam, set-append-seam}
-use lib.Dec.{leb, ltb, eqb}
-use Rattle.integers.specs.Digits.{pick}
-use Rattle.integers.proofs.Radix.{lt-or-le}
+use lib.Dec.{eqb}
 use Rattle.entries.specs.declared.Cell.{Cell}
 use Rattle.entries.specs.Cell.{cell, absent}
 use Rattle.entries.specs.Entry.{Entry, Entries, blank, blanks, withCell, putCell}
 use Rattle.grammar.specs.Grammar.{ruleOf, required}
-use Rattle.grammar.specs.Leaf.{both}
 use Rattle.glow.specs.Members.{afterListed, column}
 use Rattle.glow.specs.Tree.{Out, MembersGive}
 use Rattle.glow.proofs.Ways.{members-leaf}
@@ -23,8 +20,8 @@ use Rattle.forest.specs.Content.{Content, nothing, word, bytes, wrong, isPart, 
 use Rattle.forest.specs.Legal.{suits, present, complete, pathOf}
 use Rattle.forest.specs.Written.{outer, memberOctets, membersOctets}
 use Rattle.reading_back.proofs.Bools.{never, both-left, both-right, unless, word-kinds, part-kinds}
-use Rattle.reading_back.proofs.Standing.{till, Outered, outered}
-use Rattle.reading_back.proofs.Leaves.{Spells, Leafed, leafed, kindOf, octetsOf}
+use Rattle.reading_back.proofs.Standing.{till, outered}
+use Rattle.reading_back.proofs.Leaves.{Spells, leafed, kindOf, octetsOf}
 use Rattle.reading_back.proofs.Order.{Ready, ready-order, ready-fresh, ready-skip, ready-after, column-next}
 use Rattle.reading_back.proofs.Turns.{member-leaf}
 

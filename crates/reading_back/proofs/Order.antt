@@ -1,17 +1,16 @@
 -- Members with ascending numbers come in order, none twice, and none that is required is left out.
-use Prim.Native.Nat.{ℕ, suc, _+_, _≤_, _<_}
-use mathlib.Core.Path.{_≡_, refl, sym, ap, _∙_}
+use Prim.Native.Nat.{ℕ, suc, _+_, _≤_}
+use mathlib.Core.Path.{_≡_, refl, _∙_}
 use mathlib.Core.Bool.{Bool, true, false, not}
 use mathlib.Core.Logic.{_⊎_, inl, inr, ⊎-elim}
 use native.Mathlib.Omega.{arith}
 use borrow.Author.Tests.{le-leb, le-ltb, leb-true}
-use lib.ListN.{length, getD, List·getD-eq-default}
+use lib.ListN.{List·getD-eq-default}
 use lib.Dec.{leb, ltb}
 use Rattle.integers.specs.Digits.{pick}
 use Rattle.grammar.specs.Grammar.{requirements, required, isSet}
-use Rattle.glow.specs.Members.{marked, mark, due, inOrder, again, afterListed, column}
+use Rattle.glow.specs.Members.{marked, due, inOrder, again, afterListed, column}
 use Rattle.glow.proofs.Marks.{marked-other, marked-none}
-use Rattle.reading_back.proofs.Bools.{never}
 
 -- the member n of a row may come now, and those after it
 pub record Ready (row before n : ℕ) : Type 0 where

@@ -1,16 +1,17 @@
--- The message of a legal tree is read, and as the same tree: `reads-back` for the walk, `read-back` and `read-room` for the reader's answer.
+-- The message of a legal tree is read, and as the same tree: `reads-back` for the walk, `read-back` and `read-room` for the reader's answer. The entries that
+-- were read make the tree again (`same-tree`), and so no two legal trees have one message (`one-tree`).
 -- They hold for every spelling of reals (`Spells`); `writtenReal`, which the writer uses, is one (`written-spells`).
-use Prim.Native.Nat.{ℕ, zero, suc, _+_, _-_, _≤_, _<_}
+use Prim.Native.Nat.{ℕ, suc, _+_, _≤_, _<_}
 use mathlib.Core.Path.{_≡_, refl, sym, ap, subst, _∙_}
-use mathlib.Core.List.{List, [], _∷_, _++_, append-nil}
+use mathlib.Core.List.{List, [], _∷_, append-nil}
 use mathlib.Core.Bool.{Bool, true, false}
 use mathlib.Core.Logic.{_⊎_, inl, inr, ⊎-elim}
 use native.Mathlib.Omega.{arith}
 use borrow.Author.Tests.{le-ltb, lt-ltb, eqb-true, eq-eqb}
-use lib.ListN.{length, drop, length-append}
-use lib.Dec.{leb, ltb, eqb}
+use lib.ListN.{length}
+use lib.Dec.{eqb}
 use lib.Ieee as Ieee
-use lib.Ieee.{Float, binary64}
+use lib.Ieee.{binary64}
 use lib.Ieee.Bits.{ofBits-fits}
 use Rattle.integers.specs.Digits.{pick}
 use Rattle.reals.specs.declared.Read.the-variants.{Real as Double}
@@ -20,16 +21,15 @@ use Rattle.reals.proofs.RoundTrip.{written-read}
 use Rattle.containers.specs.declared.Stands.the-variants.{Here}
 use Rattle.containers.specs.declared.Found.the-variants.{Value}
 use Rattle.containers.specs.declared.Onto.the-variants.{Next}
-use Rattle.containers.specs.Ends.{standingAt, enterAt, firstAt, isTag}
+use Rattle.containers.specs.Ends.{enterAt, firstAt, isTag}
 use Rattle.entries.specs.Entry.{Entries, Rows, overlay}
 use Rattle.grammar.specs.Grammar.{rootOf}
-use Rattle.grammar.specs.Leaf.{both}
 use Rattle.glow.specs.declared.Top.the-variants.{Root}
 use Rattle.glow.specs.declared.Answer.the-variants.{Room, Read}
-use Rattle.glow.specs.Tree.{out, itemsBy, ItemsGive}
+use Rattle.glow.specs.Tree.{out, itemsBy}
 use Rattle.glow.specs.Message.{unbounded, rootKind, topAt, finished, Walk, walk, result, setup, readAt}
 use Rattle.forest.specs.Content.{itemsOf}
-use Rattle.forest.specs.Trees.{Trees, none, tree, count, flat}
+use Rattle.forest.specs.Trees.{Trees, count, flat, Taken, taken, treesOf}
 use Rattle.forest.specs.Legal.{isFormed, isReal, isRoot, legal, legalRoot}
 use Rattle.forest.specs.Written.{tagged, treesOctets, rootNumber, messageOctets, formOctets, writtenReal}
 use Rattle.reading_back.proofs.Bools.{never, both-left, both-right, unless}
@@ -37,26 +37,13 @@ use Rattle.reading_back.proofs.Standing.{till, tagOf, Stood, stood, ent
 use Rattle.reading_back.proofs.Leaves.{Spells}
 use Rattle.reading_back.proofs.Stages.{Grown, closes}
 use Rattle.reading_back.proofs.Growth.{grows}
+use Rattle.reading_back.proofs.Same.{count-flat, same}
 
 -- as many entries as the tree has
 count-items : (s : List ℕ) (es : Entries) → length (itemsOf s es) ≡ length es
 unfolding itemsOf
 count-items s [] = refl
 count-items s (e ∷ es) = ap suc (count-items s es)
-
-count-flat : (parent i : ℕ) (t : Trees) → length (flat parent i t) ≡ count t
-unfolding flat count
-count-flat parent i none = refl
-count-flat parent i (tree kind members kids links rest) =
-    let a = flat (suc i) (suc i) kids in
-    let b = flat (suc i) (suc i + count kids) links in
-    let c = flat parent (suc i + (count kids + count links)) rest in
-    let l = length-append a (b ++ c) in
-    let m = length-append b c in
-    let x = count-flat (suc i) (suc i) kids in
-    let y = count-flat (suc i) (suc i + count kids) links in
-    let z = count-flat parent (suc i + (count kids + count links)) rest in
-    omega arith
 
 pub flat-count : (s : List ℕ) (es : Entries) (t : Trees) → itemsOf s es ≡ flat 0 0 t → length es ≡ count t
 flat-count s es t e = sym (count-items s es) ∙ ap length e ∙ count-flat 0 0 t
@@ -158,6 +145,10 @@ module _ (real : ℕ → List ℕ) (spells : Spells real) (root : ℕ) (t : Tree
     ),
   )
 
+  -- The entries by content make the same tree again, with nothing left.
+  pub same-tree : (es : Entries) → itemsOf m es ≡ flat 0 0 t → treesOf root (itemsOf m es) ≡ taken t []
+  same-tree es e = ap (treesOf root) e ∙ same root 62 0 t is-legal
+
   module _ (rows : Rows) (most : length rows ≤ 256) where
     not-setup : setup (length m) (length rows) ≡ false
     unfolding setup
@@ -181,6 +172,26 @@ module _ (real : ℕ → List ℕ) (spells : Spells real) (root : ℕ) (t : Tree
         let n = flat-count m (r .0) t (r .1 .1) in
         let l : length rows < length (r .0) = omega arith in
         rw (not-setup, r .1 .0, lt-ltb _ _ l, n) refl
+
+-- No two legal trees have one message.
+module _ (real : ℕ → List ℕ) (spells : Spells real) (root root′ : ℕ) (t t′ : Trees) (right : legalRoot root t ≡ true) (right′ : legalRoot root′ t′ ≡ true)
+    (few : length (messageOctets real root t) ≤ 16384) (e : messageOctets real root t ≡ messageOctets real root′ t′) where
+  one-few : length (messageOctets real root′ t′) ≤ 16384
+  one-few = subst (λ (l : List ℕ). length l ≤ 16384) e few
+
+  pub one-tree : (root ≡ root′) × (t ≡ t′)
+  one-tree =
+      let a = reads-back real spells root t right few in
+      let b = reads-back real spells root′ t′ right′ one-few in
+      let w = sym (a .1 .0) ∙ ap walk e ∙ b .1 .0 in
+      let r : root ≡ root′ = ap (λ (x : Walk). x .which) w in
+      let es : a .0 ≡ b .0 = ap (λ (x : Walk). x .out .entries) w in
+      let f : flat 0 0 t ≡ flat 0 0 t′ =
+      sym (a .1 .1) ∙ ap (λ (l : List ℕ). itemsOf l (a .0)) e ∙ ap (itemsOf (messageOctets real root′ t′)) es ∙ b .1 .1 in
+      let g : taken t [] ≡ taken t′ [] =
+      sym (same root 62 0 t (is-legal real spells root t right few)) ∙ ap (treesOf root) f ∙ ap (λ (i : ℕ). treesOf i (flat 0 0 t′)) r
+      ∙ same root′ 62 0 t′ (is-legal real spells root′ t′ right′ one-few) in
+      (r, ap (λ (x : Taken). x .trees) g)
 
 -- The spelling that is written.
 pub written-spells : Spells writtenReal

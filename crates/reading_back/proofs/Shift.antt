@@ -8,12 +8,12 @@ use native.Mathlib.Omega.{arith}
 use borrow.Author.Tests.{le-leb, lt-ltb, le-ltb}
 use lib.ListN.{length, take, drop, getD, length-drop, List·getD-append}
 use lib.Seq.{drop-drop, drop-append-le, take-at, take-all, getD-drop}
-use lib.Dec.{leb, ltb, eqb}
+use lib.Dec.{ltb, eqb}
 use Rattle.integers.specs.Digits.{pick}
 use Rattle.integers.proofs.Radix.{lt-or-le}
 use Rattle.identifiers.specs.declared.Arc.{Arc}
 use Rattle.identifiers.specs.declared.Arc.the-variants.{Number, Range as Over, Refused as NoArc}
-use Rattle.identifiers.specs.Identifier.{Arcs, bad, over, numbers, push, pass, andThen, arcIs, arcFrom, arcAt, arcsFrom, arcs}
+use Rattle.identifiers.specs.Identifier.{Arcs, numbers, push, pass, andThen, arcIs, arcFrom, arcAt, arcsFrom, arcs}
 
 -- an answer that ends later
 abbrev moved : ℕ → Arc → Arc

@@ -1,11 +1,11 @@
 -- The parts of an element behind its number or path: contents, then a collection, each left out where it is empty.
-use Prim.Native.Nat.{ℕ, zero, suc, _+_, _-_, _≤_, _<_}
+use Prim.Native.Nat.{ℕ, suc, _+_, _-_, _≤_, _<_}
 use mathlib.Core.Path.{_≡_, refl, sym, ap, subst, _∙_}
-use mathlib.Core.List.{List, [], _∷_, _++_, append-assoc, append-nil}
-use mathlib.Core.Bool.{Bool, true, false, not}
-use mathlib.Core.Logic.{_⊎_, inl, inr, ⊎-elim}
+use mathlib.Core.List.{List, [], _∷_, _++_, append-nil}
+use mathlib.Core.Bool.{Bool, true, false}
+use mathlib.Core.Logic.{inl}
 use native.Mathlib.Omega.{arith}
-use borrow.Author.Tests.{leb-true, eqb-true}
+use borrow.Author.Tests.{leb-true}
 use lib.ListN.{length, drop, length-append}
 use lib.Dec.{leb, eqb}
 use Rattle.integers.specs.Digits.{pick}
@@ -13,19 +13,17 @@ use Rattle.tags.specs.Write.{tagOctets, lengthOctets}
 use Rattle.tags.proofs.Written.{tag-cons}
 use Rattle.containers.specs.declared.Onto.the-variants.{Next}
 use Rattle.entries.specs.declared.Cell.{Cell}
-use Rattle.entries.specs.Cell.{absent}
-use Rattle.entries.specs.Entry.{Entry, Entries, blanks}
+use Rattle.entries.specs.Entry.{Entries, blanks}
 use Rattle.grammar.specs.Grammar.{ruleOf, required, isSet, contentsOf, innerClass, innerNumber, collectionOf}
-use Rattle.grammar.specs.Leaf.{both}
 use Rattle.glow.specs.Members.{afterListed, column}
 use Rattle.glow.specs.Tree.{Out, out, closed, MembersGive, ItemsGive}
 use Rattle.glow.proofs.Ways.{members-done, contents-in, list-in}
 use Rattle.forest.specs.Content.{Content, nothing, word, bytes, wrong, contentsOf as say, itemsOf}
 use Rattle.forest.specs.Trees.{Trees, none, tree, count, flat, standsIn}
-use Rattle.forest.specs.Legal.{suits, present, empty, complete, legal}
+use Rattle.forest.specs.Legal.{suits, empty, complete, legal}
 use Rattle.forest.specs.Written.{tagged, outer, spelled, memberOctets, membersOctets, wrapped, treesOctets}
 use Rattle.reading_back.proofs.Bools.{never, both-left, both-right}
-use Rattle.reading_back.proofs.Standing.{till, tagOf, Outered, outered, last-here}
+use Rattle.reading_back.proofs.Standing.{till, tagOf, outered, last-here}
 use Rattle.reading_back.proofs.Leaves.{Spells}
 use Rattle.reading_back.proofs.Order.{Ready, ready-start, ready-order, ready-fresh, ready-skip, ready-done, ready-after, set-required}
 use Rattle.reading_back.proofs.Turns.{member-done, member-contents, member-items}

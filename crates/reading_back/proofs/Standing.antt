@@ -1,13 +1,11 @@
 -- What stands at a place where a tag with its length was written, and at a container's end. All containers here have a definite length.
-use Prim.Native.Nat.{ℕ, zero, suc, _+_, _-_, _*_, _≤_, _<_}
+use Prim.Native.Nat.{ℕ, _+_, _*_, _≤_, _<_}
 use mathlib.Core.Path.{_≡_, refl, sym, ap, subst, _∙_}
 use mathlib.Core.List.{List, [], _∷_, _++_, append-assoc}
 use mathlib.Core.Bool.{Bool, true, false}
 use native.Mathlib.Omega.{arith}
 use borrow.Author.Tests.{lt-leb, lt-ltb, eq-eqb, ne-eqb}
-use lib.ListN.{length, drop, getD, length-append, length-drop}
-use lib.Dec.{leb, ltb, eqb}
-use Rattle.integers.specs.Digits.{pick}
+use lib.ListN.{length, drop, getD, length-append}
 use Rattle.tags.specs.Tag.{headAt}
 use Rattle.tags.specs.Write.{tagOctets, lengthOctets, bit as high}
 use Rattle.tags.specs.declared.Length.the-variants.{Definite}

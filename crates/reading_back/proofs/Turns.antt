@@ -1,7 +1,7 @@
 -- One turn of the walk where a member or an item was written.
-use Prim.Native.Nat.{ℕ, suc, _+_, _-_, _≤_, _<_}
-use mathlib.Core.Path.{_≡_, refl, sym, ap, _∙_}
-use mathlib.Core.List.{List, [], _∷_, _++_}
+use Prim.Native.Nat.{ℕ, _-_, _≤_, _<_}
+use mathlib.Core.Path.{_≡_, refl, _∙_}
+use mathlib.Core.List.{List}
 use mathlib.Core.Bool.{Bool, true, false}
 use native.Mathlib.Omega.{arith}
 use borrow.Author.Tests.{le-leb, lt-leb, eq-eqb, ne-eqb}
@@ -9,7 +9,7 @@ use lib.ListN.{length}
 use lib.Dec.{leb, eqb}
 use Rattle.integers.specs.Digits.{pick}
 use Rattle.containers.specs.declared.Tag.{Tag}
-use Rattle.containers.specs.Ends.{bit, deep, enterAt, firstAt, lastAt, isTag}
+use Rattle.containers.specs.Ends.{bit, deep, isTag}
 use Rattle.entries.specs.declared.Cell.{Cell}
 use Rattle.grammar.specs.declared.Leaf.the-variants.{Kept}
 use Rattle.grammar.specs.Grammar.{body, ruleOf, innerClass, innerNumber, collectionOf, kindIn}
