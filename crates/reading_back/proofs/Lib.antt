@@ -1,0 +1,14 @@
+pub mod Standing
+pub mod Shift
+pub mod Bools
+pub mod Leaves
+pub mod Order
+pub mod Turns
+pub mod Members
+pub mod Known
+pub mod Stages
+pub mod Elements
+pub mod Growth
+pub mod Same
+pub mod ReadBack
+pub mod Vectors

@@ -1,0 +1,1 @@
+// What a tree's message is read as: theorems alone.
