@@ -1,3 +1,5 @@
 pub mod Bools
 pub mod Tables
 pub mod Lists
+pub mod Sizes
+pub mod Spans
