@@ -12,7 +12,7 @@ use Rattle.identifiers.specs.Identifier.{Arcs, bad, over, numbers, arcs}
 use Rattle.grammar.specs.Grammar.{any, name, step, path, kids, links, ruleOf, required, children, connections}
 use Rattle.grammar.specs.Grammar as grammar
 use Rattle.grammar.specs.Leaf.{both, expects, inRange, isName, isPath}
-use Rattle.forest.specs.Content.{Content, nothing, word, bytes, wrong, intOf}
+use Rattle.forest.specs.Content.{Content, nothing, word, bytes, wrong, isPart, isWord, intOf}
 use Rattle.forest.specs.Trees.{Trees, none, tree, standsIn}
 
 -- the rule for each cell of a kind: number or path, then the contents' members; of a command, a connection and a stream entry the members
@@ -50,11 +50,12 @@ partSuits what kind bs =
     pick (eqb kind 13) (pick (eqb what path) (pathSuits (arcs bs 0 (length bs))) (listSuits (arcs bs 0 (length bs))))
     (pick (eqb what name) (isName bs) true)
 
--- whether a member may hold this, by its rule: 0 is no member
+-- whether a member may hold this, by its rule: 0 is no member; words are of 64 bits
 unfoldable pub suits : ℕ → Content → Bool
 suits what nothing = true
-suits what (word kind w) = pick (eqb what 0) false (both (expects what kind) (wordSuits what kind w))
-suits what (bytes kind bs) = pick (eqb what 0) false (both (expects what kind) (partSuits what kind bs))
+suits what (word kind w) =
+    pick (eqb what 0) false (both (isWord kind) (both (ltb w 18446744073709551616) (both (expects what kind) (wordSuits what kind w))))
+suits what (bytes kind bs) = pick (eqb what 0) false (both (isPart kind) (both (expects what kind) (partSuits what kind bs)))
 suits what wrong = false
 
 -- the members from cell c on
