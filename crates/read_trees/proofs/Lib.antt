@@ -3,3 +3,4 @@ pub mod Tables
 pub mod Lists
 pub mod Sizes
 pub mod Spans
+pub mod Leaves
