@@ -4,3 +4,4 @@ pub mod Lists
 pub mod Sizes
 pub mod Spans
 pub mod Leaves
+pub mod Turns
