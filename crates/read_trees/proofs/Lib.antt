@@ -5,3 +5,5 @@ pub mod Sizes
 pub mod Spans
 pub mod Leaves
 pub mod Turns
+pub mod Walks
+pub mod Sets

@@ -25,7 +25,7 @@ rightAt : ℕ → ℕ → ℕ → Bool
 rightAt kind n what =
     pick (eqb what 0) true
     (pick (ltb what 13)
-    (both (eqb (ruleAt kind n) what) (both (eqb (homeOf kind n) n) (both (ltb n 16) (pick (eqb n 0) true (both (not (eqb what 5)) (not (eqb what 6)))))))
+    (both (eqb (ruleAt kind n) what) (both (eqb (homeOf kind n) n) (both (ltb n 16) (both (pick (eqb (contentsOf kind) 0) true (eqb n 0)) (pick (eqb n 0) true (both (not (eqb what 5)) (not (eqb what 6))))))))
     (pick (eqb what 13) (both (eqb n 1) (both (leb 10 (contentsOf kind)) (leb (contentsOf kind) 12)))
     (pick (eqb what 14) (eqb n 2) (both (eqb what 15) (eqb n 5)))))
 
@@ -104,6 +104,7 @@ module _ (kind : ℕ) (k : Kind kind) where
     pub rule : ruleAt kind n ≡ ruleOf kind n
     pub home : homeOf kind n ≡ n
     pub low : n < 16
+    pub alone : (contentsOf kind ≡ 0) ⊎ (n ≡ 0)
     pub later : 0 < n → (ruleOf kind n ≡ 5 → ⊥) × (ruleOf kind n ≡ 6 → ⊥)
 
   pub plain-at : (n : ℕ) → (ruleOf kind n ≡ 0 → ⊥) → ruleOf kind n < 13 → Plain n
@@ -113,16 +114,22 @@ module _ (kind : ℕ) (k : Kind kind) where
       let e2 = pick-then (ltb (ruleOf kind n) 13) _ _ (lt-ltb _ _ b) e1 in
       let e3 = both-right (eqb (ruleAt kind n) (ruleOf kind n)) _ e2 in
       let e4 = both-right (eqb (homeOf kind n) n) _ e3 in
-      let e5 = both-right (ltb n 16) _ e4 in
+      let e4′ = both-right (ltb n 16) _ e4 in
+      let e5 = both-right (pick (eqb (contentsOf kind) 0) true (eqb n 0)) _ e4′ in
       record {
         rule = eqb-true _ _ (both-left _ _ e2);
         home = eqb-true _ _ (both-left _ _ e3);
         low = ltb-true _ _ (both-left _ _ e4);
+        alone = go (eqb (contentsOf kind) 0) refl (both-left _ _ e4′);
         later = λ h.
             let z : n ≡ 0 → ⊥ = λ q. omega arith in
             let e6 = pick-else (eqb n 0) _ _ (ne-eqb _ _ z) e5 in
             (eqb-false _ _ (not-true _ (both-left _ _ e6)), eqb-false _ _ (not-true _ (both-right (not (eqb (ruleOf kind n) 5)) _ e6)));
       }
+    where
+      go : (b : Bool) → eqb (contentsOf kind) 0 ≡ b → pick b true (eqb n 0) ≡ true → (contentsOf kind ≡ 0) ⊎ (n ≡ 0)
+      go true e f = inl (eqb-true (contentsOf kind) 0 e)
+      go false e f = inr (eqb-true n 0 f)
 
   -- contents, children and connections
   pub body-at : (n : ℕ) → ruleOf kind n ≡ 13 → (n ≡ 1) × ((10 ≤ contentsOf kind) × (contentsOf kind ≤ 12))
