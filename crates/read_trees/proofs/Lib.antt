@@ -7,3 +7,4 @@ pub mod Leaves
 pub mod Turns
 pub mod Walks
 pub mod Sets
+pub mod Parts
