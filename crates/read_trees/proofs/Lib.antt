@@ -8,3 +8,4 @@ pub mod Turns
 pub mod Walks
 pub mod Sets
 pub mod Parts
+pub mod Elements
