@@ -16,7 +16,7 @@ use Rattle.glow.specs.Members.{due, inOrder, afterListed, afterOther, column}
 use Rattle.forest.specs.Content.{Content, nothing, word, bytes, wrong}
 use Rattle.forest.specs.Trees.{Trees, none, tree}
 use Rattle.forest.specs.Legal.{pathOf, pathAfter, ruleAt, inner, empty, isNone, legal}
-use Rattle.forest.specs.Written.{memberOctets, own}
+use Rattle.forest.specs.Written.{memberOctets, membersOctets, own, wrapped}
 use Rattle.read_trees.proofs.Bools.{never}
 use Rattle.read_trees.proofs.Tables.{homeOf, Kind, is-sequence, required-some, required-at}
 use Rattle.read_trees.proofs.Lists.{sizeFrom, size-set, nothings}
@@ -127,6 +127,31 @@ unfolding nothings
 all-nothing [] h = refl
 all-nothing (y ∷ ys) h =
     ap (λ (x : Content). x ∷ ys) (h 0) ∙ ap (λ (t : List Content). nothing ∷ t) (all-nothing ys (λ n. h (suc n)))
+
+-- an element that has nothing yet
+pub blank-inner : (kind : ℕ) → empty (inner kind (nothings 16)) ≡ true
+unfolding inner nothings empty
+blank-inner kind = go (eqb (grammar.contentsOf kind) 0)
+  where
+    go : (b : Bool) → empty (pick b [] (nothings 15)) ≡ true
+    go true = refl
+    go false = refl
+
+pub blank-own : (kind : ℕ) (least : ℕ → List ℕ) → sizeFrom least 0 (own kind (nothings 16)) ≡ 0
+unfolding own nothings membersOctets memberOctets
+blank-own kind least = go (eqb (grammar.contentsOf kind) 0)
+  where
+    go : (b : Bool) → sizeFrom least 0 (pick b (nothings 16) (nothings 1)) ≡ 0
+    go true = refl
+    go false = refl
+
+pub blank-body : (kind : ℕ) (least : ℕ → List ℕ) → length (wrapped 1 0 17 (membersOctets least 0 (inner kind (nothings 16)))) ≡ 0
+unfolding inner nothings wrapped membersOctets memberOctets
+blank-body kind least = go (eqb (grammar.contentsOf kind) 0)
+  where
+    go : (b : Bool) → length (wrapped 1 0 17 (membersOctets least 0 (pick b [] (nothings 15)))) ≡ 0
+    go true = refl
+    go false = refl
 
 -- members in their order
 module _ (kind : ℕ) (kk : Kind kind) (before n : ℕ) where
