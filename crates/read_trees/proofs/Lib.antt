@@ -9,3 +9,5 @@ pub mod Walks
 pub mod Sets
 pub mod Parts
 pub mod Elements
+pub mod Accepts
+pub mod Message

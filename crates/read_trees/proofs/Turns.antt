@@ -44,7 +44,7 @@ use Rattle.read_trees.proofs.Spans.{Closes, Tells, Begins, closes-later
 use Rattle.read_trees.proofs.Spans.{enter-tells, first-tells, last-tells, passed-tells}
 use Rattle.read_trees.proofs.Leaves.{RealsLeast, Right, kept-right}
 
-tag-form : (t : Tag) (class c number : ℕ) → isTag t class c number ≡ true → t .constructed ≡ c
+pub tag-form : (t : Tag) (class c number : ℕ) → isTag t class c number ≡ true → t .constructed ≡ c
 unfolding isTag
 tag-form t class c number = go (eqb (t .class) class) (eqb (t .number) number)
   where
@@ -61,7 +61,7 @@ module _ (s : List ℕ) (octets : Below 256 s) (short : length s ≤ 16384) (lea
     pub starts : g .start ≤ length s
     pub holds : (m q r n : ℕ) → g .start + m ≤ q → Closes (g .inner) q r → r ≤ length s → Closes outer r n → p + around (around m) ≤ n
 
-  inside-of : (p k : ℕ) (t g : Tag) → Begins s p t → Begins s (t .start) g → 0 < k → 0 < k - 1 → Inside p k (t .inner) g (k - 1)
+  pub inside-of : (p k : ℕ) (t g : Tag) → Begins s p t → Begins s (t .start) g → 0 < k → 0 < k - 1 → Inside p k (t .inner) g (k - 1)
   inside-of p k t g a b h l =
       record {
         counts = refl;
