@@ -1,13 +1,13 @@
 -- The items of a collection that are read are the entries of legal trees, whose least message has no more octets.
 use Prim.Native.Nat.{ℕ, zero, suc, _+_, _-_, _<_, _≤_}
-use mathlib.Core.Path.{_≡_, refl, sym, ap, subst, _∙_}
+use mathlib.Core.Path.{_≡_, refl, sym, ap, _∙_}
 use mathlib.Core.List.{List, [], _∷_, _++_, append-assoc}
-use mathlib.Core.Bool.{Bool, true, false}
-use mathlib.Core.Logic.{_⊎_, inl, inr, ⊎-elim}
+use mathlib.Core.Bool.{Bool, true}
+use mathlib.Core.Logic.{⊎-elim}
 use native.Mathlib.Omega.{arith}
-use borrow.Author.Tests.{eq-eqb, eqb-true, eqb-false, le-leb}
+use borrow.Author.Tests.{eq-eqb, le-leb}
 use lib.ListN.{length, getD, length-append}
-use lib.Dec.{leb, ltb, eqb}
+use lib.Dec.{leb, eqb}
 use Rattle.integers.specs.Digits.{pick}
 use Rattle.integers.proofs.Radix.{Below}
 use Rattle.containers.specs.declared.Open.{Open}
@@ -15,17 +15,16 @@ use Rattle.containers.specs.declared.Tag.{Tag}
 use Rattle.containers.specs.declared.Onto.{Onto}
 use Rattle.containers.specs.declared.Onto.the-variants.{Next, Refused as Stopped}
 use Rattle.containers.proofs.Heads.{pick-by}
-use Rattle.entries.specs.declared.Cell.{Cell}
-use Rattle.entries.specs.Entry.{Entry, Entries, blank, putCell}
-use Rattle.grammar.specs.Grammar.{ruleOf, required, children, connections, applications}
+use Rattle.entries.specs.Entry.{Entries, blank, putCell}
+use Rattle.grammar.specs.Grammar.{ruleOf, children, connections, applications}
 use Rattle.grammar.specs.Grammar as grammar
 use Rattle.glow.specs.Members.{memberAt, itemAt}
-use Rattle.glow.specs.Tree.{Out, out, thenClosed, membersBy, itemsBy}
+use Rattle.glow.specs.Tree.{Out, thenClosed, membersBy, itemsBy}
 use Rattle.forest.specs.Content.{Content, Item, item, itemOf, itemsOf, contentsOf}
 use Rattle.forest.specs.Trees.{Trees, none, tree, count, flat, standsIn}
-use Rattle.forest.specs.Legal.{suited, complete, pathAfter, inner, empty, isNone, legal}
+use Rattle.forest.specs.Legal.{pathAfter, inner, empty, isNone, legal}
 use Rattle.forest.specs.Written.{tagged, membersOctets, own, wrapped, treesOctets}
-use Rattle.read_trees.proofs.Bools.{never, both-make, pick-true}
+use Rattle.read_trees.proofs.Bools.{pick-true}
 use Rattle.read_trees.proofs.Tables.{Kind, application-short, stands-kind}
 use Rattle.read_trees.proofs.Lists.{sizeFrom, append-none, items-append, items-length, flat-length}
 use Rattle.read_trees.proofs.Sizes.{around, outer-size}
@@ -35,7 +34,8 @@ use Rattle.read_trees.proofs.Turns.{Inside, member-tells, item-tells}
 use Rattle.read_trees.proofs.Walks.{AnswerTell, OutTell, then-tells, member-walks, item-walks}
 use Rattle.read_trees.proofs.Sets.{Filled, set-walks}
 use Rattle.read_trees.proofs.Elements.{ItemsRead, bodySize, kidsSize, linksSize, Shape, Reading, Read}
-use Rattle.read_trees.proofs.Elements.{over-reading, leaf-reading, op, low, high, contents-filling, contents-reading, items-reading, done-reading, begin-reading}
+use Rattle.read_trees.proofs.Elements.{over-reading, leaf-reading, op, low, high, contents-filling, contents-reading, items-reading}
+use Rattle.read_trees.proofs.Elements.{done-reading, begin-reading}
 
 tell-map : (C D : ℕ → Entries → Type 0) → ((q : ℕ) (es : Entries) → C q es → D q es) → (x : Out) → OutTell C x → OutTell D x
 tell-map C D f x = go (x .answer) (x .entries)
@@ -76,7 +76,8 @@ module _ (s : List ℕ) (octets : Below 256 s) (short : length s ≤ 16384) (lea
 
     post-length : length (sh .post) ≡ count (sh .kids) + count (sh .links)
     post-length =
-        let a = length-append (flat (suc (length es)) (suc (length es)) (sh .kids)) (flat (suc (length es)) (suc (length es) + count (sh .kids)) (sh .links)) in
+        let a = length-append (flat (suc (length es)) (suc (length es)) (sh .kids))
+        (flat (suc (length es)) (suc (length es) + count (sh .kids)) (sh .links)) in
         let b = flat-length (suc (length es)) (suc (length es)) (sh .kids) in
         let c = flat-length (suc (length es)) (suc (length es) + count (sh .kids)) (sh .links) in
         let d = ap length (sh .posts) in
@@ -131,7 +132,8 @@ module _ (s : List ℕ) (octets : Below 256 s) (short : length s ≤ 16384) (lea
     join =
         let t = tree-size kind kk xs (sh .kids) (sh .links) (r .trees) in
         let m = sizeFrom least 0 (own kind xs)
-        + (bodySize s octets short least reals kind xs + (kidsSize s octets short least reals (sh .kids) + linksSize s octets short least reals (sh .links))) in
+        + (bodySize s octets short least reals kind xs
+        + (kidsSize s octets short least reals (sh .kids) + linksSize s octets short least reals (sh .links))) in
         let took : p + around (around m) ≤ n = inside .holds m (w .last) q n (w .size) (w .closes) (w .ends) closes in
         record {
           trees = tree kind xs (sh .kids) (sh .links) (r .trees);

@@ -1,13 +1,10 @@
 -- Tests that hold together.
-use Prim.Native.Nat.{ℕ, zero, suc, _+_, _<_, _≤_}
+use Prim.Native.Nat.{ℕ, zero, suc, _+_}
 use mathlib.Core.Path.{_≡_, refl, sym, ap, _∙_}
 use mathlib.Core.List.{List, [], _∷_}
-use mathlib.Core.Bool.{Bool, true, false, not}
-use mathlib.Core.Logic.{_⊎_, inl, inr}
+use mathlib.Core.Bool.{Bool, true, false}
 use native.Mathlib.Omega.{arith}
 use lib.ListN.{getD}
-use borrow.Author.Tests.{leb-true, ltb-true, eqb-true, eqb-false, not-true}
-use lib.Dec.{leb, ltb, eqb}
 use Rattle.integers.specs.Digits.{pick}
 use Rattle.grammar.specs.Leaf.{both}
 
@@ -25,10 +22,6 @@ both-right false b e = never e
 pub both-make : (a b : Bool) → a ≡ true → b ≡ true → both a b ≡ true
 both-make true b e f = f
 both-make false b e f = never e
-
-pub true-or-false : (b : Bool) → (b ≡ true) ⊎ (b ≡ false)
-true-or-false true = inl refl
-true-or-false false = inr refl
 
 pub pick-then : {X : Type 0} (b : Bool) (x y : X) {z : X} → b ≡ true → pick b x y ≡ z → x ≡ z
 pick-then true x y e f = f

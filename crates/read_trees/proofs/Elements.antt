@@ -7,7 +7,7 @@ use mathlib.Core.Logic.{_⊎_, inl, inr, ⊎-elim}
 use native.Mathlib.Omega.{arith}
 use borrow.Author.Tests.{eq-eqb, eqb-true, eqb-false}
 use lib.ListN.{length, getD, set, length-set, length-append}
-use lib.Dec.{leb, ltb, eqb}
+use lib.Dec.{eqb}
 use Rattle.integers.specs.Digits.{pick}
 use Rattle.integers.proofs.Radix.{Below, lt-or-le, none-or-some}
 use Rattle.containers.specs.declared.Open.{Open}
@@ -17,12 +17,12 @@ use Rattle.entries.specs.declared.Cell.{Cell}
 use Rattle.entries.specs.Entry.{Entry, Entries, blank, blanks, withCell, putCell}
 use Rattle.grammar.specs.Grammar.{ruleOf, required, collectionOf, children, connections}
 use Rattle.grammar.specs.Grammar as grammar
-use Rattle.glow.specs.Members.{due, marked}
+use Rattle.glow.specs.Members.{due}
 use Rattle.forest.specs.Content.{Content, nothing, contentOf, contentsOf, Item, itemsOf}
-use Rattle.forest.specs.Trees.{Trees, none, tree, count, flat}
+use Rattle.forest.specs.Trees.{Trees, none, count, flat}
 use Rattle.forest.specs.Legal.{suits, suited, present, complete, pathAfter, pathOf, ruleAt, inner, empty, isNone, legal}
-use Rattle.forest.specs.Written.{memberOctets, membersOctets, own, wrapped, treesOctets}
-use Rattle.read_trees.proofs.Bools.{never, both-left, both-right, both-make, pick-true}
+use Rattle.forest.specs.Written.{membersOctets, own, wrapped, treesOctets}
+use Rattle.read_trees.proofs.Bools.{both-left, both-right, both-make, pick-true}
 use Rattle.read_trees.proofs.Tables.{homeOf, Kind, plain-at, body-at, kids-at, links-at, rules-end, required-some}
 use Rattle.read_trees.proofs.Lists.{get-set, get-other, append-none, suited-set, sizeFrom, complete-by, with-contents, with-kind, put-at}
 use Rattle.read_trees.proofs.Lists.{nothings, blank-contents, nothings-suited, nothings-get, nothings-length, nothings-empty, nothings-size}
@@ -30,7 +30,7 @@ use Rattle.read_trees.proofs.Lists.{items-append, items-length, flat-le
 use Rattle.read_trees.proofs.Sizes.{around, wrapped-size}
 use Rattle.read_trees.proofs.Spans.{Closes}
 use Rattle.read_trees.proofs.Leaves.{RealsLeast}
-use Rattle.read_trees.proofs.Turns.{LeafRead, OverRead, InnerRead, Inside}
+use Rattle.read_trees.proofs.Turns.{LeafRead, OverRead, InnerRead}
 use Rattle.read_trees.proofs.Sets.{Cells, Filling, Filled}
 use Rattle.read_trees.proofs.Parts.{path-still, after-tail, after-none, after-set, after-put, own-first, inner-all, inner-set, own-set}
 use Rattle.read_trees.proofs.Parts.{blank-inner, blank-own, blank-body}
@@ -168,12 +168,11 @@ module _ (s : List ℕ) (octets : Below 256 s) (short : length s ≤ 16384) (lea
         → (path ≡ pathAfter kind above₀ (set xs n x)) × ((0 < n) → path ≡ above)
     leaf-path above zero xs x l e g p r d =
         let a : above ≡ above₀ = e ∙ after-none kind above₀ xs g in
-        let m : 0 < length xs = omega arith in
-        (
+        let m : 0 < length xs = omega arith in (
           p
-          ∙ ap (λ (b : ℕ). pathOf (ruleOf kind 0) b (x ∷ [])) a
-          ∙ ap (λ (w : ℕ). pathOf w above₀ (x ∷ [])) (sym r)
-          ∙ sym (after-put kind above₀ xs x m),
+              ∙ ap (λ (b : ℕ). pathOf (ruleOf kind 0) b (x ∷ [])) a
+              ∙ ap (λ (w : ℕ). pathOf w above₀ (x ∷ [])) (sym r)
+              ∙ sym (after-put kind above₀ xs x m),
           λ z. absurd (omega arith),
         )
     leaf-path above (suc n) xs x l e g p r d =
@@ -283,7 +282,8 @@ module _ (s : List ℕ) (octets : Below 256 s) (short : length s ≤ 16384) (lea
       rest-none : op .rest ≡ nothings 15
       rest-none = all-nothing (op .rest) was-nothing ∙ ap nothings (op .long)
 
-      pub contents-filling : Filling s octets short least reals kind low high base (h .here .post) parent (op .first) (j - 1) (g .inner) (g .start) 0 (g .start) es
+      pub contents-filling :
+          Filling s octets short least reals kind low high base (h .here .post) parent (op .first) (j - 1) (g .inner) (g .start) 0 (g .start) es
       contents-filling =
           let z : sizeFrom least 0 (op .rest) ≡ 0 = ap (sizeFrom least 0) rest-none ∙ nothings-size least 0 15 in
           record {

@@ -1,9 +1,9 @@
 -- One value that is kept: its content suits the member's rule, is there, and has no more octets at the least than it was read from.
-use Prim.Native.Nat.{ℕ, zero, suc, _+_, _-_, _*_, _<_, _≤_}
+use Prim.Native.Nat.{ℕ, suc, _+_, _-_, _<_, _≤_}
 use mathlib.Core.Path.{_≡_, refl, sym, ap, subst, _∙_}
 use mathlib.Core.List.{List, [], _∷_, _++_}
-use mathlib.Core.Bool.{Bool, true, false, not}
-use mathlib.Core.Logic.{_⊎_, inl, inr, ⊎-elim}
+use mathlib.Core.Bool.{Bool, true, false}
+use mathlib.Core.Logic.{_⊎_, inl, inr}
 use native.Mathlib.Omega.{arith}
 use borrow.Author.Tests.{le-leb, lt-ltb, le-ltb, ne-eqb, eq-eqb, eqb-true, eqb-false, leb-true}
 use lib.ListN.{length, take, drop}
@@ -14,7 +14,6 @@ use lib.Ieee.{Float, nan, inf, fin, binary64}
 use lib.Ieee.Bits.{ofBits-toBits, toBits-lt, nanBits-is}
 use mir.Syntax.{w64}
 use mir.Val.{SFits}
-use Rattle.integers.specs.Digits.{pick}
 use Rattle.integers.specs.declared.Number.{Number}
 use Rattle.integers.specs.declared.Number.the-variants.{Int as Whole, Refused as NoInt}
 use Rattle.integers.specs.Integer.{integer, integerAt, shortest}
@@ -25,30 +24,28 @@ use Rattle.integers.proofs.RoundTrip.{written-least, read-fits}
 use Rattle.reals.specs.declared.Read.{Read}
 use Rattle.reals.specs.declared.Read.the-variants.{Real as Double, Refused as NoReal}
 use Rattle.reals.specs.Real.{real, realAt}
-use Rattle.reals.specs.Write.{Form, unwritten, octets, form}
+use Rattle.reals.specs.Write.{octets, form}
 use Rattle.reals.proofs.RoundTrip.{read-written}
 use Rattle.values.specs.declared.Flag.{Flag}
 use Rattle.values.specs.declared.Flag.the-variants.{Is, Refused as NoFlag}
-use Rattle.values.specs.declared.Value.{Value}
-use Rattle.values.specs.declared.Value.the-variants.{Absent, Int, Real, Text, Bool as Truth, Octets}
+use Rattle.values.specs.declared.Value.the-variants.{Real}
 use Rattle.values.specs.declared.Answer.{Answer}
-use Rattle.values.specs.declared.Answer.the-variants.{Found, Other, Refused}
 use Rattle.values.specs.Value.{boolean, boolAt, onFlag, onNumber, onReal, isListed, kindAt, contentAt}
-use Rattle.identifiers.specs.Identifier.{Arcs, bad, over, numbers, arcs, oidOctets, inRange as arcsIn}
+use Rattle.identifiers.specs.Identifier.{Arcs, bad, over, numbers, arcs, oidOctets}
 use Rattle.identifiers.proofs.RoundTrip.{arcs-read, read-written as arcs-written}
 use Rattle.entries.specs.declared.Cell.{Cell}
-use Rattle.entries.specs.Cell.{cell, cellOf, numbersCell, wordOf, bitOf, absent}
+use Rattle.entries.specs.Cell.{cell, cellOf, wordOf, bitOf}
 use Rattle.containers.proofs.Heads.{pick-by}
 use Rattle.grammar.specs.declared.Leaf.{Leaf}
 use Rattle.grammar.specs.declared.Leaf.the-variants.{Kept, Refused as Not}
-use Rattle.grammar.specs.Grammar.{any, step, path, name}
+use Rattle.grammar.specs.Grammar.{path}
 use Rattle.grammar.specs.Leaf.{both, expects, inRange, isName, isPath}
-use Rattle.grammar.specs.Leaf.{numberLeaf, textLeaf, valueLeaf, judged, pathLeaf, listLeaf, numbersAt, leafAt}
+use Rattle.grammar.specs.Leaf.{numberLeaf, textLeaf, judged, pathLeaf, listLeaf, numbersAt, leafAt}
 use Rattle.grammar.proofs.Tables.{expects-step, expects-text, expects-numbers}
-use Rattle.forest.specs.Content.{Content, nothing, word, bytes, wrong, isPart, isWord, contentOf, intOf}
+use Rattle.forest.specs.Content.{Content, word, bytes, isPart, isWord, contentOf, intOf}
 use Rattle.forest.specs.Legal.{suits, present, pathOf, lengthOf, wordSuits, partSuits, pathSuits, listSuits, isReal, isFormed}
 use Rattle.forest.specs.Written.{spelled}
-use Rattle.read_trees.proofs.Bools.{never, both-make, pick-false}
+use Rattle.read_trees.proofs.Bools.{both-make, pick-false}
 use Rattle.read_trees.proofs.Sizes.{inside, kindly}
 
 -- "no accepted real is shorter"
@@ -122,8 +119,8 @@ module _ (s : List ℕ) (least : ℕ → List ℕ) (reals : RealsLeast least) (o
         let z = both-make (isWord kind) (both (ltb w 18446744073709551616) (both (expects what kind) (wordSuits what kind w))) a v in
         right-by (cell kind w 0) (word kind w) n e h (pick-false (eqb what 0) _ _ (ne-eqb _ _ some) ∙ z) refl c d f
 
-    bytes-right : (kind n : ℕ) → isPart kind ≡ true → contentOf s (cell kind start len) ≡ bytes kind part → expects what kind ≡ true → partSuits what kind part ≡ true
-        → n ≡ pathOf what above (bytes kind part ∷ []) → kind < 31 → Right (cell kind start len) n
+    bytes-right : (kind n : ℕ) → isPart kind ≡ true → contentOf s (cell kind start len) ≡ bytes kind part → expects what kind ≡ true
+        → partSuits what kind part ≡ true → n ≡ pathOf what above (bytes kind part ∷ []) → kind < 31 → Right (cell kind start len) n
     unfolding suits inside
     bytes-right kind n a e x y c f =
         let l : length part ≤ len = omega (arith, part-length) in
@@ -227,7 +224,8 @@ module _ (s : List ℕ) (least : ℕ → List ℕ) (reals : RealsLeast least) (o
         let back = ofBits-toBits binary64 x fits in
         let low : Ieee.toBits binary64 x < 18446744073709551616 = toBits-lt binary64 x fits in
         let n : what ≡ 5 → ⊥ = no-step 9 ex (λ q. omega arith) in
-        let l : length (spelled least 9 (Ieee.toBits binary64 x)) ≤ len = omega (arith, spelled-real (Ieee.toBits binary64 x), reals part x part-octets e, part-length) in
+        let l : length (spelled least 9 (Ieee.toBits binary64 x)) ≤ len =
+        omega (arith, spelled-real (Ieee.toBits binary64 x), reals part x part-octets e, part-length) in
         rw plain
         (word-right 9 (Ieee.toBits binary64 x) above refl low (real-word (Ieee.toBits binary64 x) low) ex
         (real-suits (Ieee.toBits binary64 x) (nanBits-is binary64 (Ieee.toBits binary64 x) ∙ ap Ieee.isNan back ∙ plain)
@@ -290,7 +288,8 @@ module _ (s : List ℕ) (least : ℕ → List ℕ) (reals : RealsLeast least) (o
     path-right at x w (numbers ns) e =
         let q = arcs-same ns e in
         pick-by LeafRight (isPath ns)
-        (λ r. bytes-right 13 (length ns) refl (part-bytes 13 (inr (inr refl))) x (simp (eq-eqb _ _ w) (ap pathSuits q ∙ r)) (simp (eq-eqb _ _ w) (sym (ap lengthOf q)))
+        (λ r. bytes-right 13 (length ns) refl (part-bytes 13 (inr (inr refl))) x (simp (eq-eqb _ _ w) (ap pathSuits q ∙ r))
+        (simp (eq-eqb _ _ w) (sym (ap lengthOf q)))
         (omega arith))
         (λ r. tt)
 
@@ -299,7 +298,8 @@ module _ (s : List ℕ) (least : ℕ → List ℕ) (reals : RealsLeast least) (o
     list-right at x w bad e = tt
     list-right at x w over e = tt
     list-right at x w (numbers ns) e =
-        bytes-right 13 above refl (part-bytes 13 (inr (inr refl))) x (simp (ne-eqb _ _ w) (ap listSuits (arcs-same ns e))) (bytes-still 13 part w) (omega arith)
+        bytes-right 13 above refl (part-bytes 13 (inr (inr refl))) x (simp (ne-eqb _ _ w) (ap listSuits (arcs-same ns e))) (bytes-still 13 part w)
+        (omega arith)
 
     -- by the value's kind
     abbrev AnswerRight : ℕ → Answer → Type 0

@@ -10,4 +10,5 @@ pub mod Sets
 pub mod Parts
 pub mod Elements
 pub mod Accepts
+pub mod Once
 pub mod Message

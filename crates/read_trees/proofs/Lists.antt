@@ -1,23 +1,18 @@
 -- Lists of contents with one put, entries with a cell put, and the entries of trees.
-use Prim.Native.Nat.{ℕ, zero, suc, _+_, _-_, _<_, _≤_}
+use Prim.Native.Nat.{ℕ, zero, suc, _+_, _<_, _≤_}
 use mathlib.Core.Path.{_≡_, refl, sym, ap, _∙_}
-use mathlib.Core.List.{List, [], _∷_, _++_, append-assoc}
-use mathlib.Core.Bool.{Bool, true, false, not}
-use mathlib.Core.Logic.{_⊎_, inl, inr, ⊎-elim}
+use mathlib.Core.List.{List, [], _∷_, _++_}
+use mathlib.Core.Bool.{true}
 use native.Mathlib.Omega.{arith}
-use lib.ListN.{length, getD, set, length-append, length-set}
-use borrow.Author.Tests.{lt-ltb, eq-eqb, ne-eqb}
-use lib.Dec.{leb, ltb, eqb}
-use Rattle.integers.specs.Digits.{pick}
+use lib.ListN.{length, getD, set, length-append}
+use borrow.Author.Tests.{lt-ltb}
 use Rattle.entries.specs.declared.Cell.{Cell}
-use Rattle.entries.specs.Cell.{absent}
-use Rattle.entries.specs.Entry.{Entry, Entries, blanks, blank, withCell, putCell}
-use Rattle.grammar.specs.Leaf.{both}
-use Rattle.forest.specs.Content.{Content, nothing, word, bytes, wrong, contentOf, contentsOf, Item, item, itemOf, itemsOf}
+use Rattle.entries.specs.Entry.{Entry, Entries, blanks, withCell, putCell}
+use Rattle.forest.specs.Content.{Content, nothing, contentOf, contentsOf, Item, itemOf, itemsOf}
 use Rattle.forest.specs.Trees.{Trees, none, tree, count, flat}
 use Rattle.forest.specs.Legal.{suits, suited, present, complete, empty, ruleAt}
 use Rattle.forest.specs.Written.{memberOctets, membersOctets}
-use Rattle.read_trees.proofs.Bools.{never, both-left, both-right, both-make}
+use Rattle.read_trees.proofs.Bools.{both-left, both-right, both-make}
 
 -- one put into a list
 module _ {A : Type 0} where
@@ -43,7 +38,8 @@ unfolding suited
 suited-set kind c [] i x h k = refl
 suited-set kind c (y ∷ xs) zero x h k =
     let e : c + 0 ≡ c = omega arith in
-    both-make (suits (ruleAt kind c) x) (suited kind (suc c) xs) (ap (λ (m : ℕ). suits (ruleAt kind m) x) (sym e) ∙ k) (both-right (suits (ruleAt kind c) y) _ h)
+    both-make (suits (ruleAt kind c) x) (suited kind (suc c) xs) (ap (λ (m : ℕ). suits (ruleAt kind m) x) (sym e) ∙ k)
+    (both-right (suits (ruleAt kind c) y) _ h)
 suited-set kind c (y ∷ xs) (suc i) x h k =
     let e : suc c + i ≡ c + suc i = omega arith in
     both-make (suits (ruleAt kind c) y) (suited kind (suc c) (set xs i x)) (both-left (suits (ruleAt kind c) y) (suited kind (suc c) xs) h)
@@ -134,7 +130,8 @@ contents-set s [] c v = refl
 contents-set s (w ∷ vs) zero v = refl
 contents-set s (w ∷ vs) (suc c) v = ap (λ (t : List Content). contentOf s w ∷ t) (contents-set s vs c v)
 
-pub with-contents : (s : List ℕ) (e : Entry) (c : ℕ) (v : Cell) → c < 16 → contentsOf s (withCell e c v .cells) ≡ set (contentsOf s (e .cells)) c (contentOf s v)
+pub with-contents : (s : List ℕ) (e : Entry) (c : ℕ) (v : Cell) → c < 16
+    → contentsOf s (withCell e c v .cells) ≡ set (contentsOf s (e .cells)) c (contentOf s v)
 unfolding withCell
 with-contents s e c v h = rw (lt-ltb _ _ h) (contents-set s (e .cells) c v)
 

@@ -1,8 +1,8 @@
--- Whatever message the reader accepts, its entries are those of a legal tree (`is-legal`), and it has no fewer octets than the least message of that
--- tree (`is-least`).
-use Prim.Native.Nat.{ℕ, zero, suc, _+_, _-_, _<_, _≤_}
+-- Whatever message the reader accepts, its entries are those of a legal tree (`is-legal`) and make it (`makes-tree`), and it is no shorter than the least
+-- message of that tree (`is-least`, `no-shorter`).
+use Prim.Native.Nat.{ℕ, suc, _+_, _<_, _≤_}
 use mathlib.Core.Path.{_≡_, refl, sym, ap, subst, _∙_}
-use mathlib.Core.List.{List, [], _∷_}
+use mathlib.Core.List.{List, []}
 use mathlib.Core.Bool.{Bool, true, false}
 use native.Mathlib.Omega.{arith}
 use borrow.Author.Tests.{eqb-true, eqb-false}
@@ -25,9 +25,9 @@ use Rattle.grammar.specs.Grammar.{rootOf}
 use Rattle.glow.specs.declared.Top.{Top}
 use Rattle.glow.specs.declared.Top.the-variants.{Root, Refused as NoRoot}
 use Rattle.glow.specs.Tree.{Out, closed, itemsBy}
-use Rattle.glow.specs.Message.{unbounded, rootKind, rootIn, topOf, topAt, finished, Walk, walkOf, walk}
+use Rattle.glow.specs.Message.{unbounded, rootKind, rootIn, topOf, topAt, finished, walkOf, walk}
 use Rattle.forest.specs.Content.{itemsOf}
-use Rattle.forest.specs.Trees.{Trees, flat}
+use Rattle.forest.specs.Trees.{Trees, flat, taken, treesOf}
 use Rattle.forest.specs.Legal.{isRoot, legal, legalRoot}
 use Rattle.forest.specs.Written.{tagged, treesOctets, rootNumber, messageOctets}
 use Rattle.read_trees.proofs.Bools.{both-make}
@@ -38,6 +38,7 @@ use Rattle.read_trees.proofs.Turns.{Inside, inside-of, tag-form}
 use Rattle.read_trees.proofs.Walks.{AnswerTell}
 use Rattle.read_trees.proofs.Elements.{ItemsRead}
 use Rattle.read_trees.proofs.Accepts.{items-walk}
+use Rattle.read_trees.proofs.Once.{made-again, once}
 
 -- the entries of a message are those of a legal tree, and the tree's least message is no longer
 pub record Tree (s : List ℕ) (least : ℕ → List ℕ) (which : ℕ) (es : Entries) : Type 0 where
@@ -136,10 +137,18 @@ module _ (s : List ℕ) (octets : Below 256 s) (short : length s ≤ 16384) (lea
       (items-walk s octets short least reals (suc (length s)) 62 (g .inner) which 0 0 (g .start) [] (w .1 .starts) (omega arith))
   walk-of (NoRoot e) w = tt
 
-  -- Whatever message the reader accepts: its entries are those of a legal tree, and no accepted message of the tree is shorter than its least.
+  -- Whatever message the reader accepts: its entries are those of a legal tree, and the tree's least message is no longer.
   pub is-least : {n : ℕ} → walk s .out .answer ≡ Next n → Tree s least (walk s .which) (walk s .out .entries)
   unfolding walk
   is-least e = subst (λ (a : Onto). AnswerTell (λ n es. Tree s least (walk s .which) es) a (walk s .out .entries)) e (walk-of (topAt s) top-tells)
+
+  -- Of all messages with the entries of a legal tree that the reader accepts, none is shorter than the tree's least.
+  pub no-shorter : {n : ℕ} → walk s .out .answer ≡ Next n → (t : Trees) → legalRoot (walk s .which) t ≡ true
+      → itemsOf s (walk s .out .entries) ≡ flat 0 0 t → length (messageOctets least (walk s .which) t) ≤ length s
+  no-shorter e t l q =
+      let r = is-least e in
+      subst (λ (u : Trees). length (messageOctets least (walk s .which) u) ≤ length s) (once (walk s .which) (r .tree) t (r .legals) l (sym (r .entries) ∙ q))
+      (r .size)
 
 -- Whatever message the reader accepts, its entries are those of a legal tree.
 pub is-legal : (s : List ℕ) → Below 256 s → length s ≤ 16384 → {n : ℕ} → walk s .out .answer ≡ Next n
@@ -147,3 +156,10 @@ pub is-legal : (s : List ℕ) → Below 256 s → length s ≤ 16384 → {n : �
 is-legal s octets short e =
     let r = is-least s octets short (λ w. []) (λ bs x b q. omega arith) e in
     (r .tree, (r .legals, r .entries))
+
+-- .. and they make that tree.
+pub makes-tree : (s : List ℕ) → Below 256 s → length s ≤ 16384 → {n : ℕ} → walk s .out .answer ≡ Next n
+    → (t : Trees) × ((legalRoot (walk s .which) t ≡ true) × (treesOf (walk s .which) (itemsOf s (walk s .out .entries)) ≡ taken t []))
+makes-tree s octets short e =
+    let r = is-legal s octets short e in
+    (r .0, (r .1 .0, ap (treesOf (walk s .which)) (r .1 .1) ∙ made-again (walk s .which) (r .0) (r .1 .0)))

@@ -1,21 +1,20 @@
 -- The parts of an element: its number or path, its contents; and the order of its members.
-use Prim.Native.Nat.{ℕ, zero, suc, _+_, _-_, _<_, _≤_}
-use mathlib.Core.Path.{_≡_, refl, sym, ap, subst, _∙_}
-use mathlib.Core.List.{List, [], _∷_, _++_}
+use Prim.Native.Nat.{ℕ, zero, suc, _+_, _<_, _≤_}
+use mathlib.Core.Path.{_≡_, refl, sym, ap, _∙_}
+use mathlib.Core.List.{List, [], _∷_}
 use mathlib.Core.Bool.{Bool, true, false, not}
 use mathlib.Core.Logic.{_⊎_, inl, inr, ⊎-elim}
 use native.Mathlib.Omega.{arith}
-use borrow.Author.Tests.{eq-eqb, ne-eqb, leb-true, ltb-true, ltb-false, lt-ltb, not-true}
+use borrow.Author.Tests.{eq-eqb, ne-eqb, leb-true, ltb-false, not-true}
 use lib.ListN.{length, getD, set}
 use lib.Dec.{leb, ltb, eqb}
 use Rattle.integers.specs.Digits.{pick}
 use Rattle.integers.proofs.Radix.{lt-or-le}
-use Rattle.grammar.specs.Grammar.{ruleOf, isSet, required}
+use Rattle.grammar.specs.Grammar.{ruleOf, required}
 use Rattle.grammar.specs.Grammar as grammar
 use Rattle.glow.specs.Members.{due, inOrder, afterListed, afterOther, column}
 use Rattle.forest.specs.Content.{Content, nothing, word, bytes, wrong}
-use Rattle.forest.specs.Trees.{Trees, none, tree}
-use Rattle.forest.specs.Legal.{pathOf, pathAfter, ruleAt, inner, empty, isNone, legal}
+use Rattle.forest.specs.Legal.{pathOf, pathAfter, ruleAt, inner, empty}
 use Rattle.forest.specs.Written.{memberOctets, membersOctets, own, wrapped}
 use Rattle.read_trees.proofs.Bools.{never}
 use Rattle.read_trees.proofs.Tables.{homeOf, Kind, is-sequence, required-some, required-at}
@@ -200,7 +199,9 @@ module _ (kind : ℕ) (kk : Kind kind) (before n : ℕ) where
 
   -- and so it did where this one is no value
   pub came-all : inOrder kind before n ≡ true → (ruleOf kind n ≡ 0) ⊎ (13 ≤ ruleOf kind n) → (i : ℕ) → i < n + 1 → i < required kind → i < before
-  came-all e r i h k = came e i h k (λ q. let a = required-at kind kk i k in let b : ruleOf kind i ≡ ruleOf kind n = ap (ruleOf kind) q in bad r (a .0) (a .1) b)
+  came-all e r i h k =
+      let a = required-at kind kk i k in
+      came e i h k (λ q. let b : ruleOf kind i ≡ ruleOf kind n = ap (ruleOf kind) q in bad r (a .0) (a .1) b)
     where
       bad : (ruleOf kind n ≡ 0) ⊎ (13 ≤ ruleOf kind n) → 0 < ruleOf kind i → ruleOf kind i < 13 → ruleOf kind i ≡ ruleOf kind n → ⊥
       bad (inl z) a b c = omega arith

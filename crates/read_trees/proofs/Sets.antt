@@ -1,13 +1,12 @@
 -- The contents of an element, a set: each member that is read fills a cell that was absent.
 use Prim.Native.Nat.{ℕ, zero, suc, _+_, _-_, _<_, _≤_}
-use mathlib.Core.Path.{_≡_, refl, sym, ap, subst, _∙_}
-use mathlib.Core.List.{List, [], _∷_, _++_}
-use mathlib.Core.Bool.{Bool, true, false}
-use mathlib.Core.Logic.{_⊎_, inl, inr, ⊎-elim}
+use mathlib.Core.Path.{_≡_, sym, ap, subst, _∙_}
+use mathlib.Core.List.{List, _∷_, _++_}
+use mathlib.Core.Bool.{true, false}
+use mathlib.Core.Logic.{_⊎_, inr}
 use native.Mathlib.Omega.{arith}
 use lib.ListN.{length, getD, set, length-set}
-use Rattle.integers.specs.Digits.{pick}
-use Rattle.integers.proofs.Radix.{Below, lt-or-le}
+use Rattle.integers.proofs.Radix.{Below}
 use Rattle.containers.specs.declared.Open.{Open}
 use Rattle.containers.specs.declared.Tag.{Tag}
 use Rattle.entries.specs.declared.Cell.{Cell}
@@ -15,18 +14,18 @@ use Rattle.entries.specs.Entry.{Entry, Entries, withCell, putCell}
 use Rattle.grammar.specs.Grammar.{ruleOf, isSet}
 use Rattle.grammar.specs.Grammar as grammar
 use Rattle.glow.specs.Members.{marked, mark, again, afterListed, afterOther, column, memberAt}
-use Rattle.glow.specs.Tree.{Out, out, thenClosed, membersBy, itemsBy}
-use Rattle.glow.proofs.Marks.{marked-own, marked-other, marked-none}
+use Rattle.glow.specs.Tree.{thenClosed, membersBy, itemsBy}
+use Rattle.glow.proofs.Marks.{marked-own, marked-other}
 use Rattle.forest.specs.Content.{Content, nothing, contentOf, contentsOf}
 use Rattle.forest.specs.Legal.{suits, suited, empty, ruleAt}
 use Rattle.forest.specs.Written.{memberOctets}
 use Rattle.read_trees.proofs.Bools.{never}
 use Rattle.read_trees.proofs.Tables.{is-set, inner-rule, inner-cell}
-use Rattle.read_trees.proofs.Lists.{get-set, get-other, suited-set, sizeFrom, size-set, with-contents, with-kind, put-at}
+use Rattle.read_trees.proofs.Lists.{get-other, suited-set, sizeFrom, size-set, with-contents, with-kind, put-at}
 use Rattle.read_trees.proofs.Spans.{Closes}
 use Rattle.read_trees.proofs.Leaves.{RealsLeast}
 use Rattle.read_trees.proofs.Turns.{LeafRead, OverRead, InnerRead, member-tells}
-use Rattle.read_trees.proofs.Walks.{AnswerTell, OutTell, member-walks}
+use Rattle.read_trees.proofs.Walks.{OutTell, member-walks}
 
 -- a set
 module _ (row : ℕ) (set′ : isSet row ≡ true) (before n : ℕ) where

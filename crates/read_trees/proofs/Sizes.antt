@@ -1,9 +1,9 @@
 -- How many octets a tag around n octets takes, at the least.
-use Prim.Native.Nat.{ℕ, zero, suc, _+_, _-_, _^_, _<_, _≤_}
-use mathlib.Core.Path.{_≡_, refl, sym, ap, _∙_}
+use Prim.Native.Nat.{ℕ, suc, _+_, _^_, _<_, _≤_}
+use mathlib.Core.Path.{_≡_, ap, _∙_}
 use mathlib.Core.List.{List, [], _∷_, _++_}
 use mathlib.Core.Bool.{Bool, true, false}
-use mathlib.Core.Logic.{_⊎_, inl, inr, ⊎-elim}
+use mathlib.Core.Logic.{⊎-elim}
 use native.Mathlib.Omega.{arith}
 use lib.ListN.{length, length-append}
 use borrow.Author.Tests.{lt-ltb}
@@ -44,10 +44,6 @@ length-few n h =
 -- a tag of one octet around n octets
 unfoldable pub around : ℕ → ℕ
 around n = suc (lengthSize n + n)
-
-pub around-more : (m n : ℕ) → m ≤ n → around m ≤ around n
-unfolding around
-around-more m n h = let k = length-more m n h in omega arith
 
 tag-short : (class : ℕ) (c : Bool) (n : ℕ) → n < 31 → length (tagOctets class c n) ≡ 1
 unfolding tagOctets

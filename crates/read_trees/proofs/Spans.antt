@@ -1,16 +1,15 @@
 -- Where a container begins and where it ends, and that it is no shorter than the shortest tag around what it holds.
 use Prim.Native.Nat.{ℕ, zero, suc, _+_, _-_, _<_, _≤_}
-use mathlib.Core.Path.{_≡_, refl, sym, ap, _∙_}
-use mathlib.Core.List.{List, [], _∷_}
+use mathlib.Core.Path.{_≡_, refl}
+use mathlib.Core.List.{List}
 use mathlib.Core.Bool.{Bool, true, false}
-use mathlib.Core.Logic.{_⊎_, inl, inr, ⊎-elim}
+use mathlib.Core.Logic.{_⊎_, inl, inr}
 use native.Mathlib.Omega.{arith}
 use borrow.Author.Tests.{eqb-true, eqb-false, leb-true, leb-false}
 use lib.ListN.{length, getD}
 use lib.Dec.{leb, ltb, eqb}
 use Rattle.integers.specs.Digits.{pick}
 use Rattle.integers.proofs.Radix.{Below}
-use Rattle.tags.specs.declared.Length.{Length}
 use Rattle.tags.specs.declared.Length.the-variants.{Definite, Indefinite}
 use Rattle.tags.specs.declared.Head.{Head}
 use Rattle.tags.specs.declared.Head.the-variants.{Tag as HeadTag, Refused as NoHead}

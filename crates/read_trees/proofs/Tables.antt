@@ -1,5 +1,5 @@
 -- What the grammar's tables say of the nine kinds of entries and of the three contents.
-use Prim.Native.Nat.{ℕ, zero, suc, _+_, _-_, _<_, _≤_}
+use Prim.Native.Nat.{ℕ, zero, suc, _-_, _<_, _≤_}
 use mathlib.Core.Path.{_≡_, refl, sym, ap, _∙_}
 use mathlib.Core.List.{List, [], _∷_}
 use mathlib.Core.Bool.{Bool, true, false, not}
@@ -14,7 +14,7 @@ use Rattle.grammar.specs.Leaf.{both}
 use Rattle.grammar.specs.Grammar.{members, ruleOf, requirements, required, isSet, contentsRows, contentsOf, applications, holds, kindAmong, kindIn}
 use Rattle.forest.specs.Trees.{among, standsIn}
 use Rattle.forest.specs.Legal.{ruleAt}
-use Rattle.read_trees.proofs.Bools.{never, both-left, both-right, true-or-false, pick-then, pick-else, pick-true, pick-false, allFrom, all-at}
+use Rattle.read_trees.proofs.Bools.{never, both-left, both-right, pick-then, pick-else, pick-true, pick-false, allFrom, all-at}
 
 -- the member that a cell of a kind comes with: contents come together, with the member 1
 unfoldable pub homeOf : ℕ → ℕ → ℕ
@@ -25,7 +25,8 @@ rightAt : ℕ → ℕ → ℕ → Bool
 rightAt kind n what =
     pick (eqb what 0) true
     (pick (ltb what 13)
-    (both (eqb (ruleAt kind n) what) (both (eqb (homeOf kind n) n) (both (ltb n 16) (both (pick (eqb (contentsOf kind) 0) true (eqb n 0)) (pick (eqb n 0) true (both (not (eqb what 5)) (not (eqb what 6))))))))
+    (both (eqb (ruleAt kind n) what) (both (eqb (homeOf kind n) n) (both (ltb n 16) (both (pick (eqb (contentsOf kind) 0) true (eqb n 0))
+    (pick (eqb n 0) true (both (not (eqb what 5)) (not (eqb what 6))))))))
     (pick (eqb what 13) (both (eqb n 1) (both (leb 10 (contentsOf kind)) (leb (contentsOf kind) 12)))
     (pick (eqb what 14) (eqb n 2) (both (eqb what 15) (eqb n 5)))))
 
@@ -44,7 +45,7 @@ kindRight kind =
     both (allFrom (rightAt kind) 0 (getD members kind [])) (both (requiredAt kind) (both (not (isSet kind)) (ltb (getD applications kind 0) 31)))
 
 rowRight : ℕ → Bool
-rowRight row = both (allFrom innerAt 0 (getD members row [])) (both (isSet row) (eqb (required row) 0))
+rowRight row = both (allFrom innerAt 0 (getD members row [])) (isSet row)
 
 -- kinds of entries
 abbrev pub Kind : ℕ → Type 0
@@ -65,7 +66,7 @@ right (suc (suc (suc (suc (suc (suc (suc (suc (suc zero))))))))) k = refl
 right (suc (suc (suc (suc (suc (suc (suc (suc (suc (suc n)))))))))) k = absurd (omega arith)
 
 rows : (row : ℕ) → 10 ≤ row → row ≤ 12 → rowRight row ≡ true
-unfolding rowRight innerAt isSet required requirements members
+unfolding rowRight innerAt isSet members
 rows zero h k = absurd (omega arith)
 rows (suc zero) h k = absurd (omega arith)
 rows (suc (suc zero)) h k = absurd (omega arith)
@@ -93,7 +94,8 @@ module _ (kind : ℕ) (k : Kind kind) where
   pub application-short : getD applications kind 0 < 31
   unfolding kindRight
   application-short =
-      ltb-true _ _ (both-right (not (isSet kind)) _ (both-right (requiredAt kind) _ (both-right (allFrom (rightAt kind) 0 (getD members kind [])) _ (right kind k))))
+      ltb-true _ _
+      (both-right (not (isSet kind)) _ (both-right (requiredAt kind) _ (both-right (allFrom (rightAt kind) 0 (getD members kind [])) _ (right kind k))))
 
   rule-right : (n : ℕ) → rightAt kind n (ruleOf kind n) ≡ true
   unfolding ruleOf rightAt
@@ -195,11 +197,7 @@ module _ (kind : ℕ) (k : Kind kind) where
 module _ (row : ℕ) (h : 10 ≤ row) (k : row ≤ 12) where
   pub is-set : isSet row ≡ true
   unfolding rowRight
-  is-set = both-left _ _ (both-right (allFrom innerAt 0 (getD members row [])) _ (rows row h k))
-
-  pub none-required : required row ≡ 0
-  unfolding rowRight
-  none-required = eqb-true _ _ (both-right (isSet row) _ (both-right (allFrom innerAt 0 (getD members row [])) _ (rows row h k)))
+  is-set = both-right (allFrom innerAt 0 (getD members row [])) _ (rows row h k)
 
   inner-right : (n : ℕ) → innerAt n (ruleOf row n) ≡ true
   unfolding ruleOf innerAt rowRight

@@ -1,13 +1,13 @@
 -- One turn of the walk: what is known of each answer.
-use Prim.Native.Nat.{ℕ, zero, suc, _+_, _-_, _<_, _≤_}
-use mathlib.Core.Path.{_≡_, refl, sym, ap, subst, _∙_}
+use Prim.Native.Nat.{ℕ, _+_, _-_, _<_, _≤_}
+use mathlib.Core.Path.{_≡_, refl, subst}
 use mathlib.Core.List.{List, [], _∷_}
 use mathlib.Core.Bool.{Bool, true, false}
-use mathlib.Core.Logic.{_⊎_, inl, inr, ⊎-elim}
+use mathlib.Core.Logic.{_⊎_, inl, inr}
 use native.Mathlib.Omega.{arith}
 use borrow.Author.Tests.{eqb-true, eqb-false, leb-true, leb-false}
 use lib.ListN.{length}
-use lib.Dec.{leb, ltb, eqb}
+use lib.Dec.{leb, eqb}
 use Rattle.integers.specs.Digits.{pick}
 use Rattle.integers.proofs.Radix.{Below}
 use Rattle.containers.specs.declared.Open.{Open}
@@ -24,7 +24,7 @@ use Rattle.containers.proofs.Heads.{pick-by}
 use Rattle.entries.specs.declared.Cell.{Cell}
 use Rattle.grammar.specs.declared.Leaf.{Leaf}
 use Rattle.grammar.specs.declared.Leaf.the-variants.{Kept, Refused as Unfit}
-use Rattle.grammar.specs.Grammar.{body, ruleOf, innerClass, innerNumber, collectionOf, kindIn}
+use Rattle.grammar.specs.Grammar.{ruleOf, innerClass, innerNumber, collectionOf, kindIn}
 use Rattle.grammar.specs.Leaf.{leafAt, LeafBounded}
 use Rattle.grammar.proofs.Bounds.{leaf-bounded, bounded-16}
 use Rattle.glow.specs.declared.Member.{Member}
@@ -33,14 +33,14 @@ use Rattle.glow.specs.declared.Item.{Item}
 use Rattle.glow.specs.declared.Item.the-variants.{Done as NoMore, Element, Refused as NoItem}
 use Rattle.glow.specs.Members.{due, inOrder, again, afterListed, afterOther, column, overOf, keptOf, leafOf, plainAt, innerAt, valueOf, listedAt, ruledAt}
 use Rattle.glow.specs.Members.{memberOf, memberAt, kindOf, elementOf, itemOf, itemAt}
-use Rattle.forest.specs.Content.{Content, contentOf}
+use Rattle.forest.specs.Content.{contentOf}
 use Rattle.forest.specs.Trees.{standsIn}
 use Rattle.forest.specs.Legal.{suits, present, pathOf}
 use Rattle.forest.specs.Written.{memberOctets}
 use Rattle.read_trees.proofs.Bools.{never}
 use Rattle.read_trees.proofs.Tables.{kind-stands}
-use Rattle.read_trees.proofs.Sizes.{around, around-more, inside, member-size}
-use Rattle.read_trees.proofs.Spans.{Closes, Tells, Begins, closes-later, tag-holds, EnterTell, FirstTell, LastTell, OnTell, Allowed}
+use Rattle.read_trees.proofs.Sizes.{around, inside, member-size}
+use Rattle.read_trees.proofs.Spans.{Closes, Tells, Begins, closes-later, tag-holds, EnterTell, FirstTell, LastTell, OnTell}
 use Rattle.read_trees.proofs.Spans.{enter-tells, first-tells, last-tells, passed-tells}
 use Rattle.read_trees.proofs.Leaves.{RealsLeast, Right, kept-right}
 

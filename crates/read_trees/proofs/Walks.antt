@@ -1,12 +1,10 @@
 -- The walk by its answers: a fact about what it gives, from a fact for each way on.
-use Prim.Native.Nat.{ℕ, zero, suc, _+_, _-_, _<_, _≤_}
-use mathlib.Core.Path.{_≡_, refl, sym, ap, subst, _∙_}
-use mathlib.Core.List.{List, [], _∷_}
-use mathlib.Core.Bool.{Bool, true, false}
-use native.Mathlib.Omega.{arith}
+use Prim.Native.Nat.{ℕ, _≤_}
+use mathlib.Core.Path.{_≡_}
+use mathlib.Core.List.{List}
+use mathlib.Core.Bool.{true, false}
 use lib.ListN.{length}
 use Rattle.integers.proofs.Radix.{Below}
-use Rattle.containers.specs.declared.No.{No}
 use Rattle.containers.specs.declared.Open.{Open}
 use Rattle.containers.specs.declared.Tag.{Tag}
 use Rattle.containers.specs.declared.Onto.{Onto}
@@ -20,7 +18,7 @@ use Rattle.glow.specs.declared.Member.the-variants.{Done, Over, Leaf, Contents,
 use Rattle.glow.specs.declared.Item.{Item}
 use Rattle.glow.specs.declared.Item.the-variants.{Done as NoMore, Element, Refused as NoItem}
 use Rattle.glow.specs.Members.{due}
-use Rattle.glow.specs.Tree.{Out, out, closed, onNext, thenClosed, onMember, onItem}
+use Rattle.glow.specs.Tree.{Out, closed, onNext, thenClosed, onMember, onItem}
 use Rattle.forest.specs.Trees.{standsIn}
 use Rattle.read_trees.proofs.Spans.{Closes, LastTell, last-tells}
 use Rattle.read_trees.proofs.Leaves.{RealsLeast}
