@@ -1,0 +1,14 @@
+pub mod Bools
+pub mod Tables
+pub mod Lists
+pub mod Sizes
+pub mod Spans
+pub mod Leaves
+pub mod Turns
+pub mod Walks
+pub mod Sets
+pub mod Parts
+pub mod Elements
+pub mod Accepts
+pub mod Once
+pub mod Message

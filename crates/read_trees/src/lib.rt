@@ -1,0 +1,1 @@
+// What the reader accepts is a legal tree: theorems alone.
