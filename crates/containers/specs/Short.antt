@@ -28,6 +28,7 @@ Shuts s p o r = (r ≡ 18446744073709551615 → ⊥) → (standingAt s p o ≡ E
 -- any answer below 129 is the length of such a tag
 pub record Short (s : List ℕ) (p end n : ℕ) : Type 0 where
   pub inside : p + 1 < length s
+  pub octet : n ≡ getD s (p + 1) 0
   pub fits : n < 128 → p + 2 + n ≤ end
   pub stands : (o : Open) → o .end ≡ end → standingAt s p o ≡ Here (shortTag (getD s p 0) (p + 2) n end)
 

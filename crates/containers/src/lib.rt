@@ -122,7 +122,7 @@ fn size(x: u8) -> usize
 }
 
 // The place after the open container o if it ends at p, or 2^64 - 1 where that is for `standing` to say.
-fn shut(s: &[u8], p: usize, o: Open) -> usize
+pub fn shut(s: &[u8], p: usize, o: Open) -> usize
     ensures { λ r. ⌜ Shuts (now (s .entry)) p o r ⌝ }
 {
     if p == o.end {
