@@ -97,10 +97,14 @@ fn refused_value(bytes: usize) -> Vec<u8> {
     root(&[fill(bytes - last.len(), qualified), last].concat())
 }
 
-/// Unlisted nests, and a primitive of indefinite length as the last two bytes.
+/// One unlisted container with nests of eight, and a primitive of indefinite length as its last two bytes: gone through by
+/// numbers, and again for the refusal.
 fn refused_nest(bytes: usize) -> Vec<u8> {
-    let nests = fill(bytes, |_| unlisted_nest());
-    node(&[nests, vec![0x90, 0x80]].concat())
+    let nest = (0..8).fold(tag(0x04, &[0xAB; 3]), |inner, level| match level % 2 {
+        0 => tag(0x30, &inner),
+        _ => indefinite(0xA3, &inner),
+    });
+    node(&tag(0xB0, &[fill(bytes, |_| nest.clone()), vec![0x04, 0x80]].concat()))
 }
 
 pub fn main(rounds: usize) {
