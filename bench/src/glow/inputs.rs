@@ -2,7 +2,7 @@
 use super::{ENTRIES, MESSAGE};
 
 /// A tag with a definite shortest length.
-fn tag(first: u8, content: &[u8]) -> Vec<u8> {
+pub fn tag(first: u8, content: &[u8]) -> Vec<u8> {
     let mut out = vec![first];
     match content.len() {
         length @ 0..=0x7F => out.push(length as u8),
@@ -14,15 +14,15 @@ fn tag(first: u8, content: &[u8]) -> Vec<u8> {
 }
 
 /// The same in the indefinite form.
-fn indefinite(first: u8, content: &[u8]) -> Vec<u8> {
+pub fn indefinite(first: u8, content: &[u8]) -> Vec<u8> {
     [&[first, 0x80][..], content, &[0x00, 0x00]].concat()
 }
 
-fn member(number: u8, value: &[u8]) -> Vec<u8> {
+pub fn member(number: u8, value: &[u8]) -> Vec<u8> {
     tag(0xA0 | number, value)
 }
 
-fn integer(value: i32) -> Vec<u8> {
+pub fn integer(value: i32) -> Vec<u8> {
     let mut octets = value.to_be_bytes().to_vec();
     while octets.len() > 1 && (octets[0] == 0x00 && octets[1] < 0x80 || octets[0] == 0xFF && octets[1] >= 0x80) {
         octets.remove(0);
@@ -30,24 +30,24 @@ fn integer(value: i32) -> Vec<u8> {
     tag(0x02, &octets)
 }
 
-fn text(text: &str) -> Vec<u8> {
+pub fn text(text: &str) -> Vec<u8> {
     tag(0x0C, text.as_bytes())
 }
 
-fn flag(value: bool) -> Vec<u8> {
+pub fn flag(value: bool) -> Vec<u8> {
     tag(0x01, &[if value { 0xFF } else { 0x00 }])
 }
 
-fn members(list: &[(u8, Vec<u8>)]) -> Vec<u8> {
+pub fn members(list: &[(u8, Vec<u8>)]) -> Vec<u8> {
     list.iter().flat_map(|(number, value)| member(*number, value)).collect()
 }
 
-fn root(items: &[u8]) -> Vec<u8> {
+pub fn root(items: &[u8]) -> Vec<u8> {
     tag(0x60, &tag(0x6B, items))
 }
 
 /// A qualified element with full contents, as an item. Of four, two are parameters, one a node, one a matrix.
-fn qualified(index: usize) -> Vec<u8> {
+pub fn qualified(index: usize) -> Vec<u8> {
     let path = tag(0x0D, &[0x01, 0x02, 0x81, (index % 128) as u8, (index / 128) as u8 + 1]);
     let number = index as i32;
     let (kind, contents) = match index % 4 {
@@ -120,13 +120,19 @@ fn deep() -> Vec<u8> {
     indefinite(0x60, &indefinite(0x6B, &items))
 }
 
-/// One node whose contents are members that we do not list, each a nest down to the 64th container.
-fn unlisted() -> Vec<u8> {
+/// A member of contents that we do not list, a nest down to the 64th container.
+pub fn unlisted_nest() -> Vec<u8> {
     let mut nest = tag(0x04, &[0xAB; 3]);
     for level in 0..58 {
         nest = if level % 2 == 0 { tag(0x30, &nest) } else { indefinite(0xA3, &nest) };
     }
     nest[0] = 0xB0;
+    nest
+}
+
+/// One node whose contents are such members.
+fn unlisted() -> Vec<u8> {
+    let nest = unlisted_nest();
     let mut contents = Vec::new();
     while contents.len() + nest.len() < MESSAGE - 64 {
         contents.extend(&nest);

@@ -1,6 +1,7 @@
 //! The Glow tree reader: the proved one, if its library is there, beside one in plain safe Rust.
-//! `bench tree [ROUNDS]`: nanoseconds a message and megabytes a second, on each of the inputs. `bench stack`: the stack
-//! that a call needs.
+//! `bench tree [ROUNDS]`: nanoseconds a message and megabytes a second, on each of the inputs. `bench growth [ROUNDS]`:
+//! nanoseconds a byte as messages grow. `bench stack`: the stack that a call needs.
+pub mod growth;
 mod inputs;
 mod plain;
 #[cfg(glow)]

@@ -179,3 +179,26 @@ fn the_inputs() {
     let last = inputs::all()[4].1.len();
     assert_eq!(refused, Answer::Refused { number: 34, place: last - 3 });
 }
+
+/// Each family fills its size, and every reader answers alike at each.
+#[test]
+fn families_grow() {
+    for (name, make) in super::growth::FAMILIES {
+        for bytes in [MESSAGE / 8, MESSAGE / 4, MESSAGE / 2, MESSAGE] {
+            let message = make(bytes);
+            assert!(message.len() <= bytes && message.len() > bytes / 2, "{name}: {} of {bytes} bytes", message.len());
+            let mut table = vec![[0; 50]; ENTRIES];
+            let expected = plain::read(&message, &mut table);
+            if name.starts_with("refused") {
+                assert!(matches!(expected, Answer::Refused { place, .. } if place + 8 > message.len()), "{name}: {expected:?}");
+            } else {
+                assert!(matches!(expected, Answer::Read { .. } | Answer::Room { .. }), "{name}: {expected:?}");
+            }
+            for (reader, mut read) in readers() {
+                let mut other = vec![[0; 50]; ENTRIES];
+                assert_eq!(read(&message, &mut other), expected, "{name}: {reader}");
+                assert!(other == table, "{name}: {reader} fills otherwise");
+            }
+        }
+    }
+}

@@ -101,6 +101,7 @@ module _ (s : List ℕ) (p end : ℕ) (h : p + 1 < length s) (k : p + 1 < end) w
           let m′ : p + 2 + getD s (p + 1) 0 ≤ end = omega arith in
           record {
             inside = h;
+            octet = e;
             fits = λ i. omega arith;
             stands = λ o q.
                 standing-by s p o (λ i. omega arith) nonzero (ap (λ x. headAt s p x) q ∙ head-short l′ m′)
@@ -112,6 +113,7 @@ module _ (s : List ℕ) (p end : ℕ) (h : p + 1 < length s) (k : p + 1 < end) w
       short-open e m =
           record {
             inside = h;
+            octet = sym e;
             fits = λ i. absurd (omega arith);
             stands = λ o q. standing-by s p o (λ i. omega arith) nonzero (ap (λ x. headAt s p x) q ∙ head-open e m) ∙ rw (q, form-bit (getD s p 0));
           }

@@ -8,7 +8,9 @@ use Rattle.integers.specs.Digits.{pick}
 use Rattle.containers.specs.declared.Open.{Open}
 use Rattle.containers.specs.declared.Tag.{Tag}
 use Rattle.containers.specs.declared.Stands.the-variants.{Ended, Here}
+use Rattle.containers.specs.declared.Onto.the-variants.{Next}
 use Rattle.containers.specs.Ends.{standingAt}
+use Rattle.containers.specs.Passing.{Through}
 
 -- the tag of the first octet b, with the length n (128: indefinite), in a container that ends at `end`
 unfoldable pub shortTag : ℕ → ℕ → ℕ → ℕ → Tag
@@ -28,8 +30,14 @@ Shuts s p o r = (r ≡ 18446744073709551615 → ⊥) → (standingAt s p o ≡ E
 -- any answer below 129 is the length of such a tag
 pub record Short (s : List ℕ) (p end n : ℕ) : Type 0 where
   pub inside : p + 1 < length s
+  pub octet : n ≡ getD s (p + 1) 0
   pub fits : n < 128 → p + 2 + n ≤ end
   pub stands : (o : Open) → o .end ≡ end → standingAt s p o ≡ Here (shortTag (getD s p 0) (p + 2) n end)
 
 abbrev pub Shortens : List ℕ → ℕ → ℕ → ℕ → Type 0
 Shortens s p end n = n < 129 → Short s p end n
+
+-- any answer but 2^64 - 1 is the place after all that a container holds from a place on
+abbrev pub Passes : List ℕ → ℕ → ℕ → ℕ → ℕ → ℕ → Type 0
+Passes s from definite end k r =
+    (r ≡ 18446744073709551615 → ⊥) → (Through s k (record { definite = definite; end = end }) from (Next r)) × (from ≤ r)

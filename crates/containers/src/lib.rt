@@ -7,7 +7,7 @@ ghost use lib.ListN.{length};
 ghost use lib.Dec.{eqb};
 ghost use Rattle.containers.specs.Ends.{openOf, bit, zeroAt, closingAt, standingAt, deep, enterAt, firstAt, lastAt, isTag};
 ghost use Rattle.containers.specs.Passing.{skipped, crossAt, Through, passedAt};
-ghost use Rattle.containers.specs.Short.{shortTag, Shuts, Shortens};
+ghost use Rattle.containers.specs.Short.{shortTag, Shuts, Shortens, Passes};
 ghost use Rattle.containers.specs.Progress.{Fits, Onward, FoundOnward, OntoOnward, CrossOnward};
 
 // A refusal: its number and its place.
@@ -122,7 +122,7 @@ fn size(x: u8) -> usize
 }
 
 // The place after the open container o if it ends at p, or 2^64 - 1 where that is for `standing` to say.
-fn shut(s: &[u8], p: usize, o: Open) -> usize
+pub fn shut(s: &[u8], p: usize, o: Open) -> usize
     ensures { λ r. ⌜ Shuts (now (s .entry)) p o r ⌝ }
 {
     if p == o.end {
@@ -455,13 +455,79 @@ fn through(s: &[u8], from: usize, o: Open, k: usize) -> Onto
     }
 }
 
+// The same by numbers alone: the place after the container's end, or 2^64 - 1 where that is for `through` to say.
+fn over(s: &[u8], from: usize, definite: u64, end: usize, k: usize) -> usize
+    ensures { λ r. ⌜ Passes (now (s .entry)) from definite end k r ⌝ }
+{
+    let mut p = from;
+    loop {
+        let o = Open { definite, end };
+        let z = shut(s, p, o);
+        if z != 18446744073709551615 {
+            return z;
+        }
+        let n = short(s, p, end);
+        if n < 129 {
+            let quick = short_tag(s[p], p + 2, n, end);
+            let within = quick.inner;
+            if quick.constructed == 1 {
+                if k == 0 {
+                    return 18446744073709551615;
+                }
+                let q = over(s, quick.start, within.definite, within.end, k - 1);
+                if q == 18446744073709551615 {
+                    return 18446744073709551615;
+                }
+                p = q;
+            } else {
+                if s.len() < within.end {
+                    return 18446744073709551615;
+                }
+                p = within.end;
+            }
+        } else {
+            match standing(s, p, o) {
+                Stands::Ended(next) => {
+                    return 18446744073709551615;
+                }
+                Stands::Refused(n) => {
+                    return 18446744073709551615;
+                }
+                Stands::Here(t) => {
+                    let inner = t.inner;
+                    if t.constructed == 1 {
+                        if k == 0 {
+                            return 18446744073709551615;
+                        }
+                        let r = over(s, t.start, inner.definite, inner.end, k - 1);
+                        if r == 18446744073709551615 {
+                            return 18446744073709551615;
+                        }
+                        p = r;
+                    } else {
+                        if s.len() < inner.end {
+                            return 18446744073709551615;
+                        }
+                        p = inner.end;
+                    }
+                }
+            }
+        }
+    }
+}
+
 // A tag's value, passed over.
 pub fn passed(s: &[u8], t: Tag, k: usize) -> Onto
     ensures { λ r. ⌜ passedAt (now (s .entry)) t k ≡ r ⌝ }
     ensures { λ r. ⌜ (t .start ≤ t .inner .end → OntoOnward (t .start) r) ⌝ }
 {
     if t.constructed == 1 {
-        return through(s, t.start, t.inner, k);
+        let inner = t.inner;
+        let z = over(s, t.start, inner.definite, inner.end, k);
+        if z != 18446744073709551615 {
+            return Onto::Next(z);
+        }
+        return through(s, t.start, inner, k);
     }
     skip(s, t)
 }

@@ -14,7 +14,9 @@ ghost use Rattle.containers.specs.Progress.{Ahead};
 ghost use Rattle.grammar.specs.Grammar.{ruleOf, innerClass, innerNumber, collectionOf, rootOf};
 ghost use Rattle.glow.specs.Members.{marked, mark, due, inOrder, again, afterListed, afterOther, column};
 ghost use Rattle.glow.specs.Members.{plainAt, innerAt, listedAt, ruledAt, memberAt, kindOf, itemAt};
-ghost use Rattle.glow.specs.Brief.{Brief, NextRule};
+ghost use Rattle.glow.specs.Brief.{openedBy, NextRule, Suits, MemberTold, KindTold, ItemTold};
+ghost use Rattle.grammar.specs.Leaf.{cellBy};
+ghost use mathlib.Core.Bool.{true};
 ghost use Rattle.glow.specs.Message.{rootKind, topAt, result, readAt};
 ghost use Rattle.glow.specs.Progress.{MemberOnward, InnerOnward, ItemOnward, WalkedOnward, Keeps, Closes, Finishes, MembersFill, ItemsFill, MessageFill};
 
@@ -274,26 +276,27 @@ fn wide(x: u8) -> u64
     x as u64
 }
 
-// The length of the one value that fills a member at p, tags and lengths of one octet each; 128 where that is for the general turn to say.
-fn brief(s: &[u8], p: usize, end: usize) -> usize
-    ensures { λ r. ⌜ (r < 128 → Brief (now (s .entry)) p end r) ⌝ }
+fn size(x: u8) -> usize
+    ensures { λ r. ⌜ r ≡ x ⌝ }
 {
-    let l = containers::short(s, p, end);
-    if 128 <= l {
-        return 128;
-    }
-    let at = p + 2;
-    let n = containers::short(s, at, at + l);
-    if 128 <= n {
-        return 128;
-    }
-    if n + 2 != l {
-        return 128;
-    }
-    n
+    x as usize
 }
 
-// What stands at the member of a constructed context tag b, if that is one value that may come now; 0 where that is for the general turn to say.
+// The open container of a tag of the length l (128: indefinite), its content from `start` on in a container that ends at `end`.
+fn opened(start: usize, l: usize, end: usize) -> Open
+    requires { ⌜ (l < 128 → start + l ≤ end) ⌝ }
+    ensures { λ r. ⌜ openedBy start l end ≡ r ⌝ }
+{
+    if l < 128 {
+        return Open {
+            definite: 1,
+            end: start + l,
+        };
+    }
+    Open { definite: 0, end }
+}
+
+// What stands at the member of a constructed context tag b, if that may come now; 0 where that is for the general turn to say.
 fn next_rule(b: u8, row: u64, before: u64) -> u64
     ensures { λ r. ⌜ ((r ≡ 0 → ⊥) → NextRule b row before r) ⌝ }
 {
@@ -305,9 +308,6 @@ fn next_rule(b: u8, row: u64, before: u64) -> u64
     if what == 0 {
         return 0;
     }
-    if 13 <= what {
-        return 0;
-    }
     if !in_order(row, before, n) {
         return 0;
     }
@@ -317,40 +317,72 @@ fn next_rule(b: u8, row: u64, before: u64) -> u64
     what
 }
 
+// Whether the value's tag b, of the length n, is what stands at the member: a universal primitive tag, the contents' set, or the collection's own.
+fn suits(what: u64, b: u8, n: usize) -> bool
+    ensures { λ r. ⌜ (r ≡ true → Suits what b n) ⌝ }
+{
+    if what < 13 {
+        if b < 31 {
+            return n < 128;
+        }
+        return false;
+    }
+    if what == 13 {
+        return b == 49;
+    }
+    if what == 14 {
+        return b == 100;
+    }
+    b == 48
+}
+
+// What stands at a member of the tag b, if that may come now and its value's tag is of that kind; 0 where that is for the general turn to say.
+fn rule_by(b: u8, value: u8, n: usize, row: u64, before: u64) -> u64
+    ensures { λ r. ⌜ ((r ≡ 0 → ⊥) → (NextRule b row before r) × (Suits r value n)) ⌝ }
+{
+    let what = next_rule(b, row, before);
+    if what == 0 {
+        return 0;
+    }
+    if suits(what, value, n) {
+        return what;
+    }
+    0
+}
+
+// What stands at a member at p, if tags and lengths take one octet each and the value fills the member; 0 where that is for the general turn to say.
+fn rule_at(s: &[u8], p: usize, end: usize, k: usize, row: u64, before: u64) -> u64
+    ensures { λ r. ⌜ ((r ≡ 0 → ⊥) → MemberTold (now (s .entry)) p end k row before r) ⌝ }
+{
+    if k < 2 {
+        return 0;
+    }
+    let l = containers::short(s, p, end);
+    if 128 < l {
+        return 0;
+    }
+    let at = p + 2;
+    if l == 128 {
+        if containers::short(s, at, end) != 128 {
+            return 0;
+        }
+        return rule_by(s[p], s[at], 128, row, before);
+    }
+    let n = containers::short(s, at, at + l);
+    if 128 <= n {
+        return 0;
+    }
+    if n + 2 != l {
+        return 0;
+    }
+    rule_by(s[p], s[at], n, row, before)
+}
+
 // One turn of the members of a row.
 fn member_at(s: &[u8], p: usize, o: Open, k: usize, row: u64, above: usize, before: u64) -> Member
     ensures { λ r. ⌜ memberAt (now (s .entry)) p o k row above before ≡ r ⌝ }
     ensures { λ r. ⌜ MemberOnward (now (s .entry)) p r ⌝ }
 {
-    let end = o.end;
-    let len = brief(s, p, end);
-    if len < 128 {
-        if 0 < k {
-            let b = s[p];
-            let what = next_rule(b, row, before);
-            let value = s[p + 2];
-            if what != 0 {
-                if value < 31 {
-                    let start = p + 4;
-                    match grammar::read_leaf(s, p + 2, wide(value), start, len, what, above) {
-                        Leaf::Refused(number, place) => {
-                            return Member::Refused(No(number, place));
-                        }
-                        Leaf::Kept(v, path) => {
-                            let n = wide(b % 32);
-                            return Member::Leaf(
-                                after_listed(row, before, n),
-                                column_of(row, n),
-                                v,
-                                path,
-                                start + len,
-                            );
-                        }
-                    }
-                }
-            }
-        }
-    }
     match containers::entering(s, p, o, k) {
         Stands::Refused(e) => Member::Refused(e),
         Stands::Ended(next) => {
@@ -378,6 +410,47 @@ fn kind_of(which: u64, g: Tag) -> u64
         return grammar::kind_in(which, g.number);
     }
     0
+}
+
+// The kind that the tag b of an item's value names in a collection; 0 where that is for the general turn to say.
+fn kind_by(which: u64, item: u8, b: u8) -> u64
+    ensures { λ r. ⌜ ((r ≡ 0 → ⊥) → KindTold which item b r) ⌝ }
+{
+    if item != 160 {
+        return 0;
+    }
+    if b / 32 != 3 {
+        return 0;
+    }
+    grammar::kind_in(which, wide(b % 32))
+}
+
+// The kind of an element at p, if tags and lengths take one octet each and it fills the item; 0 where that is for the general turn to say.
+fn kind_at(s: &[u8], p: usize, end: usize, k: usize, which: u64) -> u64
+    ensures { λ r. ⌜ ((r ≡ 0 → ⊥) → ItemTold (now (s .entry)) p end k which r) ⌝ }
+{
+    if k < 2 {
+        return 0;
+    }
+    let l = containers::short(s, p, end);
+    if 128 < l {
+        return 0;
+    }
+    let at = p + 2;
+    if l == 128 {
+        if containers::short(s, at, end) != 128 {
+            return 0;
+        }
+        return kind_by(which, s[p], s[at]);
+    }
+    let n = containers::short(s, at, at + l);
+    if 128 <= n {
+        return 0;
+    }
+    if n + 2 != l {
+        return 0;
+    }
+    kind_by(which, s[p], s[at])
 }
 
 // One turn of a collection.
@@ -409,6 +482,24 @@ fn item_at(s: &[u8], p: usize, o: Open, k: usize, which: u64) -> Item
     }
 }
 
+// The cell of a value by its first word.
+fn worded(number: u64, first: u64, len: usize) -> Cell
+    ensures { λ r. ⌜ cellBy number first len ≡ r ⌝ }
+{
+    if number < 12 {
+        return Cell {
+            kind: number,
+            first,
+            second: 0,
+        };
+    }
+    Cell {
+        kind: number,
+        first,
+        second: word(len),
+    }
+}
+
 // What was read in an outer tag is the one thing that it holds.
 fn close(s: &[u8], outer: Open, k: usize, w: Walked) -> Walked
     ensures { λ r. ⌜ Closes (now (s .entry)) outer k w r ⌝ }
@@ -416,10 +507,16 @@ fn close(s: &[u8], outer: Open, k: usize, w: Walked) -> Walked
 {
     match w {
         Walked::Refused(e) => Walked::Refused(e),
-        Walked::Read(next, count) => match containers::last(s, next, outer, k) {
-            Onto::Refused(e) => Walked::Refused(e),
-            Onto::Next(q) => Walked::Read(q, count),
-        },
+        Walked::Read(next, count) => {
+            let z = containers::shut(s, next, outer);
+            if z != 18446744073709551615 {
+                return Walked::Read(z, count);
+            }
+            match containers::last(s, next, outer, k) {
+                Onto::Refused(e) => Walked::Refused(e),
+                Onto::Next(q) => Walked::Read(q, count),
+            }
+        }
     }
 }
 
@@ -451,66 +548,149 @@ fn element(
     let mut above = path;
     let mut count = n;
     loop {
-        match member_at(s, p, o, k, row, above, before) {
-            Member::Done(next) => {
-                return Walked::Read(next, count);
+        let z = containers::shut(s, p, o);
+        if z != 18446744073709551615 {
+            if is_due(row, before, 268435456) {
+                return Walked::Refused(No(33, p));
             }
-            Member::Refused(e) => {
-                return Walked::Refused(e);
-            }
-            Member::Over(after, next) => {
-                before = after;
-                p = next;
-            }
-            Member::Leaf(after, c, v, numbers, next) => {
-                entries::put_cell(table, me, c, v);
-                before = after;
-                above = numbers;
-                p = next;
-            }
-            Member::Contents(after, outer, set, left) => {
-                let w = element(
-                    s,
-                    set.start,
-                    set.inner,
-                    containers::less(left),
-                    grammar::contents_of(row),
-                    me,
-                    above,
-                    count,
-                    table,
-                );
-                match close(s, outer, left, w) {
-                    Walked::Refused(e) => {
-                        return Walked::Refused(e);
+            return Walked::Read(z, count);
+        }
+        let what = rule_at(s, p, o.end, k, row, before);
+        if what != 0 {
+            let number = wide(s[p] % 32);
+            let start = p + 4;
+            let len = size(s[p + 3]);
+            let later = after_listed(row, before, number);
+            if what < 13 {
+                let kind = wide(s[p + 2]);
+                let first = grammar::word_of(s, kind, start, len, what);
+                if first != 9223372036854775808 {
+                    entries::put_cell(table, me, column_of(row, number), worded(kind, first, len));
+                    before = later;
+                    p = start + len;
+                } else {
+                    match grammar::read_leaf(s, p + 2, kind, start, len, what, above) {
+                        Leaf::Refused(no, place) => {
+                            return Walked::Refused(No(no, place));
+                        }
+                        Leaf::Kept(v, numbers) => {
+                            entries::put_cell(table, me, column_of(row, number), v);
+                            before = later;
+                            above = numbers;
+                            p = start + len;
+                        }
                     }
-                    Walked::Read(next, c) => {
-                        before = after;
-                        p = next;
-                        count = c;
+                }
+            } else {
+                let inside = opened(start, len, o.end);
+                if what == 13 {
+                    let w = element(
+                        s,
+                        start,
+                        inside,
+                        k - 2,
+                        grammar::contents_of(row),
+                        me,
+                        above,
+                        count,
+                        table,
+                    );
+                    match close(s, inside, k - 1, w) {
+                        Walked::Refused(e) => {
+                            return Walked::Refused(e);
+                        }
+                        Walked::Read(next, c) => {
+                            before = later;
+                            p = next;
+                            count = c;
+                        }
+                    }
+                } else {
+                    let w = items(
+                        s,
+                        start,
+                        inside,
+                        k - 2,
+                        collection_of(what),
+                        parent,
+                        above,
+                        count,
+                        table,
+                    );
+                    match close(s, inside, k - 1, w) {
+                        Walked::Refused(e) => {
+                            return Walked::Refused(e);
+                        }
+                        Walked::Read(next, c) => {
+                            before = later;
+                            p = next;
+                            count = c;
+                        }
                     }
                 }
             }
-            Member::Items(after, which, outer, list, left) => {
-                let w = items(
-                    s,
-                    list.start,
-                    list.inner,
-                    containers::less(left),
-                    which,
-                    parent,
-                    above,
-                    count,
-                    table,
-                );
-                match close(s, outer, left, w) {
-                    Walked::Refused(e) => {
-                        return Walked::Refused(e);
+        } else {
+            match member_at(s, p, o, k, row, above, before) {
+                Member::Done(next) => {
+                    return Walked::Read(next, count);
+                }
+                Member::Refused(e) => {
+                    return Walked::Refused(e);
+                }
+                Member::Over(after, next) => {
+                    before = after;
+                    p = next;
+                }
+                Member::Leaf(after, c, v, numbers, next) => {
+                    entries::put_cell(table, me, c, v);
+                    before = after;
+                    above = numbers;
+                    p = next;
+                }
+                Member::Contents(after, outer, set, left) => {
+                    let w = element(
+                        s,
+                        set.start,
+                        set.inner,
+                        containers::less(left),
+                        grammar::contents_of(row),
+                        me,
+                        above,
+                        count,
+                        table,
+                    );
+                    match close(s, outer, left, w) {
+                        Walked::Refused(e) => {
+                            return Walked::Refused(e);
+                        }
+                        Walked::Read(next, c) => {
+                            before = after;
+                            p = next;
+                            count = c;
+                        }
                     }
-                    Walked::Read(next, c) => {
-                        before = after;
-                        p = next;
-                        count = c;
+                }
+                Member::Items(after, which, outer, list, left) => {
+                    let w = items(
+                        s,
+                        list.start,
+                        list.inner,
+                        containers::less(left),
+                        which,
+                        parent,
+                        above,
+                        count,
+                        table,
+                    );
+                    match close(s, outer, left, w) {
+                        Walked::Refused(e) => {
+                            return Walked::Refused(e);
+                        }
+                        Walked::Read(next, c) => {
+                            before = after;
+                            p = next;
+                            count = c;
+                        }
                     }
                 }
             }
@@ -537,33 +717,64 @@ fn items(
     let mut p = from;
     let mut count = n;
     loop {
-        match item_at(s, p, o, k, which) {
-            Item::Done(next) => {
-                return Walked::Read(next, count);
+        let z = containers::shut(s, p, o);
+        if z != 18446744073709551615 {
+            return Walked::Read(z, count);
+        }
+        let quick = kind_at(s, p, o.end, k, which);
+        if quick != 0 {
+            let start = p + 4;
+            let inside = opened(start, size(s[p + 3]), o.end);
+            entries::blank(table, count, quick, word(parent));
+            let w = element(
+                s,
+                start,
+                inside,
+                k - 2,
+                quick,
+                count,
+                above,
+                count + 1,
+                table,
+            );
+            match close(s, inside, k - 1, w) {
+                Walked::Refused(e) => {
+                    return Walked::Refused(e);
+                }
+                Walked::Read(next, c) => {
+                    p = next;
+                    count = c;
+                }
             }
-            Item::Refused(e) => {
-                return Walked::Refused(e);
-            }
-            Item::Element(kind, outer, tag, left) => {
-                entries::blank(table, count, kind, word(parent));
-                let w = element(
-                    s,
-                    tag.start,
-                    tag.inner,
-                    containers::less(left),
-                    kind,
-                    count,
-                    above,
-                    count + 1,
-                    table,
-                );
-                match close(s, outer, left, w) {
-                    Walked::Refused(e) => {
-                        return Walked::Refused(e);
-                    }
-                    Walked::Read(next, c) => {
-                        p = next;
-                        count = c;
+        } else {
+            match item_at(s, p, o, k, which) {
+                Item::Done(next) => {
+                    return Walked::Read(next, count);
+                }
+                Item::Refused(e) => {
+                    return Walked::Refused(e);
+                }
+                Item::Element(kind, outer, tag, left) => {
+                    entries::blank(table, count, kind, word(parent));
+                    let w = element(
+                        s,
+                        tag.start,
+                        tag.inner,
+                        containers::less(left),
+                        kind,
+                        count,
+                        above,
+                        count + 1,
+                        table,
+                    );
+                    match close(s, outer, left, w) {
+                        Walked::Refused(e) => {
+                            return Walked::Refused(e);
+                        }
+                        Walked::Read(next, c) => {
+                            p = next;
+                            count = c;
+                        }
                     }
                 }
             }

@@ -13,11 +13,13 @@ use Rattle.values.specs.declared.Value.{Value}
 use Rattle.values.specs.declared.Value.the-variants.{Absent, Int, Real, Text, Bool as Truth, Octets}
 use Rattle.values.specs.declared.Answer.{Answer}
 use Rattle.values.specs.declared.Answer.the-variants.{Found, Other, Refused}
-use Rattle.values.specs.Value.{isListed, contentAt}
+use Rattle.integers.specs.declared.Number.{Number}
+use Rattle.values.specs.Value.{isListed, contentAt, onNumber}
 use Rattle.identifiers.specs.Identifier.{Arcs, bad, over, numbers, arcs}
 use Rattle.identifiers.specs.declared.Oid.{Oid}
 use Rattle.identifiers.specs.declared.Oid.the-variants.{Numbers, Range, Refused as NoOid}
-use Rattle.entries.specs.Cell.{cellOf, numbersCell}
+use Rattle.entries.specs.declared.Cell.{Cell}
+use Rattle.entries.specs.Cell.{cell, cellOf, numbersCell}
 use Rattle.grammar.specs.declared.Leaf.{Leaf}
 use Rattle.grammar.specs.declared.Leaf.the-variants.{Kept, Refused as Not}
 use Rattle.grammar.specs.Grammar.{name, text, flag, any, step, path, list, int32, to3, to2, to1}
@@ -139,3 +141,21 @@ abbrev pub oidLeaf : ℕ → ℕ → ℕ → ℕ → Oid → Leaf
 oidLeaf at start len above (Numbers count) = Kept (numbersCell start len) above
 oidLeaf at start len above Range = Not 34 at
 oidLeaf at start len above NoOid = Not 30 at
+
+-- The cell of a value by its universal tag number and its first word: a text's, octets' or numbers' second word is the length.
+unfoldable pub cellBy : ℕ → ℕ → ℕ → Cell
+cellBy number first len = cell number first (pick (ltb number 12) 0 len)
+
+-- a member whose value is a number that the path does not count, or may be
+abbrev pub Counted : ℕ → Type 0
+Counted what = (expects what 2 ≡ true) × (what ≡ 5 → ⊥)
+
+-- For `word_of` and its parts: any answer but 2^63 is the first word of the cell that is kept.
+abbrev pub NumberTold : ℕ → Number → ℕ → Type 0
+NumberTold what n r = (what ≡ 5 → ⊥) → (s : List ℕ) (at above next : ℕ) → judged s at what above (onNumber at next n) ≡ Kept (cell 2 r 0) above
+
+abbrev pub ListTold : ℕ → Oid → ℕ → Type 0
+ListTold start o r = (at len above : ℕ) → oidLeaf at start len above o ≡ Kept (cell 13 r len) above
+
+abbrev pub LeafTold : List ℕ → ℕ → ℕ → ℕ → ℕ → ℕ → Type 0
+LeafTold s number start len what r = (at above : ℕ) → leafAt s at number start len what above ≡ Kept (cellBy number r len) above

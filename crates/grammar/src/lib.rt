@@ -2,6 +2,7 @@
 use entries::Cell;
 use identifiers::Arc;
 use identifiers::Oid;
+use integers::Number;
 use values::Answer;
 use values::Value;
 ghost use mathlib.Core.Path.{_≡_};
@@ -15,6 +16,7 @@ ghost use Rattle.values.specs.Value.{isListed};
 ghost use Rattle.identifiers.specs.Identifier.{arcs};
 ghost use Rattle.entries.specs.Cell.{numbersCell};
 ghost use Rattle.grammar.specs.Leaf.{expects, least, most, wordIn, isLetter, noSlash, isName};
+ghost use Rattle.grammar.specs.Leaf.{Counted, NumberTold, ListTold, LeafTold};
 ghost use Rattle.grammar.specs.Leaf.{numberLeaf, textLeaf, valueLeaf, judged, pathLeaf, oidLeaf, numbersAt, leafAt, LeafBounded};
 
 // A value kept in its cell, with the count of the path's numbers after it; or a refusal with its place.
@@ -519,6 +521,82 @@ fn numbers_at(s: &[u8], at: usize, start: usize, len: usize, what: u64, above: u
         return path_leaf(s, at, start, len);
     }
     list_leaf(at, start, len, above, identifiers::read_oid(s, start, len))
+}
+
+// Whether a number stands at a member, or may, and is none of a path's.
+fn is_counted(what: u64) -> bool
+    ensures { λ r. ⌜ (r ≡ true → Counted what) ⌝ }
+{
+    if what == 4 {
+        return true;
+    }
+    8 <= what
+}
+
+// The word of a number that is in its member's range; 2^63 where that is for `read_leaf` to say.
+fn word_in(what: u64, x: i64) -> u64
+    ensures { λ r. ⌜ ((r ≡ 9223372036854775808 → ⊥) → NumberTold what (Number.Int x) r) ⌝ }
+{
+    let v = entries::cell_of(Value::Int(x));
+    if what == 4 {
+        return v.first;
+    }
+    if in_range(what, v.first) {
+        return v.first;
+    }
+    9223372036854775808
+}
+
+fn number_word(what: u64, n: Number) -> u64
+    ensures { λ r. ⌜ ((r ≡ 9223372036854775808 → ⊥) → NumberTold what n r) ⌝ }
+{
+    match n {
+        Number::Refused => 9223372036854775808,
+        Number::Int(x) => word_in(what, x),
+    }
+}
+
+fn list_word(start: usize, o: Oid) -> u64
+    ensures { λ r. ⌜ ((r ≡ 9223372036854775808 → ⊥) → ListTold start o r) ⌝ }
+{
+    match o {
+        Oid::Numbers(_) => word(start),
+        Oid::Range => 9223372036854775808,
+        Oid::Refused => 9223372036854775808,
+    }
+}
+
+// The first word of a value's cell, for a number, a text or sources that fit their member; 2^63 where that is for `read_leaf` to say.
+pub fn word_of(s: &[u8], number: u64, start: usize, len: usize, what: u64) -> u64
+    ensures { λ r. ⌜ ((r ≡ 9223372036854775808 → ⊥) → LeafTold (now (s .entry)) number start len what r) ⌝ }
+{
+    if !holds(s, start, len) {
+        return 9223372036854775808;
+    }
+    if number == 2 {
+        if is_counted(what) {
+            return number_word(what, integers::read_int(s, start, len));
+        }
+        return 9223372036854775808;
+    }
+    if number == 12 {
+        if what == 1 {
+            if is_name(s, start, len) {
+                return word(start);
+            }
+            return 9223372036854775808;
+        }
+        if what == 2 {
+            return word(start);
+        }
+        return 9223372036854775808;
+    }
+    if number == 13 {
+        if what == 7 {
+            return list_word(start, identifiers::read_oid(s, start, len));
+        }
+    }
+    9223372036854775808
 }
 
 // The value whose tag stands at `at`, with this universal number, and whose len octets stand at `start`; `above` counts the numbers of the path so far.
