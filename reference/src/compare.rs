@@ -9,8 +9,9 @@ use std::process::{Command, Stdio};
 use std::sync::mpsc;
 use std::time::{Duration, Instant};
 
-const USAGE: &str = "usage: reference compare ROOT NAME... [--seed S] [--count N] [--seconds T] [--program PATH]
+const USAGE: &str = "usage: reference compare ROOT NAME... [--seed S] [--count N] [--seconds T] [--program PATH] [--write]
 NAME is frames, octets, packets, tree or listing; the program is ROOT/target/bin/NAME unless --program names it
+--write: the program tree is also asked to write
 ";
 
 /// Requests in one run of `octets`, `packets` or `tree`.
@@ -22,6 +23,8 @@ struct Plan {
     seed: u64,
     count: u64,
     until: Instant,
+    /// Whether `tree` is also asked to write.
+    writes: bool,
 }
 
 /// A generated input, its expected output, and what it holds by kind.
@@ -41,6 +44,7 @@ pub fn command(words: &[&str]) -> i32 {
     let mut root = None;
     let mut program = None;
     let (mut seed, mut count, mut seconds) = (1, 1_000, 60);
+    let mut writes = tree_text::WRITES;
     let mut words = words.iter();
     while let Some(word) = words.next() {
         let mut number = || words.next().and_then(|word| word.parse::<u64>().ok());
@@ -48,6 +52,7 @@ pub fn command(words: &[&str]) -> i32 {
             "--seed" => number().map(|value| seed = value),
             "--count" => number().map(|value| count = value),
             "--seconds" => number().map(|value| seconds = value),
+            "--write" => Some(writes = true),
             "--program" => words.next().map(|path| program = Some(PathBuf::from(path))),
             _ if root.is_none() => Some(root = Some(PathBuf::from(word))),
             _ => Some(names.push(*word)),
@@ -68,13 +73,13 @@ pub fn command(words: &[&str]) -> i32 {
     let mut code = 0;
     for name in names {
         let path = program.clone().unwrap_or_else(|| root.join("target/bin").join(name));
-        let plan = Plan { seed, count, until: Instant::now() + Duration::from_secs(seconds) };
+        let plan = Plan { seed, count, until: Instant::now() + Duration::from_secs(seconds), writes };
         code = code.max(one(name, &path, &plan));
     }
     code
 }
 
-fn case(name: &str, seed: u64, left: u64) -> Option<Case> {
+fn case(name: &str, seed: u64, left: u64, writes: bool) -> Option<Case> {
     let with = |input: Vec<u8>, expected: String, kinds: Vec<(&str, usize)>, cases, size| Case {
         input,
         expected,
@@ -97,9 +102,12 @@ fn case(name: &str, seed: u64, left: u64) -> Option<Case> {
         }
         "tree" => {
             let size = BATCH.min(left as usize);
-            let (input, kinds) = gen::tree::requests::input(seed, size);
-            let expected = tree_text::trees(&input);
-            with(input, expected, gen::tree::requests::KINDS.into_iter().zip(kinds).collect(), size as u64, size)
+            let (input, kinds) = gen::tree::requests::input(seed, size, writes);
+            let expected = tree_text::trees(&input, writes);
+            let kinds = gen::tree::requests::KINDS.into_iter().zip(kinds).collect();
+            let mut case = with(input, expected, kinds, size as u64, size);
+            case.again += if writes && !tree_text::WRITES { " --write" } else { "" };
+            case
         }
         "packets" => {
             let size = BATCH.min(left as usize);
@@ -125,7 +133,7 @@ fn one(name: &str, path: &Path, plan: &Plan) -> i32 {
     let mut answers: BTreeMap<String, usize> = BTreeMap::new();
     let mut code = 0;
     while done < plan.count && Instant::now() < plan.until {
-        let Some(case) = case(name, case_seed(plan.seed, index), plan.count - done) else {
+        let Some(case) = case(name, case_seed(plan.seed, index), plan.count - done, plan.writes) else {
             eprint!("{USAGE}");
             return 2;
         };
@@ -145,7 +153,7 @@ fn one(name: &str, path: &Path, plan: &Plan) -> i32 {
             *answers.entry(answer_kind(name, line)).or_default() += 1;
         }
         if actual != case.expected.as_bytes() {
-            show_difference(name, &case, &actual);
+            show_difference(name, &case, &actual, plan.writes);
             code = 1;
             break;
         }
@@ -170,7 +178,8 @@ fn answer_kind(name: &str, line: &str) -> String {
     let words: Vec<&str> = line.split(' ').collect();
     match (name, words.as_slice()) {
         ("tree", ["0", "elements" | "streams", _]) => format!("{} {}", words[0], words[1]),
-        ("tree", ["1"]) => "1".to_string(),
+        ("tree", ["1" | "46"]) => words[0].to_string(),
+        ("tree", ["0", _]) => "0 and what is written".to_string(),
         ("tree", [number, _]) if *number != "bad" => number.to_string(),
         ("tree", [_, _, kind, ..]) => format!("an entry, {kind}"),
         (_, ["bad", "line"]) => "bad line".to_string(),
@@ -185,7 +194,7 @@ fn answer_kind(name: &str, line: &str) -> String {
 }
 
 /// The whole input, or for requests its line, and both outputs.
-fn show_difference(name: &str, case: &Case, actual: &[u8]) {
+fn show_difference(name: &str, case: &Case, actual: &[u8], writes: bool) {
     println!("{name}: difference");
     println!("reproduce: {}", case.again);
     let expected = lines::lines(case.expected.as_bytes());
@@ -203,7 +212,7 @@ fn show_difference(name: &str, case: &Case, actual: &[u8]) {
         // Answers have several lines.
         let mut before = 0;
         for request in lines::lines(&case.input) {
-            let answer = tree_text::answer(request);
+            let answer = tree_text::answer(request, writes);
             before += answer.lines().count();
             if before > at {
                 println!("  request: {}", String::from_utf8_lossy(request));

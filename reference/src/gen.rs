@@ -4,6 +4,7 @@ pub mod desk;
 pub mod frames;
 pub mod octets;
 pub mod packets;
+pub mod rows;
 pub mod tree;
 
 /// splitmix64.

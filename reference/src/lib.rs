@@ -1,6 +1,7 @@
 //! An independent reading of document 01: the decoder, its programs and their generators.
 
 pub mod compare;
+pub mod compare_rows;
 pub mod desk;
 pub mod framing;
 pub mod gateway;
@@ -8,6 +9,7 @@ pub mod gen;
 pub mod lines;
 pub mod listing;
 pub mod programs;
+pub mod rows;
 pub mod sheet;
 pub mod store;
 pub mod tree;

@@ -4,10 +4,10 @@ use crate::{gateway, gen, listing, programs, tree_text};
 use std::path::{Path, PathBuf};
 
 /// Every stored file, from the repository's root, with what it must hold.
-fn files() -> Vec<(&'static str, Vec<u8>)> {
+fn files(writes: bool) -> Vec<(&'static str, Vec<u8>)> {
     let frames = gen::frames::stored();
     let octets = gen::octets::stored();
-    let tree = gen::tree::requests::stored();
+    let tree = gen::tree::requests::stored(writes);
     let stream = gateway::stream();
     let (passed, counts) = gateway::gateway(&stream);
     let packets = gen::packets::stored();
@@ -17,7 +17,7 @@ fn files() -> Vec<(&'static str, Vec<u8>)> {
         ("crates/frames/stdin", frames),
         ("crates/octets/stdout", programs::octets(&octets).into_bytes()),
         ("crates/octets/stdin", octets),
-        ("crates/tree/stdout", tree_text::trees(&tree).into_bytes()),
+        ("crates/tree/stdout", tree_text::trees(&tree, writes).into_bytes()),
         ("crates/tree/stdin", tree),
         ("examples/gateway/check/passed.hex", gateway::hex_lines(&passed)),
         ("examples/gateway/check/counts", counts.into_bytes()),
@@ -29,17 +29,21 @@ fn files() -> Vec<(&'static str, Vec<u8>)> {
     ]
 }
 
+const HOW: &str = "without the requests `write HEX` of crates/tree: `reference store --write` adds them to stdin and stdout.
+Once the program takes them, set WRITES in reference/src/tree_text.rs, and --write is not needed any more.";
+
 /// The nearest folder at or above this one that has `crates.txt` or `crates`.
 fn root() -> Option<PathBuf> {
     let here = std::env::current_dir().ok()?;
     here.ancestors().find(|folder| folder.join("crates.txt").exists() || folder.join("crates").is_dir()).map(Path::to_path_buf)
 }
 
-/// `store [--check] [ROOT]`: writes the files that differ, or only names them. The exit code: 0, or 1 if any
-/// differs under --check, or 2.
+/// `store [--check] [--write] [ROOT]`: writes the files that differ, or only names them; with --write the requests of the
+/// program `tree` to write are among them. The exit code: 0, or 1 if any differs under --check, or 2.
 pub fn command(words: &[&str]) -> i32 {
     let check = words.contains(&"--check");
-    let folders: Vec<&&str> = words.iter().filter(|word| **word != "--check").collect();
+    let writes = tree_text::WRITES || words.contains(&"--write");
+    let folders: Vec<&&str> = words.iter().filter(|word| !["--check", "--write"].contains(*word)).collect();
     let root = match folders.as_slice() {
         [] => root(),
         [folder] => Some(PathBuf::from(folder)),
@@ -50,7 +54,7 @@ pub fn command(words: &[&str]) -> i32 {
         return 2;
     };
     let mut changed = 0;
-    for (name, bytes) in files() {
+    for (name, bytes) in files(writes) {
         let path = root.join(name);
         if !path.parent().is_some_and(Path::is_dir) {
             println!("skipped  {name}: no such folder");
@@ -70,6 +74,9 @@ pub fn command(words: &[&str]) -> i32 {
             return 2;
         }
         println!("written  {name} ({} bytes)", bytes.len());
+    }
+    if !writes {
+        println!("{}", HOW);
     }
     i32::from(check && changed > 0)
 }

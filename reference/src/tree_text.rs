@@ -1,9 +1,15 @@
-//! The program `tree`: one request a line, `read HEX` or `read N HEX`, and the answer with a line for each entry.
+//! The program `tree`: one request a line. `read HEX` or `read N HEX`: the answer with a line for each entry. `write HEX`:
+//! what is written for the entries that were read.
 
 use crate::framing::MESSAGE_MAX;
 use crate::lines::{digits, hex, hex_line, lines};
 use crate::tree::{self, Answer, Body, Entry, Key, RootKind, TABLE_MAX};
+use crate::tree_writer;
 use crate::values::Value;
+
+/// Whether the program `tree` of the repository takes `write HEX`. Until it does, such a line is a bad one, and only
+/// commands with `--write` know it.
+pub const WRITES: bool = false;
 
 /// The largest table that a request may name: "0 to 300: over 256 answers 1".
 pub const TABLE_NAMED_MAX: usize = 300;
@@ -11,19 +17,33 @@ pub const TABLE_NAMED_MAX: usize = 300;
 pub const REQUEST_MAX: usize = MESSAGE_MAX + 1;
 
 /// Program `tree`.
-pub fn trees(input: &[u8]) -> String {
-    lines(input).iter().map(|line| answer(line)).collect()
+pub fn trees(input: &[u8], writes: bool) -> String {
+    lines(input).iter().map(|line| answer(line, writes)).collect()
 }
 
 /// What one line prints, its last 0A included.
-pub fn answer(line: &[u8]) -> String {
+pub fn answer(line: &[u8], writes: bool) -> String {
+    if let Some(message) = to_write(line).filter(|_| writes) {
+        return match tree::read(&message, TABLE_MAX) {
+            Answer::Tree(tree) => match tree_writer::write(&tree) {
+                Ok(octets) => format!("0 {}\n", digits(&octets)),
+                Err(number) => format!("{number}\n"),
+            },
+            refusal => shown(&refusal),
+        };
+    }
     match request(line) {
         Some((table, message)) => shown(&tree::read(&message, table)),
         None => "bad line\n".to_string(),
     }
 }
 
-/// The table's length and the message; None for a bad line. Words stand one space apart.
+/// The message of `write HEX`, which names no table.
+pub fn to_write(line: &[u8]) -> Option<Vec<u8>> {
+    octets(line.strip_prefix(b"write ")?)
+}
+
+/// The table's length and the message of a line that reads; None for others. Words stand one space apart.
 pub fn request(line: &[u8]) -> Option<(usize, Vec<u8>)> {
     let words: Vec<&[u8]> = line.split(|&byte| byte == b' ').collect();
     match words.as_slice() {
@@ -182,7 +202,9 @@ mod tests {
 
     #[track_caller]
     fn gives(line: &str, expected: &str) {
-        assert_eq!(answer(line.as_bytes()), format!("{expected}\n"), "{line}");
+        assert_eq!(answer(line.as_bytes(), false), format!("{expected}\n"), "{line}");
+        let writes = line.starts_with("write ");
+        assert!(writes || answer(line.as_bytes(), true) == format!("{expected}\n"), "{line}");
     }
 
     /// A message, with spaces, in a request.
@@ -223,9 +245,9 @@ mod tests {
         gives("read 300 60026B00", "1");
         gives("read 300 -", "1");
         gives("read 12", "30 1");
-        assert_eq!(answer(format!("read {}", "00".repeat(16_384)).as_bytes()), "30 0\n");
-        assert_eq!(answer(format!("read {}", "00".repeat(16_385)).as_bytes()), "1\n");
-        assert_eq!(answer(format!("read {}", "00".repeat(16_386)).as_bytes()), "bad line\n");
+        assert_eq!(answer(format!("read {}", "00".repeat(16_384)).as_bytes(), false), "30 0\n");
+        assert_eq!(answer(format!("read {}", "00".repeat(16_385)).as_bytes(), false), "1\n");
+        assert_eq!(answer(format!("read {}", "00".repeat(16_386)).as_bytes(), false), "bad line\n");
     }
 
     #[test]
@@ -283,8 +305,20 @@ mod tests {
         ] {
             gives(line, "bad line");
         }
-        assert_eq!(trees(b""), "");
-        assert_eq!(trees(b"\n"), "bad line\n");
-        assert_eq!(trees(b"read -\n\nread 60026B00"), "30 0\nbad line\n0 elements 0\n");
+        assert_eq!(trees(b"", true), "");
+        assert_eq!(trees(b"\n", true), "bad line\n");
+        assert_eq!(trees(b"read -\n\nread 60026B00", true), "30 0\nbad line\n0 elements 0\n");
+    }
+
+    #[test]
+    fn writes() {
+        let input =
+            b"write 60806B800000 0000\nwrite 60806B8000000000\nwrite 60026500\nwrite -\nwrite 60\nwrite 6002\nread 60026B00";
+        assert_eq!(trees(input, true), "bad line\n0 60026B00\n0 60026500\n30 0\n30 1\n30 2\n0 elements 0\n");
+        assert_eq!(trees(input, false), format!("{}0 elements 0\n", "bad line\n".repeat(6)));
+        let long = |count: usize| format!("write {}", "00".repeat(count)).into_bytes();
+        assert_eq!(answer(&long(16_384), true), "30 0\n");
+        assert_eq!(answer(&long(16_385), true), "1\n");
+        assert_eq!(answer(&long(16_386), true), "bad line\n");
     }
 }

@@ -1,14 +1,36 @@
 //! The tree writer: "The writer uses definite shortest lengths and ascending tags."
 
-use crate::framing::MESSAGE_MAX;
 use crate::tree::{self, *};
-use crate::values::{tagged, write_bool, write_int, write_oid, write_value, APPLICATION, CONTEXT, OUT, UNIVERSAL};
+use crate::values::{
+    least_real, spell_value, tagged, write_bool, write_int, write_oid, write_real, Spelling, Value, APPLICATION, CONTEXT, OUT,
+    UNIVERSAL,
+};
 
-type Octets = Result<Vec<u8>, u8>;
+pub type Octets = Result<Vec<u8>, u8>;
 
 /// The message of a tree; 46 for "a value or tree that the reader refuses". It is written exactly if reading
 /// gives these very entries (W1): so it is read back.
 pub fn write(tree: &Tree) -> Octets {
+    read_back(tree, write_real)
+}
+
+/// A shortest message that is read as this tree; 46 if none of at most 16,384 bytes is. Only reals have a spelling that is
+/// shorter than the written one: the indefinite form takes three octets, as many as the longest length here.
+pub fn least(tree: &Tree) -> Octets {
+    read_back(tree, least_real)
+}
+
+/// The message with that spelling of reals, if reading gives these very entries.
+fn read_back(tree: &Tree, spelling: Spelling) -> Octets {
+    let message = spelt(tree, spelling)?;
+    match tree::read(&message, TABLE_MAX) {
+        Answer::Tree(read) if read == *tree => Ok(message),
+        _ => Err(OUT),
+    }
+}
+
+/// The entries put into each other by their parents, whatever the reader says of them and however long they are.
+pub fn spelt(tree: &Tree, spelling: Spelling) -> Octets {
     if tree.entries.len() > TABLE_MAX {
         return Err(OUT);
     }
@@ -20,15 +42,8 @@ pub fn write(tree: &Tree) -> Octets {
         RootKind::Elements => ROOT_ELEMENT_COLLECTION,
         RootKind::Streams => STREAM_COLLECTION,
     };
-    let items = items(tree, None, |_| true)?;
-    let message = container(APPLICATION, ROOT, &container(APPLICATION, number, &items)?)?;
-    if message.len() > MESSAGE_MAX {
-        return Err(OUT);
-    }
-    match tree::read(&message, TABLE_MAX) {
-        Answer::Tree(read) if read == *tree => Ok(message),
-        _ => Err(OUT),
-    }
+    let items = items(tree, spelling, None, |_| true)?;
+    container(APPLICATION, ROOT, &container(APPLICATION, number, &items)?)
 }
 
 fn container(class: u8, number: u64, content: &[u8]) -> Octets {
@@ -44,23 +59,26 @@ fn member(number: u64, value: Octets) -> Octets {
 }
 
 /// The entries with that parent, each in an item's outer tag.
-fn items(tree: &Tree, parent: Option<usize>, chosen: fn(&Body) -> bool) -> Octets {
+fn items(tree: &Tree, spelling: Spelling, parent: Option<usize>, chosen: fn(&Body) -> bool) -> Octets {
     let mut out = Vec::new();
     for (place, entry) in tree.entries.iter().enumerate() {
         if entry.parent == parent && chosen(&entry.body) {
-            out.extend(member(0, element(tree, place))?);
+            out.extend(member(0, element(tree, spelling, place))?);
         }
     }
     Ok(out)
 }
 
-fn element(tree: &Tree, place: usize) -> Octets {
+fn element(tree: &Tree, spelling: Spelling, place: usize) -> Octets {
     match &tree.entries[place].body {
         Body::Parameter(key, contents) => {
-            with_members(tree, place, [PARAMETER, QUALIFIED_PARAMETER], key, parameter_contents(contents)?)
+            let contents = parameter_contents(contents, spelling)?;
+            with_members(tree, spelling, place, [PARAMETER, QUALIFIED_PARAMETER], key, contents)
         }
-        Body::Node(key, contents) => with_members(tree, place, [NODE, QUALIFIED_NODE], key, node_contents(contents)?),
-        Body::Matrix(key, contents) => with_members(tree, place, [MATRIX, QUALIFIED_MATRIX], key, matrix_contents(contents)?),
+        Body::Node(key, contents) => with_members(tree, spelling, place, [NODE, QUALIFIED_NODE], key, node_contents(contents)?),
+        Body::Matrix(key, contents) => {
+            with_members(tree, spelling, place, [MATRIX, QUALIFIED_MATRIX], key, matrix_contents(contents)?)
+        }
         Body::Command { number, mask } => {
             let mut out = member(0, integer(*number))?;
             out.extend(optional(1, mask, |mask| integer(*mask))?);
@@ -74,14 +92,14 @@ fn element(tree: &Tree, place: usize) -> Octets {
         }
         Body::StreamEntry { identifier, value } => {
             let mut out = member(0, integer(*identifier))?;
-            out.extend(member(1, write_value(value))?);
+            out.extend(member(1, spell_value(value, spelling))?);
             container(APPLICATION, STREAM_ENTRY, &out)
         }
     }
 }
 
 /// Number or path, contents, children, connections; empty ones left out.
-fn with_members(tree: &Tree, place: usize, numbers: [u64; 2], key: &Key, contents: Vec<u8>) -> Octets {
+fn with_members(tree: &Tree, spelling: Spelling, place: usize, numbers: [u64; 2], key: &Key, contents: Vec<u8>) -> Octets {
     let (number, mut out) = match key {
         Key::Number(value) => (numbers[0], member(0, integer(*value))?),
         Key::Path(path) => (numbers[1], member(0, primitive(OID_TAG, &write_oid(path)?))?),
@@ -89,24 +107,25 @@ fn with_members(tree: &Tree, place: usize, numbers: [u64; 2], key: &Key, content
     if !contents.is_empty() {
         out.extend(member(1, container(UNIVERSAL, SET_TAG, &contents))?);
     }
-    let children = items(tree, Some(place), |body| !matches!(body, Body::Connection { .. }))?;
+    let children = items(tree, spelling, Some(place), |body| !matches!(body, Body::Connection { .. }))?;
     if !children.is_empty() {
         out.extend(member(2, container(APPLICATION, ELEMENT_COLLECTION, &children))?);
     }
-    let connections = items(tree, Some(place), |body| matches!(body, Body::Connection { .. }))?;
+    let connections = items(tree, spelling, Some(place), |body| matches!(body, Body::Connection { .. }))?;
     if !connections.is_empty() {
         out.extend(member(5, container(UNIVERSAL, SEQUENCE_TAG, &connections))?);
     }
     container(APPLICATION, number, &out)
 }
 
-fn parameter_contents(contents: &ParameterContents) -> Octets {
+fn parameter_contents(contents: &ParameterContents, spelling: Spelling) -> Octets {
+    let any = |value: &Value| spell_value(value, spelling);
     let mut out = Vec::new();
     out.extend(optional(0, &contents.identifier, |text| primitive(TEXT_TAG, text))?);
     out.extend(optional(1, &contents.description, |text| primitive(TEXT_TAG, text))?);
-    out.extend(optional(2, &contents.value, write_value)?);
-    out.extend(optional(3, &contents.minimum, write_value)?);
-    out.extend(optional(4, &contents.maximum, write_value)?);
+    out.extend(optional(2, &contents.value, any)?);
+    out.extend(optional(3, &contents.minimum, any)?);
+    out.extend(optional(4, &contents.maximum, any)?);
     out.extend(optional(5, &contents.access, |value| integer(*value))?);
     out.extend(optional(8, &contents.factor, |value| integer(*value))?);
     out.extend(optional(9, &contents.online, |value| boolean(*value))?);
@@ -153,7 +172,6 @@ fn boolean(value: bool) -> Octets {
 #[cfg(test)]
 mod tests {
     use super::*;
-    use crate::values::Value;
 
     fn command(number: i64) -> Body {
         Body::Command { number, mask: None }

@@ -310,6 +310,36 @@ pub fn write_real(value: f64) -> Result<Vec<u8>, u8> {
     Ok(out)
 }
 
+/// The fewest octets from which that double is read: all scales, lengths of the exponent and even mantissas are tried. The
+/// written form comes first, so that it is taken where it is among the shortest.
+pub fn least_real(value: f64) -> Result<Vec<u8>, u8> {
+    let mut least = write_real(value)?;
+    if least.len() < 2 {
+        return Ok(least); // zero and the infinities have one form each
+    }
+    let odd = from_double(value);
+    let sign = if odd.negative { 0x40 } else { 0 };
+    for shift in 0..=odd.mantissa.leading_zeros() {
+        for scale in 0..=3u8 {
+            for count in 1..=3u8 {
+                let exponent = odd.power - i64::from(shift) - i64::from(scale);
+                let room = 8 * i64::from(count) - 1;
+                if exponent < -(1 << room) || exponent >= 1 << room {
+                    continue;
+                }
+                let mantissa = odd.mantissa << shift;
+                let length = 1 + usize::from(count) + (64 - mantissa.leading_zeros() as usize).div_ceil(8);
+                if length < least.len() {
+                    least = vec![0x80 | sign | scale << 2 | (count - 1)];
+                    least.extend(&exponent.to_be_bytes()[8 - usize::from(count)..]);
+                    least.extend(fewest_unsigned(mantissa));
+                }
+            }
+        }
+    }
+    Ok(least)
+}
+
 #[derive(Clone, PartialEq, Eq, Debug)]
 pub enum Oid {
     /// A number over 2,147,483,647 stands as `None`.
@@ -425,11 +455,18 @@ pub fn tagged(class: u8, constructed: bool, number: u64, content: &[u8]) -> Resu
     Ok(out)
 }
 
+/// How a real is spelt: `write_real` or `least_real`.
+pub type Spelling = fn(f64) -> Result<Vec<u8>, u8>;
+
 pub fn write_value(value: &Value) -> Result<Vec<u8>, u8> {
+    spell_value(value, write_real)
+}
+
+pub fn spell_value(value: &Value, spelling: Spelling) -> Result<Vec<u8>, u8> {
     let primitive = |number, content: &[u8]| tagged(UNIVERSAL, false, number, content);
     match value {
         Value::Integer(value) => primitive(INTEGER_TAG, &write_int(*value)),
-        Value::Real(value) => primitive(REAL_TAG, &write_real(*value)?),
+        Value::Real(value) => primitive(REAL_TAG, &spelling(*value)?),
         Value::Text(text) => primitive(TEXT_TAG, text),
         Value::Boolean(value) => primitive(BOOLEAN_TAG, &write_bool(*value)),
         Value::Octets(octets) => primitive(OCTETS_TAG, octets),
@@ -439,6 +476,40 @@ pub fn write_value(value: &Value) -> Result<Vec<u8>, u8> {
 #[cfg(test)]
 mod tests {
     use super::*;
+
+    #[test]
+    fn least_reals() {
+        let two = |power: i32| f64::powi(2.0, power);
+        // 2^128: the exponent takes two octets, but 7F and a mantissa of 2 take one less.
+        assert_eq!(write_real(two(128)).unwrap(), [0x81, 0x00, 0x80, 0x01]);
+        assert_eq!(least_real(two(128)).unwrap().len(), 3);
+        // The scale gives three more, the spare bits of the mantissa's first octet seven.
+        assert_eq!(least_real(two(137)).unwrap(), [0x8C, 0x7F, 0x80]);
+        assert_eq!(least_real(two(138)).unwrap().len(), 4);
+        assert_eq!(least_real(-255.0 * two(130)).unwrap(), [0xCC, 0x7F, 0xFF]);
+        assert_eq!(least_real(255.0 * two(131)).unwrap().len(), 4);
+        assert_eq!(least_real(two(127)).unwrap(), write_real(two(127)).unwrap());
+        for value in [0.0, f64::INFINITY, f64::NEG_INFINITY, two(-129), two(-128), f64::MAX, 5e-324, 0.1] {
+            assert_eq!(least_real(value), write_real(value));
+        }
+        assert_eq!((least_real(-0.0), least_real(f64::NAN)), (Err(OUT), Err(OUT)));
+    }
+
+    /// Every spelling of one to three octets: none is shorter than the least one of the double that it is read as.
+    #[test]
+    fn no_shorter_real() {
+        let mut shorter = 0;
+        for octets in (0..1u32 << 24).step_by(3) {
+            let octets = &octets.to_be_bytes()[1..];
+            if let Ok(value) = read_real(octets) {
+                let least = least_real(value).unwrap();
+                assert_eq!(read_real(&least).map(f64::to_bits), Ok(value.to_bits()));
+                assert!(least.len() <= 3, "{octets:02X?}");
+                shorter += usize::from(write_real(value).unwrap().len() > 3);
+            }
+        }
+        assert!(shorter > 100);
+    }
 
     /// P1 to P7 and the rest of 001's table.
     #[test]

@@ -2,6 +2,7 @@
 
 pub mod requests;
 pub mod rules;
+pub mod writes;
 
 use super::{bad_hex_line, chunked, chunked_in, frames, mutate_bytes, Random};
 use crate::framing::{packet, write_frame, write_keep_alive, write_message, MESSAGE_MAX};
@@ -689,6 +690,17 @@ fn of_kind(random: &mut Random, kind: usize) -> Vec<u8> {
                 message.splice(0..0, [0x60, 0x80, 0x6B, 0x80]);
             }
             message
+        }
+    }
+}
+
+/// A message that is read, and the tree that it is read as.
+pub fn messages_tree(random: &mut Random) -> (Vec<u8>, Tree) {
+    loop {
+        let kind = random.pick(&[0, 0, 0, 0, 0, 0, 1, 2, 4]);
+        let message = of_kind(random, kind);
+        if let Answer::Tree(tree) = read(&message, TABLE_MAX) {
+            return (message, tree);
         }
     }
 }

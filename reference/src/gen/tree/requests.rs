@@ -1,16 +1,17 @@
 //! Request lines of the program `tree`.
 
 use super::{
-    count_nodes, edge_octets, message, mutate_bytes, nth, root, rules, spell, spelt, tree, Content, Node, Random, Style,
+    count_nodes, edge_octets, message, mutate_bytes, nth, root, rules, spell, spelt, tree, writes, Content, Node, Random, Style,
 };
 use crate::framing::MESSAGE_MAX;
-use crate::gen::tree;
+use crate::gen::{rows, tree};
 use crate::lines::{digits, hex};
 use crate::tree::{read, Answer, INTEGER_TAG, OID_TAG, REAL_TAG, TABLE_MAX, TEXT_TAG};
-use crate::values::UNIVERSAL;
+use crate::tree_writer;
+use crate::values::{least_real, write_real, UNIVERSAL};
 
 /// Those of the messages, then those of the requests around them.
-pub const KINDS: [&str; 13] = [
+pub const KINDS: [&str; 15] = [
     tree::KINDS[0],
     tree::KINDS[1],
     tree::KINDS[2],
@@ -24,17 +25,23 @@ pub const KINDS: [&str; 13] = [
     "a message at its longest",
     "malformed",
     "one fault, pointed",
+    "to be written",
+    "to be written, around 16,384 bytes",
 ];
 const RULE: usize = 8;
 const TABLE: usize = 9;
 const LONGEST: usize = 10;
 const MALFORMED_KIND: usize = 11;
 const POINTED: usize = 12;
+const WRITTEN: usize = 13;
+const WRITTEN_LONG: usize = 14;
 
 /// Requests, drawn. It holds the messages of the rules, so that they are made once.
 pub struct Requests {
     random: Random,
     rules: Vec<Vec<u8>>,
+    /// What is to be written is drawn apart, so that the other requests do not depend on it.
+    writes: Option<Random>,
 }
 
 impl Requests {
@@ -42,11 +49,29 @@ impl Requests {
         let short = |case: &rules::Case| case.line.len() < 600;
         let message = |case: rules::Case| crate::tree_text::request(case.line.as_bytes()).map(|(_, message)| message);
         let rules = rules::cases().into_iter().filter(short).filter_map(message).collect();
-        Requests { random: Random::new(seed), rules }
+        Requests { random: Random::new(seed), rules, writes: None }
+    }
+
+    /// Requests to write among them, every second one.
+    pub fn with_writes(seed: u64) -> Requests {
+        Requests { writes: Some(Random::new(!seed)), ..Requests::new(seed) }
     }
 
     /// One request and the index of its kind.
     pub fn request(&mut self) -> (Vec<u8>, usize) {
+        let drawn = self.writes.as_mut().map_or(60, |random| random.below(60));
+        if let (0, Some(random)) = (drawn, &mut self.writes) {
+            return (longest_write(random), WRITTEN_LONG);
+        }
+        let (mut line, kind) = self.to_read();
+        if drawn < 30 && line.starts_with(b"read ") {
+            line.splice(..4, *b"write");
+            return (line, WRITTEN);
+        }
+        (line, kind)
+    }
+
+    fn to_read(&mut self) -> (Vec<u8>, usize) {
         let random = &mut self.random;
         let (message, kind) = match random.below(64) {
             0..=39 => message(random),
@@ -174,6 +199,13 @@ fn longest(random: &mut Random) -> Vec<u8> {
     message
 }
 
+/// A message whose written form has about 16,384 bytes, in that form or in the least one.
+fn longest_write(random: &mut Random) -> Vec<u8> {
+    let tree = rows::long(random, random.clone().pick(&[write_real as fn(f64) -> _, least_real]));
+    let message = tree_writer::spelt(&tree, random.pick(&[write_real as fn(f64) -> _, least_real])).unwrap_or_default();
+    format!("write {}", hex(&message)).into_bytes()
+}
+
 /// Lines that are no requests.
 const MALFORMED: &[&str] = &[
     "",
@@ -236,6 +268,30 @@ const MALFORMED: &[&str] = &[
     "read 1 6",
 ];
 
+/// Lines that ask for nothing to be written.
+const MALFORMED_WRITES: &[&str] = &[
+    "write",
+    "write ",
+    "write  60026B00",
+    "write 60026B00 ",
+    " write 60026B00",
+    "WRITE 60026B00",
+    "Write 60026B00",
+    "writ 60026B00",
+    "writes 60026B00",
+    "write60026B00",
+    "write 256 60026B00",
+    "write 60 02",
+    "write 6",
+    "write 60026B0G",
+    "write --",
+    "write - -",
+    "write -\r",
+    "write\t-",
+    "read write -",
+    "write read -",
+];
+
 /// Lines that look like something else and are requests.
 const ODD: &[&str] = &["read 60 02", "read 10", "read 0 -", "read 00", "read 300 -", "read 256 60026b00", "read 6 60026B00"];
 
@@ -266,8 +322,8 @@ fn too_long(digits: usize) -> Vec<u8> {
 }
 
 /// An input of `count` requests, and how many there are of each kind.
-pub fn input(seed: u64, count: usize) -> (Vec<u8>, [usize; KINDS.len()]) {
-    let mut requests = Requests::new(seed);
+pub fn input(seed: u64, count: usize, writes: bool) -> (Vec<u8>, [usize; KINDS.len()]) {
+    let mut requests = if writes { Requests::with_writes(seed) } else { Requests::new(seed) };
     let mut kinds = [0; KINDS.len()];
     let mut text = Vec::new();
     for _ in 0..count {
@@ -286,8 +342,9 @@ const WHOLE: [&str; 2] = [
 ];
 
 /// The stored input: every rule; two messages cut at every byte and with every bit changed; lines that are none; and
-/// drawn requests. The last line has no 0A.
-pub fn stored() -> Vec<u8> {
+/// drawn requests. The last line has no 0A. With `writes` the requests to write follow these: every rule, one of the
+/// messages above with every bit changed, lines that are none, and drawn ones.
+pub fn stored(writes: bool) -> Vec<u8> {
     let mut list: Vec<Vec<u8>> = rules::cases().into_iter().map(|case| case.line.into_bytes()).collect();
     for text in WHOLE {
         let message = rules::notation(text).0;
@@ -326,7 +383,35 @@ pub fn stored() -> Vec<u8> {
             drawn += 1;
         }
     }
+    if writes {
+        list.extend(stored_writes());
+    }
     list.join(&b'\n')
+}
+
+fn stored_writes() -> Vec<Vec<u8>> {
+    let mut list: Vec<Vec<u8>> = writes::cases().into_iter().map(|case| case.line.into_bytes()).collect();
+    for text in WHOLE {
+        let message = rules::notation(text).0;
+        list.push(format!("write {}", digits(&message).to_lowercase()).into_bytes());
+        for bit in 0..8 * message.len() {
+            let mut changed = message.clone();
+            changed[bit / 8] ^= 0x80 >> (bit % 8);
+            list.push(format!("write {}", digits(&changed)).into_bytes());
+        }
+    }
+    list.extend(MALFORMED_WRITES.iter().map(|line| line.as_bytes().to_vec()));
+    list.push(format!("write {}", "00".repeat(MESSAGE_MAX + 2)).into_bytes());
+    let mut requests = Requests::with_writes(302);
+    let mut drawn = 0;
+    while drawn < 400 {
+        let (line, kind) = requests.request();
+        if line.len() <= 600 && kind == WRITTEN {
+            list.push(line);
+            drawn += 1;
+        }
+    }
+    list
 }
 
 #[cfg(test)]
@@ -338,49 +423,74 @@ mod tests {
 
     #[test]
     fn malformed_lines_are_bad() {
-        for line in MALFORMED {
-            assert_eq!(answer(line.as_bytes()), "bad line\n", "{line:?}");
+        for line in MALFORMED.iter().chain(MALFORMED_WRITES) {
+            assert_eq!(answer(line.as_bytes(), false), "bad line\n", "{line:?}");
+            // One that asks for a reading is one to write too.
+            let written = line.strip_prefix("write ").is_some_and(|hex| hex == "60026B00");
+            assert_eq!(answer(line.as_bytes(), true) == "bad line\n", !written, "{line:?}");
         }
         for line in ODD {
-            assert_ne!(answer(line.as_bytes()), "bad line\n", "{line:?}");
+            assert_ne!(answer(line.as_bytes(), false), "bad line\n", "{line:?}");
         }
     }
 
     #[test]
     fn whole_messages_are_right() {
         for text in WHOLE {
-            let answer = answer(format!("read {}", digits(&rules::notation(text).0)).as_bytes());
+            let answer = answer(format!("read {}", digits(&rules::notation(text).0)).as_bytes(), false);
             assert!(answer.starts_with("0 elements 3\n"), "{answer}");
         }
     }
 
     #[test]
     fn stored_requests() {
-        let input = stored();
+        let input = stored(false);
         assert!(input.len() < 700_000, "{}", input.len());
         let mut seen: BTreeMap<String, usize> = BTreeMap::new();
         for line in lines(&input) {
-            let first = answer(line).lines().next().unwrap().to_string();
+            let first = answer(line, false).lines().next().unwrap().to_string();
             let word = if first == "bad line" { "bad line" } else { first.split(' ').next().unwrap() };
             *seen.entry(word.to_string()).or_default() += 1;
         }
         for word in ["0", "1", "30", "31", "32", "33", "34", "35", "36", "37", "38", "bad line"] {
             assert!(seen.get(word).is_some_and(|&count| count >= 10), "{word}: {seen:?}");
         }
-        println!("{} bytes, {} requests, {seen:?}, {} bytes out", input.len(), lines(&input).len(), trees(&input).len());
+        println!("{} bytes, {} requests, {seen:?}, {} bytes out", input.len(), lines(&input).len(), trees(&input, false).len());
+    }
+
+    /// The requests to read come first and are the same.
+    #[test]
+    fn stored_requests_to_write() {
+        let (before, input) = (stored(false), stored(true));
+        assert!(input.starts_with(&before));
+        let mut seen: BTreeMap<String, usize> = BTreeMap::new();
+        let more = stored_writes();
+        for line in &more {
+            *seen.entry(answer(line, true).split([' ', '\n']).next().unwrap().to_string()).or_default() += 1;
+        }
+        for word in ["0", "1", "30", "31", "32", "33", "34", "35", "36", "37", "38", "46", "bad"] {
+            assert!(seen.contains_key(word), "{word}: {seen:?}");
+        }
+        let (bytes, out) = (input.len() - before.len(), trees(&input, true).len() - trees(&before, true).len());
+        assert!(bytes < 600_000, "{bytes}");
+        println!("{bytes} bytes more, {} requests, {seen:?}, {out} bytes out", more.len());
     }
 
     #[test]
     fn drawn_requests_reach_every_number() {
-        let (text, kinds) = input(7, 4_000);
-        let mut seen: BTreeMap<String, usize> = BTreeMap::new();
-        for line in lines(&text) {
-            *seen.entry(answer(line).split([' ', '\n']).next().unwrap().to_string()).or_default() += 1;
+        for writes in [false, true] {
+            let (text, kinds) = input(7, 4_000, writes);
+            let mut seen: BTreeMap<String, usize> = BTreeMap::new();
+            for line in lines(&text) {
+                *seen.entry(answer(line, writes).split([' ', '\n']).next().unwrap().to_string()).or_default() += 1;
+            }
+            for word in ["0", "1", "30", "31", "32", "33", "34", "35", "36", "37", "38", "bad"] {
+                assert!(seen.contains_key(word), "{word}: {seen:?}");
+            }
+            assert_eq!(seen.contains_key("46"), writes);
+            assert!(kinds[..WRITTEN].iter().all(|&count| count > 0), "{kinds:?}");
+            assert!(kinds[WRITTEN..].iter().all(|&count| (count > 0) == writes), "{kinds:?}");
+            println!("{} bytes, {kinds:?}, {seen:?}", text.len());
         }
-        for word in ["0", "1", "30", "31", "32", "33", "34", "35", "36", "37", "38", "bad"] {
-            assert!(seen.contains_key(word), "{word}: {seen:?}");
-        }
-        assert!(kinds.iter().all(|&count| count > 0), "{kinds:?}");
-        println!("{} bytes, {kinds:?}, {seen:?}", text.len());
     }
 }

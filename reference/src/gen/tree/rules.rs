@@ -91,51 +91,51 @@ fn length_octets(length: usize, count: usize) -> Vec<u8> {
 }
 
 /// An element alone in Root.
-fn item(element: &str) -> String {
+pub(super) fn item(element: &str) -> String {
     format!("60{{6B{{A0{{{element}}}}}}}")
 }
 
 /// Number 1, then the given members, in an element with that tag.
-fn element(tag: &str, members: &str) -> String {
+pub(super) fn element(tag: &str, members: &str) -> String {
     item(&format!("{tag}{{A0{{020101}}{members}}}"))
 }
 
 /// Contents of an element with that tag.
-fn contents(tag: &str, members: &str) -> String {
+pub(super) fn contents(tag: &str, members: &str) -> String {
     element(tag, &format!("A1{{31{{{members}}}}}"))
 }
 
 /// Children of node 1.
-fn children(items: &str) -> String {
+pub(super) fn children(items: &str) -> String {
     element("63", &format!("A2{{64{{{items}}}}}"))
 }
 
 /// Connections of matrix 1.
-fn connections(items: &str) -> String {
+pub(super) fn connections(items: &str) -> String {
     element("6D", &format!("A5{{30{{{items}}}}}"))
 }
 
 /// One connection with those members.
-fn connection(members: &str) -> String {
+pub(super) fn connection(members: &str) -> String {
     connections(&format!("A0{{70{{{members}}}}}"))
 }
 
 /// A stream entry alone in Root.
-fn stream(members: &str) -> String {
+pub(super) fn stream(members: &str) -> String {
     format!("60{{65{{A0{{66{{{members}}}}}}}}}")
 }
 
-fn integer(value: i64) -> String {
+pub(super) fn integer(value: i64) -> String {
     primitive("02", &digits(&write_int(value)))
 }
 
-fn primitive(tag: &str, octets: &str) -> String {
+pub(super) fn primitive(tag: &str, octets: &str) -> String {
     format!("{tag}{{{octets}}}")
 }
 
 /// Nodes below each other, all of them indefinite, and `last` in the lowest after its number. The element on level
 /// n is the container 4n.
-fn nest(levels: usize, last: &str) -> String {
+pub(super) fn nest(levels: usize, last: &str) -> String {
     let open = "A0[63[A0{020101}A2[64[".repeat(levels - 1);
     let close = "]".repeat(4 * (levels - 1));
     format!("60[6B[{open}A0[63[A0{{020101}}{last}]]{close}]]")
@@ -1052,7 +1052,7 @@ mod tests {
     fn each_rule_gives_its_answer() {
         let mut wrong = 0;
         for case in cases() {
-            let answer = answer(case.line.as_bytes());
+            let answer = answer(case.line.as_bytes(), false);
             let right = if case.expected.ends_with('\n') {
                 answer == case.expected
             } else {
