@@ -148,7 +148,8 @@ module _ (s : List ℕ) (p : ℕ) (o : Open) (k : ℕ) (room : 2 ≤ k) (h : Pai
   entered = enter-here s p o k (h .outer o refl) (deep-room _ k (λ (z : k ≡ 0). omega arith))
 
   found : firstAt s (p + 2) inside (k - 1) ≡ Value value
-  found = first-here s (p + 2) inside (k - 1) (h .inner) (eq-eqb (inside .definite) (inside .definite) refl) (deep-room _ (k - 1) (λ (z : k - 1 ≡ 0). omega arith))
+  found = first-here s (p + 2) inside (k - 1) (h .inner) (eq-eqb (inside .definite) (inside .definite) refl) (deep-room _ (k - 1) (λ
+      (z : k - 1 ≡ 0). omega arith))
 
 -- the tags of contents and of collections
 body-tag : (what b start : ℕ) (x : Open) → what ≡ 13 → b ≡ 49 → isTag (tagIn b start x) (innerClass what) 1 (innerNumber what) ≡ true

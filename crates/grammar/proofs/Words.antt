@@ -69,7 +69,8 @@ module _ (s : List ℕ) (number start len what : ℕ) (h : leb (start + len) (le
   pub told-name : {r : ℕ} → number ≡ 12 → what ≡ 1 → isName (take len (drop start s)) ≡ true → r ≡ start → LeafTold s number start len what r
   unfolding cellBy
   told-name e w n q at above =
-      text at above e (expects-text 12 what (omega arith)) ∙ ap (judged s at what above) (sym (content-text s at number start len e h)) ∙ text-name s at what above start len w n ∙ rw (e, q)
+      text at above e (expects-text 12 what (omega arith)) ∙ ap (judged s at what above) (sym (content-text s at number start len e h))
+      ∙ text-name s at what above start len w n ∙ rw (e, q)
 
   pub told-text : {r : ℕ} → number ≡ 12 → what ≡ 2 → r ≡ start → LeafTold s number start len what r
   unfolding cellBy

@@ -106,7 +106,8 @@ over-over-requires t c κs =
     let the-short = c .before .before .before .before .before .before .before .short in
     let the-if2 = c .before .before .before .before .before .before .if2 in
     let the-short-tag = c .before .before .before .before .short-tag in
-    let e = short-here _ _ (record { definite = the-Start .args .definite; end = the-Start .args .end }) (the-short .ensures (the-if2 .taken)) (the-short-tag .ensures) in
+    let e = short-here _ _ (record { definite = the-Start .args .definite; end = the-Start .args .end }) (the-short .ensures (the-if2 .taken))
+    (the-short-tag .ensures) in
     let a = ahead-of _ _ _ e in
     let i = the-loop .inv in
     let q = the-Start in
@@ -124,7 +125,8 @@ over-loop-less t c =
     let the-short-tag = c .before .before .before .before .before .before .short-tag in
     let the-over = c .before .over in
     let the-if5 = c .if5 in
-    let e = short-here _ _ (record { definite = the-Start .args .definite; end = the-Start .args .end }) (the-short .ensures (the-if2 .taken)) (the-short-tag .ensures) in
+    let e = short-here _ _ (record { definite = the-Start .args .definite; end = the-Start .args .end }) (the-short .ensures (the-if2 .taken))
+    (the-short-tag .ensures) in
     let a = ahead-of _ _ _ e in
     let i = the-loop .inv in
     let r = the-over .ensures (the-if5 .left) in
@@ -156,7 +158,8 @@ over-loop-less-2 t c =
     let the-short = c .before .before .before .before .before .before .before .before .short in
     let the-if2 = c .before .before .before .before .before .before .before .if2 in
     let the-short-tag = c .before .before .before .before .before .short-tag in
-    let e = short-here _ _ (record { definite = the-Start .args .definite; end = the-Start .args .end }) (the-short .ensures (the-if2 .taken)) (the-short-tag .ensures) in
+    let e = short-here _ _ (record { definite = the-Start .args .definite; end = the-Start .args .end }) (the-short .ensures (the-if2 .taken))
+    (the-short-tag .ensures) in
     let a = ahead-of _ _ _ e in
     let i = the-loop .inv in
     omega (arith, a .within, a .later, a .opens)
@@ -173,7 +176,8 @@ over-loop-again-2 t c =
     let a = ahead-of _ _ _ e in
     let i = the-loop .inv in (
       omega (arith, i .0, a .later, a .opens),
-      λ x h. i .1 x (through-past _ _ _ _ (cross-past _ _ _ _ e (the-if3 .left) (skip-next _ _ (the-if6 .left))) (a .within) (omega (arith, a .later, a .opens)) h),
+      λ x h. i .1 x (through-past _ _ _ _ (cross-past _ _ _ _ e (the-if3 .left) (skip-next _ _ (the-if6 .left))) (a .within) (omega
+          (arith, a .later, a .opens)) h),
     )
 
 over-standing-requires : (t : ℕ) → over-lts.Need-standing-requires (over-calls t) (over-at t) over.Post over-Inv-loop over-μ-loop
@@ -269,7 +273,8 @@ over-loop-again-4 t c =
     let a = ahead-of _ _ _ e in
     let i = the-loop .inv in (
       omega (arith, i .0, a .later, a .opens),
-      λ x h. i .1 x (through-past _ _ _ _ (cross-past _ _ _ _ e (the-if7 .left) (skip-next _ _ (the-if10 .left))) (a .within) (omega (arith, a .later, a .opens)) h),
+      λ x h. i .1 x (through-past _ _ _ _ (cross-past _ _ _ _ e (the-if7 .left) (skip-next _ _ (the-if10 .left))) (a .within) (omega
+          (arith, a .later, a .opens)) h),
     )
 
 pub +over-spec : {M : Type 1} → statement M

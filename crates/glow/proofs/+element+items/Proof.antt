@@ -163,7 +163,8 @@ element-returns t c =
     let the-if2 = c .if2 in
     let z = the-shut .ensures (the-if1 .taken) in
     let i = the-loop .inv in (
-      λ es base f h. held-no _ _ _ _ _ _ _ _ (i .held es base f h) (member-due _ _ _ _ _ _ _ (enter-ended _ _ _ _ (z .0)) (the-is-due .ensures ∙ the-if2 .taken)),
+      λ es base f h. held-no _ _ _ _ _ _ _ _ (i .held es base f h) (member-due _ _ _ _ _ _ _ (enter-ended _ _ _ _ (z .0)) (the-is-due .ensures
+          ∙ the-if2 .taken)),
       tt,
     )
 
@@ -179,14 +180,16 @@ element-returns-2 t c =
     let the-if2 = c .if2 in
     let z = the-shut .ensures (the-if1 .taken) in
     let i = the-loop .inv in (
-      λ es base f h. held-done _ _ _ _ _ _ _ _ (i .held es base f h) (member-done _ _ _ _ _ _ _ (enter-ended _ _ _ _ (z .0)) (the-is-due .ensures ∙ the-if2 .left)),
+      λ es base f h. held-done _ _ _ _ _ _ _ _ (i .held es base f h) (member-done _ _ _ _ _ _ _ (enter-ended _ _ _ _ (z .0)) (the-is-due .ensures
+          ∙ the-if2 .left)),
       (omega (arith, i .onward, z .1), (omega (arith, i .enough, z .1), i .later)),
     )
 
 element-rule-at-requires : (t : ℕ) → element-lts.Need-rule-at-requires (element-calls t) (element-at t) element.Post element-Inv-loop element-μ-loop
 element-rule-at-requires t c κs = search needs
 
-element-shared-slice-read-wide : (t : ℕ) → element-lts.Need-shared-slice-read-wide (element-calls t) (element-at t) element.Post element-Inv-loop element-μ-loop
+element-shared-slice-read-wide : (t : ℕ) → element-lts.Need-shared-slice-read-wide (element-calls t)
+    (element-at t) element.Post element-Inv-loop element-μ-loop
 element-shared-slice-read-wide t c =
     let the-rule-at = c .before .before .rule-at in
     let the-if3 = c .before .if3 in
@@ -210,7 +213,8 @@ element-add-size t c =
     let h = the-rule-at .ensures (the-if3 .taken) in
     let q = h .pair .inside in omega (arith, q)
 
-element-shared-slice-read-size : (t : ℕ) → element-lts.Need-shared-slice-read-size (element-calls t) (element-at t) element.Post element-Inv-loop element-μ-loop
+element-shared-slice-read-size : (t : ℕ) → element-lts.Need-shared-slice-read-size (element-calls t)
+    (element-at t) element.Post element-Inv-loop element-μ-loop
 element-shared-slice-read-size t c =
     let the-rule-at = c .before .before .before .before .rule-at in
     let the-if3 = c .before .before .before .if3 in
@@ -235,7 +239,8 @@ element-add-wide t c =
     let h = the-rule-at .ensures (the-if3 .taken) in
     let q = h .pair .inside in omega (arith, q)
 
-element-shared-slice-read-wide-2 : (t : ℕ) → element-lts.Need-shared-slice-read-wide-2 (element-calls t) (element-at t) element.Post element-Inv-loop element-μ-loop
+element-shared-slice-read-wide-2 : (t : ℕ) → element-lts.Need-shared-slice-read-wide-2 (element-calls t)
+    (element-at t) element.Post element-Inv-loop element-μ-loop
 element-shared-slice-read-wide-2 t c =
     let the-rule-at = c .before .before .before .before .before .before .before .before .rule-at in
     let the-if3 = c .before .before .before .before .before .before .before .if3 in
@@ -264,7 +269,8 @@ element-put-cell-requires t c κs = search needs
 
 element-add-p : (t : ℕ) → element-lts.Need-add-p (element-calls t) (element-at t) element.Post element-Inv-loop element-μ-loop
 element-add-p t c =
-    let the-rule-at = c .before .before .before .before .before .before .before .before .before .before .before .before .before .before .before .before .rule-at in
+    let the-rule-at = c .before .before .before .before .before .before .before .before
+    .before .before .before .before .before .before .before .before .rule-at in
     let the-if3 = c .before .before .before .before .before .before .before .before .before .before .before .before .before .before .before .if3 in
     let the-size = c .before .before .before .before .before .before .before .before .before .before .before .size in
     let the-if4 = c .before .before .before .before .before .before .before .before .before .if4 in
@@ -276,16 +282,20 @@ element-add-p t c =
 
 element-loop-less : (t : ℕ) → element-lts.Need-loop-less (element-calls t) (element-at t) element.Post element-Inv-loop element-μ-loop
 element-loop-less t c =
-    let the-rule-at = c .before .before .before .before .before .before .before .before .before .before .before .before .before .before .before .before .rule-at in
+    let the-rule-at = c .before .before .before .before .before .before .before .before
+    .before .before .before .before .before .before .before .before .rule-at in
     let the-if3 = c .before .before .before .before .before .before .before .before .before .before .before .before .before .before .before .if3 in
     let h = the-rule-at .ensures (the-if3 .taken) in
     let q = h .pair .inside in omega (arith, q)
 
 element-loop-again : (t : ℕ) → element-lts.Need-loop-again (element-calls t) (element-at t) element.Post element-Inv-loop element-μ-loop
 element-loop-again t c =
-    let the-Start = c .before .before .before .before .before .before .before .before .before .before .before .before .before .before .before .before .before .before .before .before .before in
-    let the-loop = c .before .before .before .before .before .before .before .before .before .before .before .before .before .before .before .before .before .before .before .loop in
-    let the-rule-at = c .before .before .before .before .before .before .before .before .before .before .before .before .before .before .before .before .rule-at in
+    let the-Start = c .before .before .before .before .before .before .before .before .before .before
+    .before .before .before .before .before .before .before .before .before .before .before in
+    let the-loop = c .before .before .before .before .before .before .before .before .before
+    .before .before .before .before .before .before .before .before .before .before .loop in
+    let the-rule-at = c .before .before .before .before .before .before .before .before
+    .before .before .before .before .before .before .before .before .rule-at in
     let the-if3 = c .before .before .before .before .before .before .before .before .before .before .before .before .before .before .before .if3 in
     let the-wide = c .before .before .before .before .before .before .before .before .before .before .before .before .before .wide in
     let the-size = c .before .before .before .before .before .before .before .before .before .before .before .size in
@@ -309,7 +319,8 @@ element-loop-again t c =
       held = λ es base f g.
           held-leaf _ _ _ _ _ _ _ _ (i .held es base f g)
           (quick-kept _ _ _ _ _ _ _ _ h (the-if3 .taken) (the-wide .ensures .0) (the-size .ensures) (the-after-listed .ensures) (the-if4 .taken)
-          (the-wide2 .ensures .0) (the-column-of .ensures) (the-word-of .ensures (the-if5 .taken) _ _ ∙ ap (λ (y : Cell). Kept y (the-loop .above)) (the-worded .ensures)))
+          (the-wide2 .ensures .0) (the-column-of .ensures) (the-word-of .ensures (the-if5 .taken) _ _ ∙ ap (λ (y : Cell). Kept y (the-loop .above))
+          (the-worded .ensures)))
           (omega (arith, w)) (omega arith) (omega (arith, i .later, q .0)) (the-put-cell .ensures);
     }
 
@@ -331,7 +342,8 @@ element-same-length-3 t c = search needs
 
 element-returns-3 : (t : ℕ) → element-lts.Need-returns-3 (element-calls t) (element-at t) element.Post element-Inv-loop element-μ-loop
 element-returns-3 t c =
-    let the-loop = c .before .before .before .before .before .before .before .before .before .before .before .before .before .before .before .before .before .before .loop in
+    let the-loop = c .before .before .before .before .before .before .before .before .before
+    .before .before .before .before .before .before .before .before .before .loop in
     let the-rule-at = c .before .before .before .before .before .before .before .before .before .before .before .before .before .before .before .rule-at in
     let the-if3 = c .before .before .before .before .before .before .before .before .before .before .before .before .before .before .if3 in
     let the-wide = c .before .before .before .before .before .before .before .before .before .before .before .before .wide in
@@ -354,7 +366,8 @@ element-enum-known-v t c = search needs
 
 element-column-of-requires-2 : (t : ℕ) → element-lts.Need-column-of-requires-2 (element-calls t) (element-at t) element.Post element-Inv-loop element-μ-loop
 element-column-of-requires-2 t c κs =
-    let the-rule-at = c .before .before .before .before .before .before .before .before .before .before .before .before .before .before .before .before .rule-at in
+    let the-rule-at = c .before .before .before .before .before .before .before .before
+    .before .before .before .before .before .before .before .before .rule-at in
     let the-if3 = c .before .before .before .before .before .before .before .before .before .before .before .before .before .before .before .if3 in
     let the-wide = c .before .before .before .before .before .before .before .before .before .before .before .before .before .wide in
     let h = the-rule-at .ensures (the-if3 .taken) in
@@ -365,8 +378,10 @@ element-put-cell-requires-2 t c κs = search needs
 
 element-add-p-2 : (t : ℕ) → element-lts.Need-add-p-2 (element-calls t) (element-at t) element.Post element-Inv-loop element-μ-loop
 element-add-p-2 t c =
-    let the-rule-at = c .before .before .before .before .before .before .before .before .before .before .before .before .before .before .before .before .before .before .before .rule-at in
-    let the-if3 = c .before .before .before .before .before .before .before .before .before .before .before .before .before .before .before .before .before .before .if3 in
+    let the-rule-at = c .before .before .before .before .before .before .before .before .before
+    .before .before .before .before .before .before .before .before .before .before .rule-at in
+    let the-if3 = c .before .before .before .before .before .before .before .before .before
+    .before .before .before .before .before .before .before .before .before .if3 in
     let the-size = c .before .before .before .before .before .before .before .before .before .before .before .before .before .before .size in
     let the-if4 = c .before .before .before .before .before .before .before .before .before .before .before .before .if4 in
     let h = the-rule-at .ensures (the-if3 .taken) in
@@ -377,17 +392,23 @@ element-add-p-2 t c =
 
 element-loop-less-2 : (t : ℕ) → element-lts.Need-loop-less-2 (element-calls t) (element-at t) element.Post element-Inv-loop element-μ-loop
 element-loop-less-2 t c =
-    let the-rule-at = c .before .before .before .before .before .before .before .before .before .before .before .before .before .before .before .before .before .before .before .rule-at in
-    let the-if3 = c .before .before .before .before .before .before .before .before .before .before .before .before .before .before .before .before .before .before .if3 in
+    let the-rule-at = c .before .before .before .before .before .before .before .before .before
+    .before .before .before .before .before .before .before .before .before .before .rule-at in
+    let the-if3 = c .before .before .before .before .before .before .before .before .before
+    .before .before .before .before .before .before .before .before .before .if3 in
     let h = the-rule-at .ensures (the-if3 .taken) in
     let q = h .pair .inside in omega (arith, q)
 
 element-loop-again-2 : (t : ℕ) → element-lts.Need-loop-again-2 (element-calls t) (element-at t) element.Post element-Inv-loop element-μ-loop
 element-loop-again-2 t c =
-    let the-Start = c .before .before .before .before .before .before .before .before .before .before .before .before .before .before .before .before .before .before .before .before .before .before .before .before in
-    let the-loop = c .before .before .before .before .before .before .before .before .before .before .before .before .before .before .before .before .before .before .before .before .before .before .loop in
-    let the-rule-at = c .before .before .before .before .before .before .before .before .before .before .before .before .before .before .before .before .before .before .before .rule-at in
-    let the-if3 = c .before .before .before .before .before .before .before .before .before .before .before .before .before .before .before .before .before .before .if3 in
+    let the-Start = c .before .before .before .before .before .before .before .before .before .before .before .before
+    .before .before .before .before .before .before .before .before .before .before .before .before in
+    let the-loop = c .before .before .before .before .before .before .before .before .before .before .before
+    .before .before .before .before .before .before .before .before .before .before .before .loop in
+    let the-rule-at = c .before .before .before .before .before .before .before .before .before
+    .before .before .before .before .before .before .before .before .before .before .rule-at in
+    let the-if3 = c .before .before .before .before .before .before .before .before .before
+    .before .before .before .before .before .before .before .before .before .if3 in
     let the-wide = c .before .before .before .before .before .before .before .before .before .before .before .before .before .before .before .before .wide in
     let the-size = c .before .before .before .before .before .before .before .before .before .before .before .before .before .before .size in
     let the-after-listed = c .before .before .before .before .before .before .before .before .before .before .before .before .before .after-listed in
@@ -459,14 +480,17 @@ element-enum-known-e t c = search needs
 
 element-same-length-4 : (t : ℕ) → element-lts.Need-same-length-4 (element-calls t) (element-at t) element.Post element-Inv-loop element-μ-loop
 element-same-length-4 t c =
-    let the-loop = c .before .before .before .before .before .before .before .before .before .before .before .before .before .before .before .before .before .before .before .before .loop in
+    let the-loop = c .before .before .before .before .before .before .before .before .before .before
+    .before .before .before .before .before .before .before .before .before .before .loop in
     let the-element = c .before .before .before .before .before .element in
     the-element .kept .1 .1 .1 .1 .1 .1 .1 .1 .0 ∙ the-loop .inv .same
 
 element-returns-4 : (t : ℕ) → element-lts.Need-returns-4 (element-calls t) (element-at t) element.Post element-Inv-loop element-μ-loop
 element-returns-4 t c =
-    let the-loop = c .before .before .before .before .before .before .before .before .before .before .before .before .before .before .before .before .before .before .before .before .loop in
-    let the-rule-at = c .before .before .before .before .before .before .before .before .before .before .before .before .before .before .before .before .before .rule-at in
+    let the-loop = c .before .before .before .before .before .before .before .before .before .before
+    .before .before .before .before .before .before .before .before .before .before .loop in
+    let the-rule-at = c .before .before .before .before .before .before .before .before
+    .before .before .before .before .before .before .before .before .before .rule-at in
     let the-if3 = c .before .before .before .before .before .before .before .before .before .before .before .before .before .before .before .before .if3 in
     let the-wide = c .before .before .before .before .before .before .before .before .before .before .before .before .before .before .wide in
     let the-size = c .before .before .before .before .before .before .before .before .before .before .before .before .size in
@@ -483,7 +507,8 @@ element-returns-4 t c =
     let r = h .room in (
       λ es base f g.
           held-contents-no _ _ _ _ _ _ _ _ (i .held es base f g)
-          (quick-contents _ _ _ _ _ _ _ _ h (the-if3 .taken) (the-wide .ensures .0) (the-size .ensures) (the-after-listed .ensures) (the-opened .ensures) (the-if6 .taken))
+          (quick-contents _ _ _ _ _ _ _ _ h (the-if3 .taken) (the-wide .ensures .0) (the-size .ensures) (the-after-listed .ensures)
+          (the-opened .ensures) (the-if6 .taken))
           (omega (arith, w)) (omega arith) (omega (arith, r)) (the-contents-of .ensures) (the-element .ensures .0) (the-close .ensures .0) (the-e .given .1),
       tt,
     )
@@ -493,8 +518,10 @@ element-enum-known-next t c = search needs
 
 element-loop-less-3 : (t : ℕ) → element-lts.Need-loop-less-3 (element-calls t) (element-at t) element.Post element-Inv-loop element-μ-loop
 element-loop-less-3 t c =
-    let the-loop = c .before .before .before .before .before .before .before .before .before .before .before .before .before .before .before .before .before .before .before .before .loop in
-    let the-rule-at = c .before .before .before .before .before .before .before .before .before .before .before .before .before .before .before .before .before .rule-at in
+    let the-loop = c .before .before .before .before .before .before .before .before .before .before
+    .before .before .before .before .before .before .before .before .before .before .loop in
+    let the-rule-at = c .before .before .before .before .before .before .before .before
+    .before .before .before .before .before .before .before .before .before .rule-at in
     let the-if3 = c .before .before .before .before .before .before .before .before .before .before .before .before .before .before .before .before .if3 in
     let the-element = c .before .before .before .before .before .element in
     let the-close = c .before .before .before .close in
@@ -508,8 +535,10 @@ element-loop-less-3 t c =
 
 element-loop-again-3 : (t : ℕ) → element-lts.Need-loop-again-3 (element-calls t) (element-at t) element.Post element-Inv-loop element-μ-loop
 element-loop-again-3 t c =
-    let the-loop = c .before .before .before .before .before .before .before .before .before .before .before .before .before .before .before .before .before .before .before .before .loop in
-    let the-rule-at = c .before .before .before .before .before .before .before .before .before .before .before .before .before .before .before .before .before .rule-at in
+    let the-loop = c .before .before .before .before .before .before .before .before .before .before
+    .before .before .before .before .before .before .before .before .before .before .loop in
+    let the-rule-at = c .before .before .before .before .before .before .before .before
+    .before .before .before .before .before .before .before .before .before .rule-at in
     let the-if3 = c .before .before .before .before .before .before .before .before .before .before .before .before .before .before .before .before .if3 in
     let the-wide = c .before .before .before .before .before .before .before .before .before .before .before .before .before .before .wide in
     let the-size = c .before .before .before .before .before .before .before .before .before .before .before .before .size in
@@ -532,8 +561,10 @@ element-loop-again-3 t c =
       same = the-element .kept .1 .1 .1 .1 .1 .1 .1 .1 .0 ∙ i .same;
       held = λ es base f g.
           held-contents _ _ _ _ _ _ _ _ (i .held es base f g)
-          (quick-contents _ _ _ _ _ _ _ _ h (the-if3 .taken) (the-wide .ensures .0) (the-size .ensures) (the-after-listed .ensures) (the-opened .ensures) (the-if6 .taken))
-          (omega (arith, w)) (omega arith) (omega (arith, r)) (the-contents-of .ensures) (the-element .ensures .0) (the-close .ensures .0) (the-next .given .1)
+          (quick-contents _ _ _ _ _ _ _ _ h (the-if3 .taken) (the-wide .ensures .0) (the-size .ensures) (the-after-listed .ensures)
+          (the-opened .ensures) (the-if6 .taken))
+          (omega (arith, w)) (omega arith) (omega (arith, r)) (the-contents-of .ensures) (the-element .ensures .0) (the-close .ensures .0)
+          (the-next .given .1)
           (omega (arith, n .0));
     }
 
@@ -544,7 +575,8 @@ element-sub-items t c =
     let h = the-rule-at .ensures (the-if3 .taken) in
     h .room
 
-element-collection-of-requires : (t : ℕ) → element-lts.Need-collection-of-requires (element-calls t) (element-at t) element.Post element-Inv-loop element-μ-loop
+element-collection-of-requires : (t : ℕ) → element-lts.Need-collection-of-requires (element-calls t)
+    (element-at t) element.Post element-Inv-loop element-μ-loop
 element-collection-of-requires t c κs = search needs
 
 element-items-requires : (t : ℕ) → element-lts.Need-items-requires (element-calls t) (element-at t) element.Post element-Inv-loop element-μ-loop
@@ -574,14 +606,17 @@ element-enum-known-e-2 t c = search needs
 
 element-same-length-5 : (t : ℕ) → element-lts.Need-same-length-5 (element-calls t) (element-at t) element.Post element-Inv-loop element-μ-loop
 element-same-length-5 t c =
-    let the-loop = c .before .before .before .before .before .before .before .before .before .before .before .before .before .before .before .before .before .before .before .before .loop in
+    let the-loop = c .before .before .before .before .before .before .before .before .before .before
+    .before .before .before .before .before .before .before .before .before .before .loop in
     let the-items = c .before .before .before .before .before .items in
     the-items .kept .1 .1 .1 .1 .1 .1 .1 .1 .0 ∙ the-loop .inv .same
 
 element-returns-5 : (t : ℕ) → element-lts.Need-returns-5 (element-calls t) (element-at t) element.Post element-Inv-loop element-μ-loop
 element-returns-5 t c =
-    let the-loop = c .before .before .before .before .before .before .before .before .before .before .before .before .before .before .before .before .before .before .before .before .loop in
-    let the-rule-at = c .before .before .before .before .before .before .before .before .before .before .before .before .before .before .before .before .before .rule-at in
+    let the-loop = c .before .before .before .before .before .before .before .before .before .before
+    .before .before .before .before .before .before .before .before .before .before .loop in
+    let the-rule-at = c .before .before .before .before .before .before .before .before
+    .before .before .before .before .before .before .before .before .before .rule-at in
     let the-if3 = c .before .before .before .before .before .before .before .before .before .before .before .before .before .before .before .before .if3 in
     let the-wide = c .before .before .before .before .before .before .before .before .before .before .before .before .before .before .wide in
     let the-size = c .before .before .before .before .before .before .before .before .before .before .before .before .size in
@@ -610,8 +645,10 @@ element-enum-known-next-2 t c = search needs
 
 element-loop-less-4 : (t : ℕ) → element-lts.Need-loop-less-4 (element-calls t) (element-at t) element.Post element-Inv-loop element-μ-loop
 element-loop-less-4 t c =
-    let the-loop = c .before .before .before .before .before .before .before .before .before .before .before .before .before .before .before .before .before .before .before .before .loop in
-    let the-rule-at = c .before .before .before .before .before .before .before .before .before .before .before .before .before .before .before .before .before .rule-at in
+    let the-loop = c .before .before .before .before .before .before .before .before .before .before
+    .before .before .before .before .before .before .before .before .before .before .loop in
+    let the-rule-at = c .before .before .before .before .before .before .before .before
+    .before .before .before .before .before .before .before .before .before .rule-at in
     let the-if3 = c .before .before .before .before .before .before .before .before .before .before .before .before .before .before .before .before .if3 in
     let the-items = c .before .before .before .before .before .items in
     let the-close2 = c .before .before .before .close2 in
@@ -625,8 +662,10 @@ element-loop-less-4 t c =
 
 element-loop-again-4 : (t : ℕ) → element-lts.Need-loop-again-4 (element-calls t) (element-at t) element.Post element-Inv-loop element-μ-loop
 element-loop-again-4 t c =
-    let the-loop = c .before .before .before .before .before .before .before .before .before .before .before .before .before .before .before .before .before .before .before .before .loop in
-    let the-rule-at = c .before .before .before .before .before .before .before .before .before .before .before .before .before .before .before .before .before .rule-at in
+    let the-loop = c .before .before .before .before .before .before .before .before .before .before
+    .before .before .before .before .before .before .before .before .before .before .loop in
+    let the-rule-at = c .before .before .before .before .before .before .before .before
+    .before .before .before .before .before .before .before .before .before .rule-at in
     let the-if3 = c .before .before .before .before .before .before .before .before .before .before .before .before .before .before .before .before .if3 in
     let the-wide = c .before .before .before .before .before .before .before .before .before .before .before .before .before .before .wide in
     let the-size = c .before .before .before .before .before .before .before .before .before .before .before .before .size in
@@ -753,7 +792,8 @@ element-enum-known-after-3 t c = search needs
 element-less-requires : (t : ℕ) → element-lts.Need-less-requires (element-calls t) (element-at t) element.Post element-Inv-loop element-μ-loop
 element-less-requires t c κs = search needs
 
-element-contents-of-requires-2 : (t : ℕ) → element-lts.Need-contents-of-requires-2 (element-calls t) (element-at t) element.Post element-Inv-loop element-μ-loop
+element-contents-of-requires-2 : (t : ℕ) → element-lts.Need-contents-of-requires-2 (element-calls t)
+    (element-at t) element.Post element-Inv-loop element-μ-loop
 element-contents-of-requires-2 t c κs = search needs
 
 element-element-requires-2 : (t : ℕ) → element-lts.Need-element-requires-2 (element-calls t) (element-at t) element.Post element-Inv-loop element-μ-loop
@@ -775,13 +815,15 @@ element-enum-known-e-4 t c = search needs
 
 element-same-length-8 : (t : ℕ) → element-lts.Need-same-length-8 (element-calls t) (element-at t) element.Post element-Inv-loop element-μ-loop
 element-same-length-8 t c =
-    let the-loop = c .before .before .before .before .before .before .before .before .before .before .before .before .before .before .before .before .before .loop in
+    let the-loop = c .before .before .before .before .before .before .before .before
+    .before .before .before .before .before .before .before .before .before .loop in
     let the-element2 = c .before .before .before .before .before .element2 in
     the-element2 .kept .1 .1 .1 .1 .1 .1 .1 .1 .0 ∙ the-loop .inv .same
 
 element-returns-8 : (t : ℕ) → element-lts.Need-returns-8 (element-calls t) (element-at t) element.Post element-Inv-loop element-μ-loop
 element-returns-8 t c =
-    let the-loop = c .before .before .before .before .before .before .before .before .before .before .before .before .before .before .before .before .before .loop in
+    let the-loop = c .before .before .before .before .before .before .before .before
+    .before .before .before .before .before .before .before .before .before .loop in
     let the-member-at = c .before .before .before .before .before .before .before .before .before .before .before .before .member-at in
     let the-after3 = c .before .before .before .before .before .before .before .before .before .before .after3 in
     let the-less = c .before .before .before .before .before .before .before .before .less in
@@ -813,7 +855,8 @@ element-loop-less-7 t c =
 
 element-loop-again-7 : (t : ℕ) → element-lts.Need-loop-again-7 (element-calls t) (element-at t) element.Post element-Inv-loop element-μ-loop
 element-loop-again-7 t c =
-    let the-loop = c .before .before .before .before .before .before .before .before .before .before .before .before .before .before .before .before .before .loop in
+    let the-loop = c .before .before .before .before .before .before .before .before
+    .before .before .before .before .before .before .before .before .before .loop in
     let the-member-at = c .before .before .before .before .before .before .before .before .before .before .before .before .member-at in
     let the-after3 = c .before .before .before .before .before .before .before .before .before .before .after3 in
     let the-less = c .before .before .before .before .before .before .before .before .less in
@@ -1060,7 +1103,8 @@ items-same-length-2 t c = search needs
 
 items-returns-2 : (t : ℕ) → items-lts.Need-returns-2 (items-calls t) (items-at t) items.Post items-Inv-loop items-μ-loop
 items-returns-2 t c =
-    let the-loop = c .before .before .before .before .before .before .before .before .before .before .before .before .before .before .before .before .before .before .loop in
+    let the-loop = c .before .before .before .before .before .before .before .before .before
+    .before .before .before .before .before .before .before .before .before .loop in
     let the-kind-at = c .before .before .before .before .before .before .before .before .before .before .before .before .before .before .before .kind-at in
     let the-if2 = c .before .before .before .before .before .before .before .before .before .before .before .before .before .before .if2 in
     let the-size = c .before .before .before .before .before .before .before .before .before .before .before .before .size in
@@ -1077,7 +1121,8 @@ items-returns-2 t c =
       λ es base f g.
           item-held-element-no _ _ _ _ _ _ _ (i .held es base f g)
           (quick-element _ _ _ _ _ _ h (the-if2 .taken) (the-size .ensures) (the-opened .ensures))
-          (omega (arith, w)) (omega arith) (omega (arith, r)) (the-word .ensures) (the-blank .ensures) (the-element .ensures .0) (the-close .ensures .0) (the-e .given .1),
+          (omega (arith, w)) (omega arith) (omega (arith, r)) (the-word .ensures) (the-blank .ensures) (the-element .ensures .0)
+          (the-close .ensures .0) (the-e .given .1),
       tt,
     )
 
@@ -1086,7 +1131,8 @@ items-enum-known-next t c = search needs
 
 items-loop-less : (t : ℕ) → items-lts.Need-loop-less (items-calls t) (items-at t) items.Post items-Inv-loop items-μ-loop
 items-loop-less t c =
-    let the-loop = c .before .before .before .before .before .before .before .before .before .before .before .before .before .before .before .before .before .before .loop in
+    let the-loop = c .before .before .before .before .before .before .before .before .before
+    .before .before .before .before .before .before .before .before .before .loop in
     let the-kind-at = c .before .before .before .before .before .before .before .before .before .before .before .before .before .before .before .kind-at in
     let the-if2 = c .before .before .before .before .before .before .before .before .before .before .before .before .before .before .if2 in
     let the-element = c .before .before .before .before .before .element in
@@ -1101,7 +1147,8 @@ items-loop-less t c =
 
 items-loop-again : (t : ℕ) → items-lts.Need-loop-again (items-calls t) (items-at t) items.Post items-Inv-loop items-μ-loop
 items-loop-again t c =
-    let the-loop = c .before .before .before .before .before .before .before .before .before .before .before .before .before .before .before .before .before .before .loop in
+    let the-loop = c .before .before .before .before .before .before .before .before .before
+    .before .before .before .before .before .before .before .before .before .loop in
     let the-kind-at = c .before .before .before .before .before .before .before .before .before .before .before .before .before .before .before .kind-at in
     let the-if2 = c .before .before .before .before .before .before .before .before .before .before .before .before .before .before .if2 in
     let the-size = c .before .before .before .before .before .before .before .before .before .before .before .before .size in
@@ -1124,7 +1171,8 @@ items-loop-again t c =
       held = λ es base f g.
           item-held-element _ _ _ _ _ _ _ (i .held es base f g)
           (quick-element _ _ _ _ _ _ h (the-if2 .taken) (the-size .ensures) (the-opened .ensures))
-          (omega (arith, w)) (omega arith) (omega (arith, r)) (the-word .ensures) (the-blank .ensures) (the-element .ensures .0) (the-close .ensures .0) (the-next .given .1)
+          (omega (arith, w)) (omega arith) (omega (arith, r)) (the-word .ensures) (the-blank .ensures) (the-element .ensures .0)
+          (the-close .ensures .0) (the-next .given .1)
           (omega (arith, n .0));
     }
 
@@ -1176,7 +1224,8 @@ items-less-requires t c κs = search needs
 items-add-element-2 : (t : ℕ) → items-lts.Need-add-element-2 (items-calls t) (items-at t) items.Post items-Inv-loop items-μ-loop
 items-add-element-2 t c =
     let the-Start = c .before .before .before .before .before .before .before .before .before .before .before .before .before .before .before in
-    let the-shared-slice-known = c .before .before .before .before .before .before .before .before .before .before .before .before .before .before .shared-slice-known in
+    let the-shared-slice-known = c .before .before .before .before .before .before .before
+    .before .before .before .before .before .before .before .shared-slice-known in
     let the-loop = c .before .before .before .before .before .before .before .before .before .before .before .before .before .loop in
     let the-item-at = c .before .before .before .before .before .before .before .before .item-at in
     let the-kind = c .before .before .before .before .before .before .kind in
@@ -1205,14 +1254,16 @@ items-enum-known-e-3 t c = search needs
 
 items-same-length-5 : (t : ℕ) → items-lts.Need-same-length-5 (items-calls t) (items-at t) items.Post items-Inv-loop items-μ-loop
 items-same-length-5 t c =
-    let the-loop = c .before .before .before .before .before .before .before .before .before .before .before .before .before .before .before .before .before .before .before .before .loop in
+    let the-loop = c .before .before .before .before .before .before .before .before .before .before
+    .before .before .before .before .before .before .before .before .before .before .loop in
     let the-blank2 = c .before .before .before .before .before .before .before .before .before .blank2 in
     let the-element2 = c .before .before .before .before .before .element2 in
     the-element2 .kept .1 .1 .1 .1 .1 .1 .1 .1 .0 ∙ (the-blank2 .kept .0 ∙ the-loop .inv .same)
 
 items-returns-5 : (t : ℕ) → items-lts.Need-returns-5 (items-calls t) (items-at t) items.Post items-Inv-loop items-μ-loop
 items-returns-5 t c =
-    let the-loop = c .before .before .before .before .before .before .before .before .before .before .before .before .before .before .before .before .before .before .before .before .loop in
+    let the-loop = c .before .before .before .before .before .before .before .before .before .before
+    .before .before .before .before .before .before .before .before .before .before .loop in
     let the-item-at = c .before .before .before .before .before .before .before .before .before .before .before .before .before .before .before .item-at in
     let the-kind = c .before .before .before .before .before .before .before .before .before .before .before .before .before .kind in
     let the-word2 = c .before .before .before .before .before .before .before .before .before .before .word2 in
@@ -1245,7 +1296,8 @@ items-loop-less-2 t c =
 
 items-loop-again-2 : (t : ℕ) → items-lts.Need-loop-again-2 (items-calls t) (items-at t) items.Post items-Inv-loop items-μ-loop
 items-loop-again-2 t c =
-    let the-loop = c .before .before .before .before .before .before .before .before .before .before .before .before .before .before .before .before .before .before .before .before .loop in
+    let the-loop = c .before .before .before .before .before .before .before .before .before .before
+    .before .before .before .before .before .before .before .before .before .before .loop in
     let the-item-at = c .before .before .before .before .before .before .before .before .before .before .before .before .before .before .before .item-at in
     let the-kind = c .before .before .before .before .before .before .before .before .before .before .before .before .before .kind in
     let the-word2 = c .before .before .before .before .before .before .before .before .before .before .word2 in

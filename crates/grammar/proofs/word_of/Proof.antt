@@ -45,7 +45,8 @@ returns-2 c =
     let the-if3 = c .before .before .if3 in
     let the-read-int = c .before .read-int in
     let the-number-word = c .number-word in
-    λ h. told-number _ _ _ _ _ (the-holds .ensures ∙ not-false _ (the-if1 .left)) (the-if2 .taken) (the-is-counted .ensures (the-if3 .taken)) (the-read-int .ensures .is) (the-number-word .ensures h)
+    λ h. told-number _ _ _ _ _ (the-holds .ensures ∙ not-false _ (the-if1 .left)) (the-if2 .taken) (the-is-counted .ensures (the-if3 .taken))
+    (the-read-int .ensures .is) (the-number-word .ensures h)
 
 -- src/lib.rt:580:9
 returns-3 : tie.Need-returns-3
@@ -69,7 +70,8 @@ returns-4 c =
     let the-is-name = c .before .before .is-name in
     let the-if6 = c .before .if6 in
     let the-word = c .word in
-    λ h. told-name _ _ _ _ _ (the-holds .ensures ∙ not-false _ (the-if1 .left)) (the-if4 .taken) (the-if5 .taken) (the-is-name .ensures ∙ the-if6 .taken) (the-word .ensures)
+    λ h. told-name _ _ _ _ _ (the-holds .ensures ∙ not-false _ (the-if1 .left)) (the-if4 .taken) (the-if5 .taken) (the-is-name .ensures
+    ∙ the-if6 .taken) (the-word .ensures)
 
 -- src/lib.rt:587:13
 returns-5 : tie.Need-returns-5
@@ -110,7 +112,8 @@ returns-8 c =
     let the-if9 = c .before .before .if9 in
     let the-read-oid = c .before .read-oid in
     let the-list-word = c .list-word in
-    λ h. told-list _ _ _ _ _ (the-holds .ensures ∙ not-false _ (the-if1 .left)) (the-if8 .taken) (the-if9 .taken) (the-read-oid .ensures .is) (the-list-word .ensures h)
+    λ h. told-list _ _ _ _ _ (the-holds .ensures ∙ not-false _ (the-if1 .left)) (the-if8 .taken) (the-if9 .taken) (the-read-oid .ensures .is)
+    (the-list-word .ensures h)
 
 -- src/lib.rt:570:1
 returns-9 : tie.Need-returns-9
