@@ -41,7 +41,7 @@ use Rattle.forest.specs.Content.{Content, nothing, word, bytes, wrong, isPart, 
 use Rattle.forest.specs.Legal.{isReal, wordSuits, pathSuits, listSuits, partSuits, suits, present, lengthOf, pathOf}
 use Rattle.forest.specs.Written.{spelled}
 use Rattle.reading_back.proofs.Bools.{never, both-left, both-right, unless, word-kinds, part-kinds}
-use Rattle.reading_back.proofs.Shift.{arcs-there}
+use Rattle.forest.proofs.Shift.{arcs-there}
 
 -- a spelling of reals: what it writes is read as the double of these bits
 abbrev pub Spells : (ℕ → List ℕ) → Type 0

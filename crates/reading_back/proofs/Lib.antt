@@ -1,5 +1,4 @@
 pub mod Standing
-pub mod Shift
 pub mod Bools
 pub mod Leaves
 pub mod Order
@@ -9,6 +8,5 @@ pub mod Known
 pub mod Stages
 pub mod Elements
 pub mod Growth
-pub mod Same
 pub mod ReadBack
 pub mod Vectors

@@ -37,7 +37,8 @@ use Rattle.reading_back.proofs.Standing.{till, tagOf, Stood, stood, ent
 use Rattle.reading_back.proofs.Leaves.{Spells}
 use Rattle.reading_back.proofs.Stages.{Grown, closes}
 use Rattle.reading_back.proofs.Growth.{grows}
-use Rattle.reading_back.proofs.Same.{count-flat, same}
+use Rattle.read_trees.proofs.Lists.{flat-length}
+use Rattle.read_trees.proofs.Once.{made-again}
 
 -- as many entries as the tree has
 count-items : (s : List ℕ) (es : Entries) → length (itemsOf s es) ≡ length es
@@ -46,7 +47,7 @@ count-items s [] = refl
 count-items s (e ∷ es) = ap suc (count-items s es)
 
 pub flat-count : (s : List ℕ) (es : Entries) (t : Trees) → itemsOf s es ≡ flat 0 0 t → length es ≡ count t
-flat-count s es t e = sym (count-items s es) ∙ ap length e ∙ count-flat 0 0 t
+flat-count s es t e = sym (count-items s es) ∙ ap length e ∙ flat-length 0 0 t
 
 -- Root's kind
 root-of : (root : ℕ) → isRoot root ≡ true → (root ≡ 0) ⊎ (root ≡ 3)
@@ -147,7 +148,7 @@ module _ (real : ℕ → List ℕ) (spells : Spells real) (root : ℕ) (t : Tree
 
   -- The entries by content make the same tree again, with nothing left.
   pub same-tree : (es : Entries) → itemsOf m es ≡ flat 0 0 t → treesOf root (itemsOf m es) ≡ taken t []
-  same-tree es e = ap (treesOf root) e ∙ same root 62 0 t is-legal
+  same-tree es e = ap (treesOf root) e ∙ made-again root t right
 
   module _ (rows : Rows) (most : length rows ≤ 256) where
     not-setup : setup (length m) (length rows) ≡ false
@@ -189,8 +190,8 @@ module _ (real : ℕ → List ℕ) (spells : Spells real) (root root′ : ℕ) (
       let f : flat 0 0 t ≡ flat 0 0 t′ =
       sym (a .1 .1) ∙ ap (λ (l : List ℕ). itemsOf l (a .0)) e ∙ ap (itemsOf (messageOctets real root′ t′)) es ∙ b .1 .1 in
       let g : taken t [] ≡ taken t′ [] =
-      sym (same root 62 0 t (is-legal real spells root t right few)) ∙ ap (treesOf root) f ∙ ap (λ (i : ℕ). treesOf i (flat 0 0 t′)) r
-      ∙ same root′ 62 0 t′ (is-legal real spells root′ t′ right′ one-few) in
+      sym (made-again root t right) ∙ ap (treesOf root) f ∙ ap (λ (i : ℕ). treesOf i (flat 0 0 t′)) r
+      ∙ made-again root′ t′ right′ in
       (r, ap (λ (x : Taken). x .trees) g)
 
 -- The spelling that is written.

@@ -1,0 +1,559 @@
+// Which entries make a tree that the reader accepts, and how many octets its message takes.
+use entries::Cell;
+use grammar::Leaf;
+use identifiers::Oid;
+use integers::Wrote;
+ghost use mathlib.Core.Path.{_≡_};
+ghost use mathlib.Core.Bool.{true, false};
+ghost use mathlib.Core.List.{List, [], _∷_};
+ghost use mathlib.Core.Logic.{_⊎_};
+ghost use Prim.Native.Nat.{ℕ, _+_, _-_, _≤_, _<_};
+ghost use lib.ListN.{length, getD};
+ghost use lib.Dec.{leb, eqb};
+ghost use Rattle.integers.specs.Digits.{pick};
+ghost use Rattle.integers.specs.Integer.{shortest};
+ghost use Rattle.grammar.specs.Leaf.{expects};
+ghost use Rattle.forest.specs.Content.{contentOf, contentsOf, isPart, intOf};
+ghost use Rattle.forest.specs.Rows.{cellAt, cellsFrom, itemsIn};
+ghost use Rattle.forest.specs.Trees.{standsIn};
+ghost use Rattle.grammar.specs.Grammar.{required, ruleOf};
+ghost use Rattle.forest.specs.Legal.{isReal, wordSuits, ruleAt, suits, pathOf};
+ghost use Rattle.forest.specs.Written.{spelled};
+ghost use Rattle.glow_writer.specs.Accepted.{leastReal, spelling, fits, lengthOf};
+ghost use Rattle.glow_writer.specs.Sizes.{cap, taggedSize, nextOf, WordSized, memberSize, cellsSize, wrappedSize, pathCap, split, keyed, enteredAt, Gives};
+
+// An entry alone: how many octets its members and contents take, and how many numbers the path has with its own.
+pub struct Entered {
+    pub size: u64,
+    pub path: u64,
+}
+
+fn capped(n: u64) -> u64
+    ensures { λ r. ⌜ cap n ≡ r ⌝ }
+{
+    if n <= 16384 { n } else { 65536 }
+}
+
+fn plus(a: u64, b: u64) -> u64
+    ensures { λ r. ⌜ cap (a + b) ≡ r ⌝ }
+{
+    if 16384 < a {
+        return 65536;
+    }
+    if 16384 < b {
+        return 65536;
+    }
+    capped(a + b)
+}
+
+// A tag of one octet, its length and n octets.
+fn around(n: u64) -> u64
+    ensures { λ r. ⌜ cap (taggedSize n) ≡ r ⌝ }
+{
+    if 16384 < n {
+        return 65536;
+    }
+    capped(1 + wide(tags::length_size(n)) + n)
+}
+
+fn wide(x: usize) -> u64
+    ensures { λ r. ⌜ r ≡ x ⌝ }
+{
+    x as u64
+}
+
+fn int_of(w: u64) -> i64
+    ensures { λ r. ⌜ intOf w ≡ r ⌝ }
+{
+    if w < 0x8000000000000000 {
+        return w as i64;
+    }
+    -1 - ((18446744073709551615 - w) as i64)
+}
+
+fn place(w: Wrote) -> usize
+    ensures { λ r. ⌜ nextOf w ≡ r ⌝ }
+{
+    match w {
+        Wrote::Next(n) => n,
+        Wrote::Out => 0,
+    }
+}
+
+// The content octets of an integer.
+fn int_size(w: u64) -> u64
+    ensures { λ r. ⌜ length (shortest (intOf w)) ≡ r ⌝ }
+{
+    let mut room = [0u8; 8];
+    let out: &mut [u8] = &mut room;
+    let n = place(integers::write_int(int_of(w), out, 0));
+    wide(n)
+}
+
+// The content octets of a real.
+fn real_size(w: u64, least: bool) -> u64
+    ensures { λ r. ⌜ (isReal w ≡ true → length (spelling least w) ≡ r) ⌝ }
+{
+    if least {
+        return wide(real_sizes::least_size(w));
+    }
+    wide(real_sizes::written_size(w))
+}
+
+// Whether a boolean, an integer or a real, by its word, may stand at a member.
+fn word_suits(what: u64, kind: u64, w: u64) -> bool
+    ensures { λ r. ⌜ wordSuits what kind w ≡ r ⌝ }
+{
+    if kind == 1 {
+        return w <= 1;
+    }
+    if kind == 2 {
+        if what == 4 {
+            return true;
+        }
+        return grammar::in_range(what, w);
+    }
+    real_sizes::is_written(w)
+}
+
+// The content octets of a boolean, an integer or a real.
+fn word_size(kind: u64, w: u64, least: bool) -> u64
+    ensures { λ r. ⌜ WordSized (spelling least) kind w r ⌝ }
+{
+    if kind == 1 {
+        return 1;
+    }
+    if kind == 2 {
+        return int_size(w);
+    }
+    real_size(w, least)
+}
+
+// Whether a universal tag number is that of octets, a text or a relative identifier.
+fn is_part(kind: u64) -> bool
+    ensures { λ r. ⌜ isPart kind ≡ r ⌝ }
+{
+    if kind == 4 {
+        return true;
+    }
+    if kind == 12 {
+        return true;
+    }
+    kind == 13
+}
+
+fn index(x: u64) -> usize
+    ensures { λ r. ⌜ r ≡ x ⌝ }
+{
+    x as usize
+}
+
+// A member that holds a part of the message: its octets with both tags.
+fn part_size(s: &[u8], v: Cell, what: u64) -> u64
+    requires { ⌜ (isPart (v .kind) ≡ true) × ((expects what (v .kind) ≡ true) × (what ≡ 0 → ⊥)) ⌝ }
+    ensures { λ r. ⌜ ((real : ℕ → List ℕ) → memberSize real what (contentOf (now (s .entry)) v) ≡ r) ⌝ }
+{
+    let total = wide(s.len());
+    if total < v.second {
+        return 65536;
+    }
+    if total - v.second < v.first {
+        return 65536;
+    }
+    let start = index(v.first);
+    let len = index(v.second);
+    match grammar::read_leaf(s, 0, v.kind, start, len, what, 0) {
+        Leaf::Refused(_, _) => 65536,
+        Leaf::Kept(_, _) => around(around(v.second)),
+    }
+}
+
+// A member by its cell and its rule: the octets with both tags, 0 for an absent one.
+fn member_size(s: &[u8], v: Cell, what: u64, least: bool) -> u64
+    ensures { λ r. ⌜ memberSize (spelling least) what (contentOf (now (s .entry)) v) ≡ r ⌝ }
+{
+    if v.kind == 0 {
+        if v.first != 0 {
+            return 65536;
+        }
+        if v.second != 0 {
+            return 65536;
+        }
+        return 0;
+    }
+    if what == 0 {
+        return 65536;
+    }
+    if !grammar::fits(what, v.kind) {
+        return 65536;
+    }
+    if is_part(v.kind) {
+        return part_size(s, v, what);
+    }
+    if v.second != 0 {
+        return 65536;
+    }
+    if !word_suits(what, v.kind, v.first) {
+        return 65536;
+    }
+    around(around(word_size(v.kind, v.first, least)))
+}
+
+// The rule for a cell of a kind.
+fn rule_at(kind: u64, c: u64) -> u64
+    ensures { λ r. ⌜ ruleAt kind c ≡ r ⌝ }
+{
+    let row = grammar::contents_of(kind);
+    if row == 0 {
+        return grammar::rule_of(kind, c);
+    }
+    if c == 0 {
+        return grammar::rule_of(kind, 0);
+    }
+    grammar::rule_of(row, c - 1)
+}
+
+fn cell_at(rows: &[[u64; 50]], i: usize, c: usize) -> Cell
+    requires { ⌜ (i < length (now rows)) × (c < 16) ⌝ }
+    ensures { λ r. ⌜ r ≡ cellAt (getD (now (rows .entry)) i []) c ⌝ }
+{
+    let j = 2 + c * 3;
+    Cell {
+        kind: rows[i][j],
+        first: rows[i][j + 1],
+        second: rows[i][j + 2],
+    }
+}
+
+// The members of an entry from one cell up to another.
+fn cells_size(
+    rows: &[[u64; 50]],
+    i: usize,
+    s: &[u8],
+    kind: u64,
+    from: usize,
+    to: usize,
+    least: bool,
+) -> u64
+    requires { ⌜ (i < length (now rows)) × ((from ≤ to) × (to ≤ 16)) ⌝ }
+    ensures { λ r. ⌜ cellsSize (spelling least) kind from (contentsOf (now (s .entry)) (cellsFrom (to - from) from (getD (now (rows .entry)) i []))) ≡ r ⌝ }
+{
+    let mut c = to;
+    let mut total: u64 = 0;
+    while from < c {
+        c = c - 1;
+        total = plus(
+            member_size(s, cell_at(rows, i, c), rule_at(kind, wide(c)), least),
+            total,
+        );
+    }
+    total
+}
+
+// Contents or a collection of n octets in its outer tag; an empty one is left out.
+fn wrapped_size(n: u64) -> u64
+    ensures { λ r. ⌜ cap (wrappedSize n) ≡ r ⌝ }
+{
+    if n == 0 {
+        return 0;
+    }
+    around(around(n))
+}
+
+// How many cells stand outside an entry's contents.
+fn split_of(kind: u64) -> usize
+    ensures { λ r. ⌜ split kind ≡ r ⌝ }
+    ensures { λ r. ⌜ r ≤ 16 ⌝ }
+{
+    if grammar::contents_of(kind) == 0 {
+        return 16;
+    }
+    1
+}
+
+// The word j of a row.
+fn word_at(rows: &[[u64; 50]], i: usize, j: usize) -> u64
+    requires { ⌜ (i < length (now rows)) × (j < 50) ⌝ }
+    ensures { λ r. ⌜ r ≡ getD (getD (now (rows .entry)) i []) j 0 ⌝ }
+{
+    rows[i][j]
+}
+
+// Whether the members that an entry must have are there.
+fn is_complete(rows: &[[u64; 50]], i: usize, kind: u64) -> bool
+    requires { ⌜ i < length (now rows) ⌝ }
+    ensures { λ r. ⌜ keyed (required kind) (getD (now (rows .entry)) i []) ≡ r ⌝ }
+{
+    let n = grammar::required_of(kind);
+    if n == 0 {
+        return true;
+    }
+    if word_at(rows, i, 2) == 0 {
+        return false;
+    }
+    if n == 1 {
+        return true;
+    }
+    word_at(rows, i, 5) != 0
+}
+
+fn few(n: u64) -> u64
+    ensures { λ r. ⌜ pathCap n ≡ r ⌝ }
+{
+    if n <= 16 { n } else { 17 }
+}
+
+// The numbers of a path with this entry's own, 17 for more than 16.
+fn path_after(s: &[u8], v: Cell, what: u64, above: u64) -> u64
+    requires { ⌜ suits what (contentOf (now s) v) ≡ true ⌝ }
+    ensures { λ r. ⌜ pathCap (pathOf what above (contentOf (now (s .entry)) v ∷ [])) ≡ r ⌝ }
+{
+    if v.kind == 0 {
+        return few(above);
+    }
+    if what == 5 {
+        if 16 <= above {
+            return 17;
+        }
+        return above + 1;
+    }
+    if what == 6 {
+        match identifiers::read_oid(s, index(v.first), index(v.second)) {
+            Oid::Numbers(n) => {
+                if n <= 16 {
+                    return wide(n);
+                }
+                return 17;
+            }
+            Oid::Range => {
+                return 0;
+            }
+            Oid::Refused => {
+                return 0;
+            }
+        }
+    }
+    few(above)
+}
+
+fn none() -> Entered
+    ensures { λ r. ⌜ r ≡ record { size = 65536; path = 0 } ⌝ }
+{
+    Entered {
+        size: 65536,
+        path: 0,
+    }
+}
+
+// Whether k containers are enough for contents of so many octets.
+fn is_shallow(inside: u64, k: u64) -> bool
+    ensures { λ r. ⌜ pick (eqb inside 0) true (leb 5 k) ≡ r ⌝ }
+{
+    if inside == 0 {
+        return true;
+    }
+    5 <= k
+}
+
+// An entry alone, with k containers still allowed where it stands.
+fn entry_size(rows: &[[u64; 50]], i: usize, s: &[u8], k: u64, above: u64, least: bool) -> Entered
+    requires { ⌜ i < length (now rows) ⌝ }
+    ensures { λ r. ⌜ enteredAt (spelling least) (now (s .entry)) (getD (now (rows .entry)) i []) k above ≡ r ⌝ }
+{
+    let kind = word_at(rows, i, 0);
+    let split = split_of(kind);
+    let own = cells_size(rows, i, s, kind, 0, split, least);
+    let inside = cells_size(rows, i, s, kind, split, 16, least);
+    if 16384 < own {
+        return none();
+    }
+    if 16384 < inside {
+        return none();
+    }
+    let size = plus(own, wrapped_size(inside));
+    if 16384 < size {
+        return none();
+    }
+    if !is_shallow(inside, k) {
+        return none();
+    }
+    if !is_complete(rows, i, kind) {
+        return none();
+    }
+    let path = path_after(s, cell_at(rows, i, 0), rule_at(kind, 0), above);
+    if 16 < path {
+        return none();
+    }
+    Entered { size, path }
+}
+
+// Whether a collection may hold a kind.
+fn stands_in(which: u64, kind: u64) -> bool
+    ensures { λ r. ⌜ standsIn which kind ≡ r ⌝ }
+{
+    match which {
+        0 => {
+            if kind == 0 {
+                return false;
+            }
+            kind <= 7
+        }
+        1 => {
+            if kind == 0 {
+                return false;
+            }
+            kind <= 4
+        }
+        2 => kind == 8,
+        3 => kind == 9,
+        _ => false,
+    }
+}
+
+// Four containers less: an outer tag, an element, a member's outer tag and its collection.
+fn inside_of(k: u64) -> u64
+    ensures { λ r. ⌜ r ≡ k - 4 ⌝ }
+{
+    if k < 4 {
+        return 0;
+    }
+    k - 4
+}
+
+// The trees of a collection: the place after their entries, and how many octets they take; 65,536 octets where they are not legal or take more than 16,384.
+pub struct Measured {
+    pub next: usize,
+    pub size: u64,
+}
+
+fn refused() -> Measured
+    ensures { λ r. ⌜ r ≡ record { next = 0; size = 65536 } ⌝ }
+{
+    Measured {
+        next: 0,
+        size: 65536,
+    }
+}
+
+// Whether an entry stands in a collection under a parent.
+fn is_next(rows: &[[u64; 50]], i: usize, which: u64, parent: u64) -> bool
+    requires { ⌜ i < length (now rows) ⌝ }
+    ensures { λ r. ⌜ pick (eqb (getD (getD (now (rows .entry)) i []) 1 0) parent) (standsIn which (getD (getD (now (rows .entry)) i []) 0 0)) false ≡ r ⌝ }
+{
+    if word_at(rows, i, 1) != parent {
+        return false;
+    }
+    stands_in(which, word_at(rows, i, 0))
+}
+
+// Whether a kind may hold a collection, by the rule of its member c, or the collection is empty.
+fn may_hold(kind: u64, c: u64, what: u64, from: usize, next: usize) -> bool
+    ensures { λ r. ⌜ pick (eqb (ruleOf kind c) what) true (eqb next from) ≡ r ⌝ }
+{
+    if grammar::rule_of(kind, c) == what {
+        return true;
+    }
+    next == from
+}
+
+// The octets before a tree and its own: its entry, its children and its connections in their tags.
+fn tree_size(total: u64, own: u64, kids: u64, links: u64) -> u64
+    ensures { λ r. ⌜ cap (total + taggedSize (taggedSize (own + (wrappedSize kids + wrappedSize links)))) ≡ r ⌝ }
+{
+    let held = plus(own, plus(wrapped_size(kids), wrapped_size(links)));
+    plus(total, around(around(held)))
+}
+
+// The trees that stand in a collection under a parent, from an entry on.
+fn items(
+    rows: &[[u64; 50]],
+    s: &[u8],
+    count: usize,
+    which: u64,
+    parent: u64,
+    start: usize,
+    k: u64,
+    above: u64,
+    least: bool,
+) -> Measured
+    requires { ⌜ (start ≤ count) × (count ≤ length (now rows)) ⌝ }
+    ensures { λ r. ⌜ Gives (spelling least) (itemsIn (now (s .entry)) (now (rows .entry)) count) which parent k above 0 start r ⌝ }
+    ensures { λ r. ⌜ (start ≤ r .next) ⊎ (16384 < r .size) ⌝ }
+    ensures { λ r. ⌜ (r .next ≤ count) ⌝ }
+{
+    let mut i = start;
+    let mut total: u64 = 0;
+    while i < count {
+        if !is_next(rows, i, which, parent) {
+            return Measured {
+                next: i,
+                size: total,
+            };
+        }
+        if k < 3 {
+            return refused();
+        }
+        let e = entry_size(rows, i, s, k, above, least);
+        if 16384 < e.size {
+            return refused();
+        }
+        let kind = word_at(rows, i, 0);
+        let below = i + 1;
+        let me = wide(below);
+        let left = inside_of(k);
+        let kids = items(rows, s, count, 1, me, below, left, e.path, least);
+        if 16384 < kids.size {
+            return refused();
+        }
+        if !may_hold(kind, 2, 14, below, kids.next) {
+            return refused();
+        }
+        let links = items(rows, s, count, 2, me, kids.next, left, e.path, least);
+        if 16384 < links.size {
+            return refused();
+        }
+        if !may_hold(kind, 5, 15, kids.next, links.next) {
+            return refused();
+        }
+        total = tree_size(total, e.size, kids.size, links.size);
+        if 16384 < total {
+            return refused();
+        }
+        i = links.next;
+    }
+    Measured {
+        next: i,
+        size: total,
+    }
+}
+
+// How many octets the message of the first `count` rows has, with reals as they are written or in the fewest octets; 65,536 where they make no tree that the
+// reader accepts in 16,384 octets.
+pub fn measure(rows: &[[u64; 50]], count: usize, root: u64, s: &[u8], least: bool) -> u64
+    ensures { λ r. ⌜ lengthOf (spelling least) root (length (now (rows .entry))) count (itemsIn (now (s .entry)) (now (rows .entry)) count) ≡ r ⌝ }
+{
+    if rows.len() < count {
+        return 65536;
+    }
+    if 256 < count {
+        return 65536;
+    }
+    if !forest::is_root(root) {
+        return 65536;
+    }
+    let m = items(rows, s, count, root, 0, 0, 62, 0, least);
+    if 16384 < m.size {
+        return 65536;
+    }
+    if m.next != count {
+        return 65536;
+    }
+    around(around(m.size))
+}
+
+// Whether the first `count` rows make a tree that the reader accepts: some message of at most 16,384 bytes is read as exactly these entries.
+pub fn is_tree(rows: &[[u64; 50]], count: usize, root: u64, s: &[u8]) -> bool
+    ensures { λ r. ⌜ fits leastReal root (length (now (rows .entry))) count (itemsIn (now (s .entry)) (now (rows .entry)) count) ≡ r ⌝ }
+{
+    measure(rows, count, root, s, true) <= 16384
+}

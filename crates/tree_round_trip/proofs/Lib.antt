@@ -1,0 +1,9 @@
+pub mod Reals
+pub mod Whole
+pub mod Rows
+pub mod Octets
+pub mod Reading
+pub mod Writing
+pub mod Rewriting
+pub mod Theorems
+pub mod Vectors

@@ -1,3 +1,0 @@
-pub mod Caps
-pub mod Words
-pub mod Members
