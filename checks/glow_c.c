@@ -140,10 +140,39 @@ static void lengths(void)
     expect("no rows", read_into(message, 4, 0), GLOW_DONE);
 }
 
+/* P12 written again: in as many bytes as it takes, in one less, and with words of the answer one beside its count. */
+static void writing(void)
+{
+    static const uint8_t message[] = {0x60, 0x0b, 0x6b, 0x09, 0xa0, 0x07, 0x62, 0x05, 0xa0, 0x03, 0x02, 0x01, 0x20};
+    const uint64_t(*rows)[GLOW_ROW_WORDS] = (const uint64_t(*)[GLOW_ROW_WORDS])table;
+    uint8_t out[sizeof message + 1];
+    uint64_t length[GLOW_WRITE_WORDS + 1] = {0};
+    expect("read", read_into(message, sizeof message, 1), GLOW_DONE);
+    memset(out, 0xee, sizeof out);
+    expect("too short", glow_write(rows, 1, 1, GLOW_ELEMENTS, message, sizeof message, out, sizeof message - 1, length, GLOW_WRITE_WORDS), GLOW_OUT);
+    expect("the output as it was", out[0], 0xee);
+    expect("words", glow_write(rows, 1, 1, GLOW_ELEMENTS, message, sizeof message, out, sizeof out, length, GLOW_WRITE_WORDS - 1), GLOW_SETUP);
+    expect("words", glow_write(rows, 1, 1, GLOW_ELEMENTS, message, sizeof message, out, sizeof out, length, GLOW_WRITE_WORDS + 1), GLOW_SETUP);
+    expect("the output as it was", out[0], 0xee);
+    expect("written", glow_write(rows, 1, 1, GLOW_ELEMENTS, message, sizeof message, out, sizeof out, length, GLOW_WRITE_WORDS), GLOW_DONE);
+    expect("its length", length[0], sizeof message);
+    expect("its bytes", (uint64_t)memcmp(out, message, sizeof message), 0);
+    expect("the rest as it was", out[sizeof message], 0xee);
+    expect("accepted", glow_accepts(rows, 1, 1, GLOW_ELEMENTS, message, sizeof message), 1);
+    expect("no command is a stream entry", glow_accepts(rows, 1, 1, GLOW_STREAMS, message, sizeof message), 0);
+    expect("more than the rows", glow_accepts(rows, 1, 2, GLOW_ELEMENTS, message, sizeof message), 0);
+    expect("an empty tree", glow_write(rows, 0, 0, GLOW_STREAMS, message, 0, out, sizeof out, length, GLOW_WRITE_WORDS), GLOW_DONE);
+    expect("its length", length[0], 4);
+    table[0][GLOW_PARENT] = 1;
+    expect("its own parent", glow_write(rows, 1, 1, GLOW_ELEMENTS, message, sizeof message, out, sizeof out, length, GLOW_WRITE_WORDS), GLOW_OUT);
+    expect("no length", length[0], 0);
+}
+
 int main(void)
 {
     numbers();
     rows();
     lengths();
+    writing();
     return wrong;
 }

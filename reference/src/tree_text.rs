@@ -9,7 +9,7 @@ use crate::values::Value;
 
 /// Whether the program `tree` of the repository takes `write HEX`. Until it does, such a line is a bad one, and only
 /// commands with `--write` know it.
-pub const WRITES: bool = false;
+pub const WRITES: bool = true;
 
 /// The largest table that a request may name: "0 to 300: over 256 answers 1".
 pub const TABLE_NAMED_MAX: usize = 300;

@@ -1,4 +1,4 @@
-/* The Glow tree for C: reads a message into the rows of a lent table.
+/* The Glow tree for C: reads a message into the rows of a lent table, and writes the message of such rows.
  *
  * Link libglow_c.a, which `rt staticlib glow_c` proves and builds (x86-64 Linux). The library keeps nothing between
  * calls, allocates nothing and calls nothing: all memory is lent by the caller. A call is proved for every message,
@@ -82,6 +82,24 @@ extern "C" {
  * whole table as it was; GLOW_SETUP leaves the answer's words too. */
 uint64_t glow_read(const uint8_t *message, size_t message_bytes, uint64_t (*table)[GLOW_ROW_WORDS], size_t table_rows,
                    uint64_t *answer, size_t answer_words);
+
+/* Writing. The rows are as glow_read leaves them, or made by hand: the same kinds, cells and types; texts, octets, paths
+ * and sources are parts of `message`, which may be any bytes. `root` is GLOW_ELEMENTS or GLOW_STREAMS. The answer is one
+ * word, the length of the message that was written; 0 after GLOW_OUT. */
+#define GLOW_WRITE_WORDS 1
+#define GLOW_OUT 46 /* the output is too short, or the rows make no tree that the reader accepts in 16,384 bytes */
+
+/* Writes the message of the table's first `count` rows: definite shortest lengths, ascending tags, nothing that is absent
+ * or empty. What is written is read back as the same tree. Output past the message stays as it was. GLOW_OUT leaves the
+ * whole output as it was; GLOW_SETUP, for an answer of other than one word, leaves the answer too. */
+uint64_t glow_write(const uint64_t (*table)[GLOW_ROW_WORDS], size_t table_rows, size_t count, uint64_t root,
+                    const uint8_t *message, size_t message_bytes, uint8_t *out, size_t out_bytes, uint64_t *answer,
+                    size_t answer_words);
+
+/* 1 if the table's first `count` rows make a tree that the reader accepts: some message of at most 16,384 bytes is read as
+ * exactly these entries; else 0. Nothing is changed. */
+uint64_t glow_accepts(const uint64_t (*table)[GLOW_ROW_WORDS], size_t table_rows, size_t count, uint64_t root,
+                      const uint8_t *message, size_t message_bytes);
 
 #ifdef __cplusplus
 }

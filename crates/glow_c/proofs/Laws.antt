@@ -9,7 +9,13 @@ use Rattle.entries.specs.Entry.{Rows}
 use Rattle.glow.specs.declared.Answer.{Answer}
 use Rattle.glow.specs.declared.Answer.the-variants.{Refused, Room, Read}
 use Rattle.glow.specs.Message.{saidBy, result, readAt}
-use Rattle.glow_c.specs.Calls.{Call, call, wordsOf, called, calls}
+use Rattle.integers.specs.declared.Wrote.{Wrote}
+use Rattle.integers.specs.declared.Wrote.the-variants.{Next, Out}
+use Rattle.integers.specs.Digits.{pick, Put, wrote, outcome}
+use Rattle.forest.specs.Rows.{itemsIn}
+use Rattle.glow_writer.specs.Accepted.{leastReal, fits, writes}
+use Rattle.glow_c.specs.Calls.{Call, call, wordsOf, called, calls, Writing, writing, lengthWord, wroteAs, writeCalls, acceptCalls}
+use mathlib.Core.Bool.{Bool, true, false}
 
 pub set-three : (xs : List ℕ) (a b c : ℕ) → length xs ≡ 3 → set (set (set xs 0 a) 1 b) 2 c ≡ a ∷ b ∷ c ∷ []
 set-three [] a b c h = absurd (omega arith)
@@ -41,3 +47,38 @@ module _ (s : List ℕ) (rows : Rows) (answer : List ℕ) where
       → r ≡ saidBy a .number → answer′ ≡ wordsOf a answer → calls s rows answer ≡ call r rows′ answer′
   unfolding calls
   call-read {a} {rows′} {answer′} {r} h e n w = simp (eq-eqb _ _ h) (ap (λ x. called x answer) e ∙ rw (n, w))
+
+-- ---- writing
+pub set-one : (xs : List ℕ) (a : ℕ) → length xs ≡ 1 → set xs 0 a ≡ a ∷ []
+set-one [] a h = absurd (omega arith)
+set-one (x ∷ []) a h = refl
+set-one (x ∷ y ∷ ys) a h = absurd (omega arith)
+
+abbrev WroteTold : Wrote → ℕ → List ℕ → Type 0
+WroteTold w number words = (number ≡ wrote w) × (words ≡ lengthWord w)
+
+module _ (answer : List ℕ) (one : length answer ≡ 1) {w : Wrote} where
+  pub told-next : {n x : ℕ} → w ≡ Next n → x ≡ n → WroteTold w 0 (set answer 0 x)
+  told-next {n} {x} e p = rw e (refl, set-one answer x one ∙ ap (λ (y : ℕ). y ∷ []) p)
+
+  pub told-out : w ≡ Out → WroteTold w 46 (set answer 0 0)
+  told-out e = rw e (refl, set-one answer 0 one)
+
+module _ (rows : Rows) (n root : ℕ) (s out answer : List ℕ) where
+  pub write-other : (length answer ≡ 1 → ⊥) → writeCalls rows n root s out answer ≡ writing 1 out answer
+  unfolding writeCalls
+  write-other h = simp (ne-eqb _ _ h)
+
+  pub write-called : {w : Wrote} {out′ answer′ : List ℕ} {r : ℕ} → length answer ≡ 1 → writes root (length rows) n (itemsIn s rows n) out ≡ outcome w out′
+      → r ≡ wrote w → answer′ ≡ lengthWord w → writeCalls rows n root s out answer ≡ writing r out′ answer′
+  unfolding writeCalls
+  write-called {w} {out′} h e i j = simp (eq-eqb _ _ h) (ap wroteAs e ∙ rw (i, j) refl)
+
+module _ (rows : Rows) (n root : ℕ) (s : List ℕ) where
+  pub accept-yes : {b : Bool} → fits leastReal root (length rows) n (itemsIn s rows n) ≡ b → b ≡ true → acceptCalls rows n root s ≡ 1
+  unfolding acceptCalls
+  accept-yes e h = rw (e ∙ h) refl
+
+  pub accept-no : {b : Bool} → fits leastReal root (length rows) n (itemsIn s rows n) ≡ b → b ≡ false → acceptCalls rows n root s ≡ 0
+  unfolding acceptCalls
+  accept-no e h = rw (e ∙ h) refl

@@ -1,10 +1,15 @@
--- What the C interface of the tree reader answers: a number, and three words for the place, the count and Root's kind.
+-- What the C interface of the tree reader and the tree writer answers. Reading: a number, and three words for the place, the count and Root's kind.
 use Prim.Native.Nat.{ℕ}
 use mathlib.Core.List.{List, [], _∷_}
 use lib.ListN.{length}
 use lib.Dec.{eqb}
 use Rattle.integers.specs.Digits.{pick}
 use Rattle.entries.specs.Entry.{Rows}
+use Rattle.integers.specs.declared.Wrote.{Wrote}
+use Rattle.integers.specs.declared.Wrote.the-variants.{Next, Out}
+use Rattle.integers.specs.Digits.{Put}
+use Rattle.forest.specs.Rows.{itemsIn}
+use Rattle.glow_writer.specs.Accepted.{leastReal, fits, writes}
 use Rattle.glow.specs.declared.Answer.{Answer}
 use Rattle.glow.specs.declared.Answer.the-variants.{Setup, Refused, Room, Read}
 use Rattle.glow.specs.Message.{Said, saidBy, Result, readAt}
@@ -30,3 +35,28 @@ called x answer = call (x .said .number) (x .rows) (wordsOf (x .answer) answer)
 -- an answer of other than three words is 1
 unfoldable pub calls : List ℕ → Rows → List ℕ → Call
 calls s rows answer = pick (eqb (length answer) 3) (called (readAt s rows) answer) (call 1 rows answer)
+
+-- Writing: a number, 0 or 46, and one word for the length.
+pub record Writing : Type 0 where
+  pub number : ℕ
+  pub out : List ℕ
+  pub answer : List ℕ
+
+abbrev pub writing : ℕ → List ℕ → List ℕ → Writing
+writing number out answer = record { number = number; out = out; answer = answer }
+
+abbrev pub lengthWord : Wrote → List ℕ
+lengthWord (Next n) = n ∷ []
+lengthWord Out = 0 ∷ []
+
+abbrev pub wroteAs : Put → Writing
+wroteAs p = writing (p .number) (p .out) (lengthWord (p .answer))
+
+-- an answer of other than one word is 1, with everything as it was
+unfoldable pub writeCalls : Rows → ℕ → ℕ → List ℕ → List ℕ → List ℕ → Writing
+writeCalls rows n root s out answer =
+    pick (eqb (length answer) 1) (wroteAs (writes root (length rows) n (itemsIn s rows n) out)) (writing 1 out answer)
+
+-- 1 where the rows make a tree that the reader accepts, 0 where they do not
+unfoldable pub acceptCalls : Rows → ℕ → ℕ → List ℕ → ℕ
+acceptCalls rows n root s = pick (fits leastReal root (length rows) n (itemsIn s rows n)) 1 0

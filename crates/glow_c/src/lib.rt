@@ -1,10 +1,12 @@
-// The C interface of the tree reader: numbers and lent slices (include/glow.h).
+// The C interface of the tree reader and the tree writer: numbers and lent slices (include/glow.h).
 use glow::Answer;
+use integers::Wrote;
 ghost use mathlib.Core.Path.{_≡_};
 ghost use mathlib.Core.List.{[], _∷_};
 ghost use lib.ListN.{length};
 ghost use Rattle.glow.specs.Message.{saidBy};
-ghost use Rattle.glow_c.specs.Calls.{call, wordsOf, calls};
+ghost use Rattle.glow_c.specs.Calls.{call, wordsOf, calls, lengthWord, writing, writeCalls, acceptCalls};
+ghost use Rattle.integers.specs.Digits.{wrote};
 
 fn put(answer: &mut [u64], place: u64, count: u64, root: u64)
     requires { ⌜ length (now answer) ≡ 3 ⌝ }
@@ -53,4 +55,53 @@ pub extern "C" fn glow_read(message: &[u8], table: &mut [[u64; 50]], answer: &mu
         return 1;
     }
     tell(glow::read(message, table), answer)
+}
+
+// The number of what was written, and its length.
+fn told(w: Wrote, answer: &mut [u64]) -> u64
+    requires { ⌜ length (now answer) ≡ 1 ⌝ }
+    ensures { λ r. ⌜ r ≡ wrote w ⌝ }
+    ensures { λ _. ⌜ now (answer .exit) ≡ lengthWord w ⌝ }
+{
+    match w {
+        Wrote::Next(n) => {
+            answer[0] = word(n);
+            0
+        }
+        Wrote::Out => {
+            answer[0] = 0;
+            46
+        }
+    }
+}
+
+// Writes the message of the first `count` rows, whose texts, octets, paths and sources are parts of `message`, into the output. 0, and its length in the answer's
+// one word; or 46, and the output as it was.
+#[no_mangle]
+pub extern "C" fn glow_write(
+    rows: &[[u64; 50]],
+    count: usize,
+    root: u64,
+    message: &[u8],
+    out: &mut [u8],
+    answer: &mut [u64],
+) -> u64
+    ensures { λ r. ⌜ writeCalls (now (rows .entry)) count root (now (message .entry)) (now (out .entry)) (now (answer .entry)) ≡ writing r (now (out .exit)) (now (answer .exit)) ⌝ }
+{
+    if answer.len() != 1 {
+        return 1;
+    }
+    let w = glow_writer::write::write(rows, count, root, message, out);
+    told(w, answer)
+}
+
+// Whether the first `count` rows make a tree that the reader accepts: 1 or 0.
+#[no_mangle]
+pub extern "C" fn glow_accepts(rows: &[[u64; 50]], count: usize, root: u64, message: &[u8]) -> u64
+    ensures { λ r. ⌜ acceptCalls (now (rows .entry)) count root (now (message .entry)) ≡ r ⌝ }
+{
+    if glow_writer::is_tree(rows, count, root, message) {
+        return 1;
+    }
+    0
 }

@@ -7,3 +7,6 @@ pub mod Places
 pub mod Sums
 pub mod Fits
 pub mod Trees
+pub mod Putting
+pub mod Placing
+pub mod Messages

@@ -1,4 +1,6 @@
 // Which entries make a tree that the reader accepts, and how many octets its message takes.
+pub mod write;
+
 use entries::Cell;
 use grammar::Leaf;
 use identifiers::Oid;

@@ -2,11 +2,13 @@
 //
 //   read HEX         with a table of 256 entries
 //   read N HEX       with a table of N, 0 to 300
+//   write HEX        read with a table of 256 entries, and what is read written again
 //
 // HEX is pairs of digits of either case, `-` for no bytes, up to 16,385 bytes. Any other line is answered with `bad line`.
 //
 // The answer is `1`; the refusal's NUMBER PLACE; `38 COUNT`; or `0 elements COUNT`, `0 streams COUNT` and a line for each
-// entry: INDEX PARENT KIND (`-` for no parent) and ` NAME=VALUE` for each member that is present.
+// entry: INDEX PARENT KIND (`-` for no parent) and ` NAME=VALUE` for each member that is present. To `write`, after a message that is read, it is
+// `0 HEX`, the message written, or `46`.
 //
 // Numbers are decimal, flags true or false, paths and a connection's sources numbers with dots (`-` for none). Texts stand
 // in double quotes, with `\` and two digits for each byte that is `"`, `\` or none of 20 to 7E. A member of any kind has
@@ -15,6 +17,8 @@ mod names;
 mod show;
 mod value;
 
+use glow::Answer;
+use integers::Wrote;
 use requests::input;
 use requests::input::Input;
 use requests::print;
@@ -25,6 +29,36 @@ use requests::text::Hex;
 fn read(s: &[u8], table: &mut [[u64; 50]]) {
     let found = glow::read(s, table);
     show::answer(s, table, found);
+}
+
+// What was written, or 46.
+fn written(w: Wrote, out: &[u8]) {
+    match w {
+        Wrote::Next(n) => {
+            print::say(b"0 ");
+            if n <= out.len() {
+                print::hex(&out[..n]);
+            }
+        }
+        Wrote::Out => {
+            print::say(b"46");
+        }
+    }
+    print::end();
+}
+
+// Reads with the table and writes what was read.
+fn write(s: &[u8], table: &mut [[u64; 50]], out: &mut [u8]) {
+    let found = glow::read(s, table);
+    match found {
+        Answer::Read { root, count } => {
+            let w = glow_writer::write::write(table, count, root, s, out);
+            written(w, out);
+        }
+        _ => {
+            show::answer(s, table, found);
+        }
+    }
 }
 
 fn place(x: u64) -> usize {
@@ -40,6 +74,12 @@ fn read_with(s: &[u8], n: usize, table: &mut [[u64; 50]]) {
     print::bad_line();
 }
 
+fn write_with(s: &[u8], n: usize, table: &mut [[u64; 50]], out: &mut [u8]) {
+    if n <= table.len() {
+        write(s, &mut table[..n], out);
+    }
+}
+
 // The message whose bytes a line has from a position on.
 fn message(line: &[u8], from: usize, n: usize, work: &mut [u8], table: &mut [[u64; 50]]) {
     let Hex::Octets(end) = text::octets(line, from, work) else {
@@ -48,6 +88,17 @@ fn message(line: &[u8], from: usize, n: usize, work: &mut [u8], table: &mut [[u6
     };
     if end <= work.len() {
         read_with(&work[..end], n, table);
+    }
+}
+
+// The same for a message to be written again.
+fn rewrite(line: &[u8], from: usize, work: &mut [u8], table: &mut [[u64; 50]], out: &mut [u8]) {
+    let Hex::Octets(end) = text::octets(line, from, work) else {
+        print::bad_line();
+        return;
+    };
+    if end <= work.len() {
+        write_with(&work[..end], 256, table, out);
     }
 }
 
@@ -68,7 +119,11 @@ fn length_of(line: &[u8], from: usize, end: usize) -> usize {
     }
 }
 
-fn answer(line: &[u8], work: &mut [u8], table: &mut [[u64; 50]]) {
+fn answer(line: &[u8], work: &mut [u8], table: &mut [[u64; 50]], out: &mut [u8]) {
+    if text::starts(line, b"write ") {
+        rewrite(line, 6, work, table, out);
+        return;
+    }
     if !text::starts(line, b"read ") {
         print::bad_line();
         return;
@@ -82,14 +137,14 @@ fn answer(line: &[u8], work: &mut [u8], table: &mut [[u64; 50]]) {
 }
 
 // Answers the line that was found.
-fn finish(found: Input, line: &[u8], work: &mut [u8], table: &mut [[u64; 50]]) {
+fn finish(found: Input, line: &[u8], work: &mut [u8], table: &mut [[u64; 50]], out: &mut [u8]) {
     let n = found.len;
     if found.long {
         print::bad_line();
         return;
     }
     if n <= line.len() {
-        answer(&line[..n], work, table);
+        answer(&line[..n], work, table, out);
     }
 }
 
@@ -100,6 +155,8 @@ fn main() {
     let work: &mut [u8] = &mut room;
     let mut rows = [[0u64; 50]; 300];
     let table: &mut [[u64; 50]] = &mut rows;
+    let mut message = [0u8; 16384];
+    let out: &mut [u8] = &mut message;
     let mut buffer = io::large_buffer();
     let block: &mut [u8] = &mut buffer;
     let mut found = input::start();
@@ -111,6 +168,6 @@ fn main() {
         if found.ended {
             break;
         }
-        finish(found, line, work, table);
+        finish(found, line, work, table, out);
     }
 }

@@ -1,0 +1,505 @@
+use Prim.Native.Nat.{_+_, _-_, _*_, _≤_}
+use mathlib.Core.Path.{_≡_, refl, sym, _∙_}
+use mathlib.Core.List.{List}
+use native.Mathlib.Omega.{arith}
+use borrow.Author.Needs.{needs}
+use borrow.Author.Tests.{not-true, not-false}
+use lib.ListN.{length}
+use Rattle.forest.specs.Rows.{itemsIn}
+use Rattle.glow_writer.specs.declared.write.Placed.{Placed}
+use Rattle.glow_writer.specs.Puts.{ItemsPut}
+use Rattle.glow_writer.proofs.Placing.{inside-none, inside-put, item-put, rows-end, rows-parent, rows-kind, rows-step}
+use Prim.Native.Nat.{ℕ, _<_}
+use borrow.Fn.Kinds.{In}
+use borrow.Fn.PlainCycle.{Measures, is, falls, and}
+use Rattle.glow_writer.proofs.write.put_inside.Reads as put-inside
+use Rattle.glow_writer.proofs.write.put_inside.Kinds as put-inside-kinds
+use Rattle.glow_writer.proofs.write.+put_inside+put_item+put_items.Lts-put_inside as put-inside-lts
+use Rattle.glow_writer.proofs.write.put_item.Reads as put-item
+use Rattle.glow_writer.proofs.write.put_item.Kinds as put-item-kinds
+use Rattle.glow_writer.proofs.write.+put_inside+put_item+put_items.Lts-put_item as put-item-lts
+use Rattle.glow_writer.proofs.write.put_items.Reads as put-items
+use Rattle.glow_writer.proofs.write.put_items.Kinds as put-items-kinds
+use Rattle.glow_writer.proofs.write.+put_inside+put_item+put_items.Lts-put_items as put-items-lts
+use Rattle.glow_writer.proofs.entry_size.Reads as entry-size-reads
+use Rattle.glow_writer.proofs.inside_of.Reads as inside-of-reads
+use Rattle.glow_writer.proofs.items.Reads as items-reads
+use Rattle.glow_writer.proofs.plus.Reads as plus-reads
+use Rattle.glow_writer.proofs.stands_in.Reads as stands-in-reads
+use Rattle.glow_writer.proofs.wide.Reads as wide-reads
+use Rattle.glow_writer.proofs.word_at.Reads as word-at-reads
+use Rattle.glow_writer.proofs.wrapped_size.Reads as wrapped-size-reads
+use Rattle.glow_writer.proofs.write.put_entry.Reads as put-entry-reads
+use Rattle.glow_writer.proofs.write.put_outer.Reads as put-outer-reads
+use Rattle.glow_writer.proofs.write.tag_of.Reads as tag-of-reads
+use Rattle.glow_writer.proofs.write.+put_inside+put_item+put_items.{statement}
+use Rattle.glow_writer.proofs.write.+put_inside+put_item+put_items.Tie.{close}
+
+abbrev μ-put-inside : Measures 3 put-inside-kinds.ps ℕ
+μ-put-inside κs a = (a .1 .1 .0 - a .1 .1 .1 .1 .1 .1 .1 .1 .0) * 3 + 3
+
+abbrev μ-put-item : Measures 3 put-item-kinds.ps ℕ
+μ-put-item κs a = (a .1 .1 .0 - a .1 .1 .1 .0) * 3 + 1
+
+abbrev μ-put-items : Measures 3 put-items-kinds.ps ℕ
+μ-put-items κs a = (a .1 .1 .0 - a .1 .1 .1 .1 .1 .0) * 3 + 2
+
+abbrev put-inside-at : ℕ → In 3 put-inside-kinds.ps
+put-inside-at t =
+    and 3 put-inside-kinds.ps (is 3 put-inside-kinds.ps μ-put-inside t) put-inside.Pre
+
+abbrev put-inside-below : ℕ → In 3 put-inside-kinds.ps
+put-inside-below t =
+    and 3 put-inside-kinds.ps (falls 3 put-inside-kinds.ps _<_ μ-put-inside t) put-inside.Pre
+
+abbrev put-item-at : ℕ → In 3 put-item-kinds.ps
+put-item-at t = and 3 put-item-kinds.ps (is 3 put-item-kinds.ps μ-put-item t) put-item.Pre
+
+abbrev put-item-below : ℕ → In 3 put-item-kinds.ps
+put-item-below t =
+    and 3 put-item-kinds.ps (falls 3 put-item-kinds.ps _<_ μ-put-item t) put-item.Pre
+
+abbrev put-items-at : ℕ → In 3 put-items-kinds.ps
+put-items-at t = and 3 put-items-kinds.ps (is 3 put-items-kinds.ps μ-put-items t) put-items.Pre
+
+abbrev put-items-below : ℕ → In 3 put-items-kinds.ps
+put-items-below t =
+    and 3 put-items-kinds.ps (falls 3 put-items-kinds.ps _<_ μ-put-items t) put-items.Pre
+
+abbrev put-inside-calls : ℕ → put-inside-lts.Claims
+put-inside-calls t = (
+  put-outer-reads.Asked,
+  put-outer-reads.Learnt,
+  put-items-below t,
+  put-items.Post,
+)
+
+-- src/write.rt:197:9
+put-inside-returns : (t : ℕ) → put-inside-lts.Need-returns (put-inside-calls t) (put-inside-at t) put-inside.Post
+put-inside-returns t c =
+    let the-Start = c .before .before .before in
+    let the-if1 = c .if1 in
+    let q = the-Start .pre .1 in (inside-none _ _ _ _ _ _ _ _ _ _ _ (the-if1 .taken), (omega arith, q .0))
+
+-- src/write.rt:202:9
+put-inside-put-outer-requires : (t : ℕ) → put-inside-lts.Need-put-outer-requires (put-inside-calls t) (put-inside-at t) put-inside.Post
+put-inside-put-outer-requires t c κs =
+    let the-Start = c .before .before .before .before in
+    the-Start .pre .1 .1 .1
+
+-- src/write.rt:203:5
+put-inside-put-items-requires : (t : ℕ) → put-inside-lts.Need-put-items-requires (put-inside-calls t) (put-inside-at t) put-inside.Post
+put-inside-put-items-requires t c κs =
+    let the-Start = c .before .before .before .before .before .before .before .before in
+    let q = the-Start .pre .1 in (omega arith, (q .0, q .1 .0))
+
+-- src/write.rt:177:1
+put-inside-same-length : (t : ℕ) → put-inside-lts.Need-same-length (put-inside-calls t) (put-inside-at t) put-inside.Post
+put-inside-same-length t c = search needs
+
+-- src/write.rt:177:1
+put-inside-returns-2 : (t : ℕ) → put-inside-lts.Need-returns-2 (put-inside-calls t) (put-inside-at t) put-inside.Post
+put-inside-returns-2 t c =
+    let the-Start = c .before .before .before .before .before .before .before .before .before .before .before in
+    let the-if1 = c .before .before .before .before .before .before .before .before .if1 in
+    let the-put-outer = c .before .before .before .before .before .before .put-outer in
+    let the-put-items = c .before .before .put-items in (
+      inside-put _ _ _ _ _ _ _ _ _ _ _ _ _ _ _ (the-Start .pre .1 .1 .1) (the-if1 .left) (the-put-outer .ensures)
+          (the-put-items .ensures .0),
+      the-put-items .ensures .1,
+    )
+
+abbrev put-item-calls : ℕ → put-item-lts.Claims
+put-item-calls t = (
+  word-at-reads.Asked,
+  word-at-reads.Learnt,
+  entry-size-reads.Asked,
+  entry-size-reads.Learnt,
+  wide-reads.Asked,
+  wide-reads.Learnt,
+  inside-of-reads.Asked,
+  inside-of-reads.Learnt,
+  items-reads.Asked,
+  items-reads.Learnt,
+  wrapped-size-reads.Asked,
+  wrapped-size-reads.Learnt,
+  plus-reads.Asked,
+  plus-reads.Learnt,
+  tag-of-reads.Asked,
+  tag-of-reads.Learnt,
+  put-outer-reads.Asked,
+  put-outer-reads.Learnt,
+  put-entry-reads.Asked,
+  put-entry-reads.Learnt,
+  put-inside-below t,
+  put-inside.Post,
+)
+
+-- src/write.rt:221:9
+put-item-word-at-requires : (t : ℕ) → put-item-lts.Need-word-at-requires (put-item-calls t) (put-item-at t) put-item.Post
+put-item-word-at-requires t c κs =
+    let the-Start = c .before .before in
+    let q = the-Start .pre .1 in (omega arith, omega arith)
+
+-- src/write.rt:222:9
+put-item-entry-size-requires : (t : ℕ) → put-item-lts.Need-entry-size-requires (put-item-calls t) (put-item-at t) put-item.Post
+put-item-entry-size-requires t c κs =
+    let the-Start = c .before .before .before in
+    let q = the-Start .pre .1 in omega arith
+
+-- src/write.rt:223:14
+put-item-wide-requires : (t : ℕ) → put-item-lts.Need-wide-requires (put-item-calls t) (put-item-at t) put-item.Post
+put-item-wide-requires t c κs = search needs
+
+-- src/write.rt:223:14
+put-item-add-me : (t : ℕ) → put-item-lts.Need-add-me (put-item-calls t) (put-item-at t) put-item.Post
+put-item-add-me t c =
+    let the-Start = c .before .before .before .before .before in
+    let the-wide = c .wide in
+    let q = the-Start .pre .1 in let z = the-Start .fits .count .fits in let w = the-wide .ensures in omega arith
+
+-- src/write.rt:224:9
+put-item-inside-of-requires : (t : ℕ) → put-item-lts.Need-inside-of-requires (put-item-calls t) (put-item-at t) put-item.Post
+put-item-inside-of-requires t c κs = search needs
+
+-- src/write.rt:225:45
+put-item-add-items : (t : ℕ) → put-item-lts.Need-add-items (put-item-calls t) (put-item-at t) put-item.Post
+put-item-add-items t c =
+    let the-Start = c .before .before .before .before .before .before in
+    let q = the-Start .pre .1 in let z = the-Start .fits .count .fits in omega arith
+
+-- src/write.rt:225:9
+put-item-items-requires : (t : ℕ) → put-item-lts.Need-items-requires (put-item-calls t) (put-item-at t) put-item.Post
+put-item-items-requires t c κs =
+    let the-Start = c .before .before .before .before .before .before in
+    let q = the-Start .pre .1 in (omega arith, q .1)
+
+-- src/write.rt:226:9
+put-item-items-requires-2 : (t : ℕ) → put-item-lts.Need-items-requires-2 (put-item-calls t) (put-item-at t) put-item.Post
+put-item-items-requires-2 t c κs =
+    let the-items = c .items in
+    let the-Start = c .before .before .before .before .before .before .before in
+    (the-items .ensures .1 .1, the-Start .pre .1 .1)
+
+-- src/write.rt:227:34
+put-item-wrapped-size-requires : (t : ℕ) → put-item-lts.Need-wrapped-size-requires (put-item-calls t) (put-item-at t) put-item.Post
+put-item-wrapped-size-requires t c κs = search needs
+
+-- src/write.rt:227:59
+put-item-wrapped-size-requires-2 : (t : ℕ) → put-item-lts.Need-wrapped-size-requires-2 (put-item-calls t) (put-item-at t) put-item.Post
+put-item-wrapped-size-requires-2 t c κs = search needs
+
+-- src/write.rt:227:29
+put-item-plus-requires : (t : ℕ) → put-item-lts.Need-plus-requires (put-item-calls t) (put-item-at t) put-item.Post
+put-item-plus-requires t c κs = search needs
+
+-- src/write.rt:227:9
+put-item-plus-requires-2 : (t : ℕ) → put-item-lts.Need-plus-requires-2 (put-item-calls t) (put-item-at t) put-item.Post
+put-item-plus-requires-2 t c κs = search needs
+
+-- src/write.rt:228:26
+put-item-tag-of-requires : (t : ℕ) → put-item-lts.Need-tag-of-requires (put-item-calls t) (put-item-at t) put-item.Post
+put-item-tag-of-requires t c κs = search needs
+
+-- src/write.rt:228:9
+put-item-put-outer-requires : (t : ℕ) → put-item-lts.Need-put-outer-requires (put-item-calls t) (put-item-at t) put-item.Post
+put-item-put-outer-requires t c κs =
+    omega arith
+
+-- src/write.rt:229:9
+put-item-put-entry-requires : (t : ℕ) → put-item-lts.Need-put-entry-requires (put-item-calls t) (put-item-at t) put-item.Post
+put-item-put-entry-requires t c κs =
+    let c10 = c .before .before .before .before .before .before .before .before .before .before in
+    let the-Start = c10 .before .before .before .before .before .before .before .before in
+    let q = the-Start .pre .1 in omega arith
+
+-- src/write.rt:230:67
+put-item-add-put-inside : (t : ℕ) → put-item-lts.Need-add-put-inside (put-item-calls t) (put-item-at t) put-item.Post
+put-item-add-put-inside t c =
+    let c10 = c .before .before .before .before .before .before .before .before .before .before in
+    let c20 = c10 .before .before .before .before .before .before .before .before .before .before in
+    let the-Start = c20 .before in
+    let q = the-Start .pre .1 in let z = the-Start .fits .count .fits in omega arith
+
+-- src/write.rt:230:9
+put-item-put-inside-requires : (t : ℕ) → put-item-lts.Need-put-inside-requires (put-item-calls t) (put-item-at t) put-item.Post
+put-item-put-inside-requires t c κs =
+    let c10 = c .before .before .before .before .before .before .before .before .before .before in
+    let c20 = c10 .before .before .before .before .before .before .before .before .before .before in
+    let the-Start = c20 .before .before in
+    let q = the-Start .pre .1 in (omega arith, (omega arith, (q .1, omega arith)))
+
+-- src/write.rt:231:5
+put-item-put-inside-requires-2 : (t : ℕ) → put-item-lts.Need-put-inside-requires-2 (put-item-calls t) (put-item-at t) put-item.Post
+put-item-put-inside-requires-2 t c κs =
+    let c10 = c .before .before .before .before .before .before .before .before .before .before in
+    let c20 = c10 .before .before .before .before .before .before .before .before .before .before in
+    let the-Start = c20 .before .before .before .before .before .before in
+    let the-put-inside = c .before .before .before .put-inside in
+    let q = the-Start .pre .1 in let m = the-put-inside .ensures .1 in (omega arith, (m .1, (q .1, omega arith)))
+
+-- src/write.rt:207:1
+put-item-same-length : (t : ℕ) → put-item-lts.Need-same-length (put-item-calls t) (put-item-at t) put-item.Post
+put-item-same-length t c = search needs
+
+-- src/write.rt:207:1
+put-item-returns : (t : ℕ) → put-item-lts.Need-returns (put-item-calls t) (put-item-at t) put-item.Post
+put-item-returns t c =
+    let c10 = c .before .before .before .before .before .before .before .before .before .before in
+    let c20 = c10 .before .before .before .before .before .before .before .before .before .before in
+    let the-Start = c20 .before .before .before .before .before .before .before .before .before in
+    let the-put-inside = c .before .before .before .before .before .before .put-inside in
+    let the-put-inside2 = c .before .before .put-inside2 in
+    let the-wide = c20 .before .before .before .before .wide in
+    let the-word-at = c20 .before .before .before .before .before .before .word-at in
+    let the-entry-size = c20 .before .before .before .before .before .entry-size in
+    let the-inside-of = c20 .before .before .before .inside-of in
+    let the-items = c20 .before .before .items in
+    let the-items2 = c20 .before .items2 in
+    let the-wrapped-size = c20 .wrapped-size in
+    let the-wrapped-size2 = c10 .before .before .before .before .before .before .before .before .before .wrapped-size2 in
+    let the-plus = c10 .before .before .before .before .before .before .before .before .plus in
+    let the-plus2 = c10 .before .before .before .before .before .before .before .plus2 in
+    let the-tag-of = c10 .before .before .before .before .before .before .tag-of in
+    let the-put-outer = c10 .before .before .before .before .put-outer in
+    let the-put-entry = c10 .put-entry in
+    let q = the-Start .pre .1 in
+    let m = the-put-inside .ensures .1 in
+    let r = the-put-inside2 .ensures .1 in
+    let w = the-wide .ensures in (
+      item-put _ _ _ _ _ _ _ (the-word-at .ensures) _ (the-entry-size .ensures) _ _ _ (omega arith) (the-inside-of .ensures) (omega arith) _ _
+          (the-items .ensures .0) (the-items2 .ensures .0)
+          _ _ _ _ (the-wrapped-size .ensures) (the-wrapped-size2 .ensures) (the-plus .ensures) (the-plus2 .ensures) _ (the-tag-of .ensures) _ _ _ _
+          (the-put-outer .ensures) _ _ (the-put-entry .ensures)
+          _ _ (the-put-inside .ensures .0) _ _ (the-put-inside2 .ensures .0),
+      (omega arith, r .1),
+    )
+
+abbrev put-items-calls : ℕ → put-items-lts.Claims
+put-items-calls t = (
+  word-at-reads.Asked,
+  word-at-reads.Learnt,
+  stands-in-reads.Asked,
+  stands-in-reads.Learnt,
+  put-item-below t,
+  put-item.Post,
+)
+
+abbrev put-items-Inv-loop : put-items-lts.InvT-loop
+put-items-Inv-loop rows s count which parent start k above out₀ at i₀ p₀ out i p =
+    (start ≤ i) × ((i ≤ count) × ((length out ≡ length out₀) × ((r : Placed) (o′ : List ℕ) → ItemsPut
+    (itemsIn s rows count) which parent k above i out p r o′ → ItemsPut (itemsIn s rows count) which parent k above start out₀ at r o′)))
+
+abbrev put-items-μ-loop : put-items-lts.MeasureT-loop
+put-items-μ-loop rows s count which parent start k above out₀ at i₀ p₀ out i p =
+    count - i
+
+-- src/write.rt:253:5
+put-items-loop-holds : (t : ℕ) → put-items-lts.Need-loop-holds (put-items-calls t) (put-items-at t) put-items.Post put-items-Inv-loop put-items-μ-loop
+put-items-loop-holds t c =
+    let the-Start = c .before .before in
+    let q = the-Start .pre .1 in (omega arith, (q .0, (refl, λ r o′ h. h)))
+
+-- src/write.rt:254:12
+put-items-word-at-requires : (t : ℕ) → put-items-lts.Need-word-at-requires (put-items-calls t)
+    (put-items-at t) put-items.Post put-items-Inv-loop put-items-μ-loop
+put-items-word-at-requires t c κs =
+    let the-Start = c .before .before .before .before in
+    let q = the-Start .pre .1 in (omega arith, omega arith)
+
+-- src/write.rt:255:13
+put-items-same-length : (t : ℕ) → put-items-lts.Need-same-length (put-items-calls t) (put-items-at t) put-items.Post put-items-Inv-loop put-items-μ-loop
+put-items-same-length t c =
+    let the-loop = c .before .before .before .loop in
+    the-loop .inv .1 .1 .0
+
+-- src/write.rt:255:13
+put-items-returns : (t : ℕ) → put-items-lts.Need-returns (put-items-calls t) (put-items-at t) put-items.Post put-items-Inv-loop put-items-μ-loop
+put-items-returns t c =
+    let the-loop = c .before .before .before .loop in
+    let the-Start = c .before .before .before .before .before .before in
+    let the-loop-test = c .before .before .loop-test in
+    let the-word-at = c .before .word-at in
+    let the-if1 = c .if1 in
+    let h = the-loop .inv in (
+      h .1 .1 .1 _ _ (rows-parent _ _ _ (the-Start .pre .1 .1) _ _ _ _ _ (the-loop-test .taken) _ (the-word-at .ensures) _ _
+          (the-if1 .taken)),
+      (h .0, h .1 .0),
+    )
+
+-- src/write.rt:257:30
+put-items-word-at-requires-2 : (t : ℕ) → put-items-lts.Need-word-at-requires-2 (put-items-calls t)
+    (put-items-at t) put-items.Post put-items-Inv-loop put-items-μ-loop
+put-items-word-at-requires-2 t c κs =
+    let the-Start = c .before .before .before .before .before .before in
+    let q = the-Start .pre .1 in (omega arith, omega arith)
+
+-- src/write.rt:257:13
+put-items-stands-in-requires : (t : ℕ) → put-items-lts.Need-stands-in-requires (put-items-calls t)
+    (put-items-at t) put-items.Post put-items-Inv-loop put-items-μ-loop
+put-items-stands-in-requires t c κs = search needs
+
+-- src/write.rt:258:13
+put-items-same-length-2 : (t : ℕ) → put-items-lts.Need-same-length-2 (put-items-calls t) (put-items-at t) put-items.Post put-items-Inv-loop put-items-μ-loop
+put-items-same-length-2 t c =
+    let the-loop = c .before .before .before .before .before .before .loop in
+    the-loop .inv .1 .1 .0
+
+-- src/write.rt:258:13
+put-items-returns-2 : (t : ℕ) → put-items-lts.Need-returns-2 (put-items-calls t) (put-items-at t) put-items.Post put-items-Inv-loop put-items-μ-loop
+put-items-returns-2 t c =
+    let the-loop = c .before .before .before .before .before .before .loop in
+    let the-Start = c .before .before .before .before .before .before .before .before .before in
+    let the-loop-test = c .before .before .before .before .before .loop-test in
+    let the-word-at = c .before .before .before .before .word-at in
+    let the-word-at2 = c .before .before .word-at2 in
+    let the-if1 = c .before .before .before .if1 in
+    let the-stands-in = c .before .stands-in in
+    let the-if2 = c .if2 in
+    let h = the-loop .inv in (
+      h .1 .1 .1 _ _ (rows-kind _ _ _ (the-Start .pre .1 .1) _ _ _ _ _ (the-loop-test .taken) _ (the-word-at .ensures) _
+          (the-word-at2 .ensures) _ _ (the-if1 .left) (the-stands-in .ensures ∙ not-true _ (the-if2 .taken))),
+      (h .0, h .1 .0),
+    )
+
+-- src/write.rt:260:13
+put-items-put-item-requires : (t : ℕ) → put-items-lts.Need-put-item-requires (put-items-calls t)
+    (put-items-at t) put-items.Post put-items-Inv-loop put-items-μ-loop
+put-items-put-item-requires t c κs =
+    let the-Start = c .before .before .before .before .before .before .before .before .before .before in
+    let the-loop = c .before .before .before .before .before .before .before .loop in
+    let the-loop-test = c .before .before .before .before .before .before .loop-test in
+    let q = the-Start .pre .1 in let h = the-loop .inv in (omega arith, (the-loop-test .taken, q .1))
+
+-- src/write.rt:253:5
+put-items-loop-less : (t : ℕ) → put-items-lts.Need-loop-less (put-items-calls t) (put-items-at t) put-items.Post put-items-Inv-loop put-items-μ-loop
+put-items-loop-less t c =
+    let the-put-item = c .before .before .put-item in
+    let m = the-put-item .ensures .1 in omega arith
+
+-- src/write.rt:253:5
+put-items-loop-again : (t : ℕ) → put-items-lts.Need-loop-again (put-items-calls t) (put-items-at t) put-items.Post put-items-Inv-loop put-items-μ-loop
+put-items-loop-again t c =
+    let c10 = c .before .before .before .before .before .before .before .before .before .before in
+    let the-loop = c10 .loop in
+    let the-put-item = c .before .before .put-item in
+    let the-Start = c10 .before .before .before in
+    let the-loop-test = c .before .before .before .before .before .before .before .before .before .loop-test in
+    let the-word-at = c .before .before .before .before .before .before .before .before .word-at in
+    let the-word-at2 = c .before .before .before .before .before .before .word-at2 in
+    let the-if1 = c .before .before .before .before .before .before .before .if1 in
+    let the-stands-in = c .before .before .before .before .before .stands-in in
+    let the-if2 = c .before .before .before .before .if2 in
+    let h = the-loop .inv in
+    let m = the-put-item .ensures .1 in (
+      omega arith,
+      (
+        m .1,
+        (
+          the-put-item .kept .1 .1 .1 .1 .1 .1 .0 ∙ h .1 .1 .0,
+          λ r o′ g. h .1 .1 .1 r o′ (rows-step _ _ _ (the-Start .pre .1 .1) _ _ _ _ _ (the-loop-test .taken) _ (the-word-at .ensures) _
+              (the-word-at2 .ensures) _ _ _ _ (the-if1 .left) (the-stands-in .ensures ∙ not-false _ (the-if2 .left)) (the-put-item .ensures .0) (m .0) r o′ g),
+        ),
+      ),
+    )
+
+-- src/write.rt:235:1
+put-items-same-length-3 : (t : ℕ) → put-items-lts.Need-same-length-3 (put-items-calls t) (put-items-at t) put-items.Post put-items-Inv-loop put-items-μ-loop
+put-items-same-length-3 t c =
+    let the-loop = c .before .loop in
+    the-loop .inv .1 .1 .0
+
+-- src/write.rt:235:1
+put-items-returns-3 : (t : ℕ) → put-items-lts.Need-returns-3 (put-items-calls t) (put-items-at t) put-items.Post put-items-Inv-loop put-items-μ-loop
+put-items-returns-3 t c =
+    let the-loop = c .before .loop in
+    let the-Start = c .before .before .before .before in
+    let the-loop-test = c .loop-test in
+    let h = the-loop .inv in (h .1 .1 .1 _ _ (rows-end _ _ _ (the-Start .pre .1 .1) _ _ _ _ _ _ _ (the-loop-test .left)), (h .0, h .1 .0))
+
+pub +put-inside+put-item+put-items-spec : {M : Type 1} → statement M
++put-inside+put-item+put-items-spec =
+    close μ-put-inside μ-put-item μ-put-items (λ t. put-inside-lts.spec (
+      put-outer-reads.Asked,
+      put-outer-reads.Learnt,
+      put-items-below t,
+      put-items.Post,
+    )
+    (put-inside-at t)
+    put-inside.Post
+    (put-inside-returns t)
+    (put-inside-put-outer-requires t)
+    (put-inside-put-items-requires t)
+    (put-inside-same-length t)
+    (put-inside-returns-2 t))
+    (λ t. put-item-lts.spec (
+      word-at-reads.Asked,
+      word-at-reads.Learnt,
+      entry-size-reads.Asked,
+      entry-size-reads.Learnt,
+      wide-reads.Asked,
+      wide-reads.Learnt,
+      inside-of-reads.Asked,
+      inside-of-reads.Learnt,
+      items-reads.Asked,
+      items-reads.Learnt,
+      wrapped-size-reads.Asked,
+      wrapped-size-reads.Learnt,
+      plus-reads.Asked,
+      plus-reads.Learnt,
+      tag-of-reads.Asked,
+      tag-of-reads.Learnt,
+      put-outer-reads.Asked,
+      put-outer-reads.Learnt,
+      put-entry-reads.Asked,
+      put-entry-reads.Learnt,
+      put-inside-below t,
+      put-inside.Post,
+    )
+    (put-item-at t)
+    put-item.Post
+    (put-item-word-at-requires t)
+    (put-item-entry-size-requires t)
+    (put-item-wide-requires t)
+    (put-item-add-me t)
+    (put-item-inside-of-requires t)
+    (put-item-add-items t)
+    (put-item-items-requires t)
+    (put-item-items-requires-2 t)
+    (put-item-wrapped-size-requires t)
+    (put-item-wrapped-size-requires-2 t)
+    (put-item-plus-requires t)
+    (put-item-plus-requires-2 t)
+    (put-item-tag-of-requires t)
+    (put-item-put-outer-requires t)
+    (put-item-put-entry-requires t)
+    (put-item-add-put-inside t)
+    (put-item-put-inside-requires t)
+    (put-item-put-inside-requires-2 t)
+    (put-item-same-length t)
+    (put-item-returns t))
+    λ t. put-items-lts.spec (
+      word-at-reads.Asked,
+      word-at-reads.Learnt,
+      stands-in-reads.Asked,
+      stands-in-reads.Learnt,
+      put-item-below t,
+      put-item.Post,
+    )
+    (put-items-at t)
+    put-items.Post
+    put-items-Inv-loop
+    put-items-μ-loop
+    (put-items-loop-holds t)
+    (put-items-word-at-requires t)
+    (put-items-same-length t)
+    (put-items-returns t)
+    (put-items-word-at-requires-2 t)
+    (put-items-stands-in-requires t)
+    (put-items-same-length-2 t)
+    (put-items-returns-2 t)
+    (put-items-put-item-requires t)
+    (put-items-loop-less t)
+    (put-items-loop-again t)
+    (put-items-same-length-3 t)
+    (put-items-returns-3 t)

@@ -1,0 +1,30 @@
+use Rattle.glow_writer.proofs.Putting.{puts-by}
+use borrow.Author.Needs.{needs}
+use Rattle.glow_writer.proofs.write.put_octet.Statement.{statement}
+use Rattle.glow_writer.proofs.write.put_octet.Tie as tie
+use Rattle.glow_writer.proofs.write.put_octet.Reads as reads
+use Rattle.glow_writer.proofs.write.put_octet.Lts as lts
+use Rattle.glow_writer.proofs.place.Reads as place-reads
+use Rattle.integers.proofs.write_octet.Reads as write-octet-reads
+
+-- src/write.rt:47:11
+write-octet-requires : tie.Need-write-octet-requires
+write-octet-requires c κs = search needs
+
+-- src/write.rt:47:5
+place-requires : tie.Need-place-requires
+place-requires c κs = search needs
+
+-- src/write.rt:44:1
+same-length : tie.Need-same-length
+same-length c = search needs
+
+-- src/write.rt:44:1
+returns : tie.Need-returns
+returns c =
+    let the-write-octet = c .before .before .before .write-octet in
+    let the-place = c .place in
+    puts-by _ _ _ _ _ _ (the-write-octet .ensures) (the-place .ensures)
+
+pub put-octet-spec : {M : Type 1} → statement M
+put-octet-spec = tie.close (tie.spec write-octet-requires place-requires same-length returns)

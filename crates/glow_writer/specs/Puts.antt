@@ -1,0 +1,97 @@
+-- What the functions that write leave in a lent output, for the functions of this crate.
+use Prim.Native.Nat.{ℕ, suc, _+_, _-_, _*_, _≤_, _<_}
+use mathlib.Core.Path.{_≡_}
+use mathlib.Core.List.{List, [], _∷_, _++_}
+use mathlib.Core.Bool.{true}
+use lib.Dec.{eqb}
+use lib.ListN.{length, drop, getD}
+use Rattle.integers.specs.declared.Wrote.the-variants.{Next}
+use Rattle.integers.specs.Digits.{pick, put, outcome}
+use Rattle.tags.specs.Write.{lengthOctets}
+use Rattle.grammar.specs.Grammar.{children, connections}
+use Rattle.entries.specs.Entry.{Rows}
+use Rattle.forest.specs.Content.{Content, Item, contentsOf}
+use Rattle.forest.specs.Rows.{cellsFrom, itemsIn}
+use Rattle.forest.specs.Trees.{Trees, none, tree, takenBy, count}
+use Rattle.forest.specs.Legal.{isReal, suits, suited, inner, legal}
+use Rattle.forest.specs.Written.{spelled, memberOctets, membersOctets, wrapped, own, treesOctets, writtenReal}
+use Rattle.glow_writer.specs.Sizes.{taggedSize}
+use Rattle.glow_writer.specs.declared.write.Placed.{Placed}
+
+-- Octets of at most 16,384, for which there is room, stand at `at`, and r is the place after them.
+unfoldable pub Puts : List ℕ → ℕ → List ℕ → ℕ → List ℕ → Type 0
+Puts out at bs r out′ = at + length bs ≤ length out → length bs ≤ 16384 → put out at bs ≡ outcome (Next r) out′
+
+-- a tag of one octet and a length
+abbrev pub head : ℕ → ℕ → List ℕ
+head tag n = tag ∷ lengthOctets n
+
+-- an outer tag of a context number, and the tag in it, around n octets
+unfoldable pub heads : ℕ → ℕ → ℕ → List ℕ
+heads number tag n = head (160 + number) (taggedSize n) ++ head tag n
+
+-- an entry's own members, and its contents
+unfoldable pub entryPart : ℕ → List Content → List ℕ
+entryPart kind xs = membersOctets writtenReal 0 (own kind xs) ++ wrapped 1 0 17 (membersOctets writtenReal 0 (inner kind xs))
+
+-- the members in n cells of a row, from cell c on
+abbrev pub rowCells : List ℕ → Rows → ℕ → ℕ → ℕ → List Content
+rowCells s rows i n c = contentsOf s (cellsFrom n c (getD rows i []))
+
+-- what may stand in a message is written: a word, a member by some rule, members, and an entry alone
+abbrev pub WordPuts : ℕ → ℕ → List ℕ → ℕ → ℕ → List ℕ → Type 0
+WordPuts kind w out at r out′ =
+    pick (eqb kind 1) true (pick (eqb kind 2) true (isReal w)) ≡ true → Puts out at (spelled writtenReal kind w) r out′
+
+abbrev pub MemberPuts : ℕ → Content → List ℕ → ℕ → ℕ → List ℕ → Type 0
+MemberPuts number x out at r out′ = (what : ℕ) → suits what x ≡ true → Puts out at (memberOctets writtenReal number x) r out′
+
+abbrev pub MembersPut : ℕ → ℕ → List Content → List ℕ → ℕ → ℕ → List ℕ → Type 0
+MembersPut kind from xs out at r out′ = suited kind from xs ≡ true → Puts out at (membersOctets writtenReal 0 xs) r out′
+
+abbrev pub EntryPuts : ℕ → List Content → List ℕ → ℕ → ℕ → List ℕ → Type 0
+EntryPuts kind xs out at r out′ = suited kind 0 xs ≡ true → Puts out at (entryPart kind xs) r out′
+
+-- the trees that stand in a collection from place i on; f is more than the entries that are left
+abbrev pub treesAt : List Item → ℕ → ℕ → ℕ → ℕ → Trees
+treesAt es f which parent i = takenBy f which parent i (drop i es) .trees
+
+-- the tree of the entry at place i, alone
+abbrev pub kidsAt : List Item → ℕ → ℕ → Trees
+kidsAt es f i = treesAt es f children (suc i) (suc i)
+
+abbrev pub linksAt : List Item → ℕ → ℕ → Trees
+linksAt es f i = treesAt es f connections (suc i) (suc i + count (kidsAt es f i))
+
+unfoldable pub oneAt : List Item → ℕ → ℕ → ℕ → List Content → Trees
+oneAt es f i kind members = tree kind members (kidsAt es f i) (linksAt es f i) none
+
+-- Legal trees of at most 16,384 octets are written, and the next entry is the one after theirs.
+unfoldable pub ItemsPut : List Item → ℕ → ℕ → ℕ → ℕ → ℕ → List ℕ → ℕ → Placed → List ℕ → Type 0
+ItemsPut es which parent k above i out at r out′ =
+    (f : ℕ) → length es - i < f → legal which k above (treesAt es f which parent i) ≡ true
+    → length (treesOctets writtenReal (treesAt es f which parent i)) ≤ 16384
+    → (i + count (treesAt es f which parent i) ≡ r .next) × Puts out at (treesOctets writtenReal (treesAt es f which parent i)) (r .place) out′
+
+-- the same of one tree
+unfoldable pub ItemPuts : List Item → ℕ → ℕ → ℕ → ℕ → List Content → List ℕ → ℕ → Placed → List ℕ → Type 0
+ItemPuts es k above i kind members out at r out′ =
+    (f which : ℕ) → length es - suc i < f → legal which k above (oneAt es f i kind members) ≡ true
+    → length (treesOctets writtenReal (oneAt es f i kind members)) ≤ 16384
+    → (i + count (oneAt es f i kind members) ≡ r .next) × Puts out at (treesOctets writtenReal (oneAt es f i kind members)) (r .place) out′
+
+-- the same of a collection in its outer tag, by the octets that it holds; an empty one is left out
+unfoldable pub InsidePuts : List Item → ℕ → ℕ → ℕ → ℕ → ℕ → ℕ → ℕ → ℕ → List ℕ → ℕ → Placed → List ℕ → Type 0
+InsidePuts es which number tag size parent k above i out at r out′ =
+    (f class inside : ℕ) → length es - i < f → tag ≡ class * 64 + 32 + inside → inside < 31
+    → legal which k above (treesAt es f which parent i) ≡ true → length (treesOctets writtenReal (treesAt es f which parent i)) ≡ size → size ≤ 16384
+    → (i + count (treesAt es f which parent i) ≡ r .next)
+    × Puts out at (wrapped number class inside (treesOctets writtenReal (treesAt es f which parent i))) (r .place) out′
+
+-- by the rows, with the message beside them
+abbrev pub ItemBy : List ℕ → Rows → ℕ → ℕ → ℕ → ℕ → List ℕ → ℕ → Placed → List ℕ → Type 0
+ItemBy s rows n k above i out at r out′ = ItemPuts (itemsIn s rows n) k above i (getD (getD rows i []) 0 0) (rowCells s rows i 16 0) out at r out′
+
+abbrev pub InsideBy : List ℕ → Rows → ℕ → ℕ → ℕ → ℕ → ℕ → ℕ → ℕ → ℕ → ℕ → List ℕ → ℕ → Placed → List ℕ → Type 0
+InsideBy s rows n which number tag size parent k above i out at r out′ =
+    InsidePuts (itemsIn s rows n) which number tag size parent k above i out at r out′

@@ -1,0 +1,330 @@
+// The message of a tree, written forward: each length is measured before what it counts is written.
+use crate::around;
+use crate::cell_at;
+use crate::cells_size;
+use crate::entry_size;
+use crate::index;
+use crate::inside_of;
+use crate::int_of;
+use crate::is_part;
+use crate::items;
+use crate::measure;
+use crate::place;
+use crate::plus;
+use crate::split_of;
+use crate::stands_in;
+use crate::wide;
+use crate::word_at;
+use crate::word_size;
+use crate::wrapped_size;
+use entries::Cell;
+use integers::Wrote;
+ghost use mathlib.Core.Path.{_≡_};
+ghost use mathlib.Core.List.{[], _∷_};
+ghost use Prim.Native.Nat.{_+_, _-_, _%_, _≤_, _<_};
+ghost use lib.ListN.{length, getD};
+ghost use lib.Dec.{eqb};
+ghost use Rattle.integers.specs.Digits.{pick, outcome};
+ghost use Rattle.grammar.specs.Grammar.{applications};
+ghost use Rattle.forest.specs.Content.{contentOf};
+ghost use Rattle.forest.specs.Rows.{itemsIn};
+ghost use Rattle.forest.specs.Written.{rootNumber};
+ghost use Rattle.glow_writer.specs.Accepted.{writes};
+ghost use Rattle.glow_writer.specs.Sizes.{taggedSize};
+ghost use Rattle.glow_writer.specs.Puts.{Puts, head, heads, rowCells, WordPuts, MemberPuts, MembersPut, EntryPuts, ItemsPut, ItemBy, InsideBy};
+
+// The next entry and the place after what was written.
+pub struct Placed {
+    pub next: usize,
+    pub place: usize,
+}
+
+fn put_octet(b: u8, out: &mut [u8], at: usize) -> usize
+    ensures { λ r. ⌜ Puts (now (out .entry)) at (b ∷ []) r (now (out .exit)) ⌝ }
+{
+    place(integers::write_octet(b, out, at))
+}
+
+// A tag of one octet and a length.
+fn put_head(tag: u8, n: u64, out: &mut [u8], at: usize) -> usize
+    ensures { λ r. ⌜ (n ≤ 16384 → Puts (now (out .entry)) at (head tag n) r (now (out .exit))) ⌝ }
+{
+    let a = put_octet(tag, out, at);
+    place(tags::write_length(n, out, a))
+}
+
+// A context tag and the tag in it, around n octets.
+fn put_outer(number: u8, tag: u8, n: u64, out: &mut [u8], at: usize) -> usize
+    requires { ⌜ number < 31 ⌝ }
+    ensures { λ r. ⌜ (taggedSize n ≤ 16384 → Puts (now (out .entry)) at (heads number tag n) r (now (out .exit))) ⌝ }
+{
+    let a = put_head(160 + number, around(n), out, at);
+    put_head(tag, n, out, a)
+}
+
+fn low(x: u64) -> u8
+    ensures { λ r. ⌜ r ≡ x % 256 ⌝ }
+{
+    (x % 256) as u8
+}
+
+fn flag(w: u64) -> u8
+    ensures { λ r. ⌜ r ≡ pick (eqb w 0) 0 255 ⌝ }
+{
+    if w == 0 { 0 } else { 255 }
+}
+
+// The content octets of a boolean, an integer or a real.
+fn put_word(kind: u64, w: u64, out: &mut [u8], at: usize) -> usize
+    ensures { λ r. ⌜ WordPuts kind w (now (out .entry)) at r (now (out .exit)) ⌝ }
+{
+    if kind == 1 {
+        return put_octet(flag(w), out, at);
+    }
+    if kind == 2 {
+        return place(integers::write_int(int_of(w), out, at));
+    }
+    place(reals::write_bits(w, out, at))
+}
+
+// A member with both tags; nothing for an absent one.
+fn put_member(s: &[u8], v: Cell, number: u8, out: &mut [u8], at: usize) -> usize
+    requires { ⌜ number < 31 ⌝ }
+    ensures { λ r. ⌜ MemberPuts number (contentOf (now (s .entry)) v) (now (out .entry)) at r (now (out .exit)) ⌝ }
+{
+    if v.kind == 0 {
+        return at;
+    }
+    let tag = low(v.kind);
+    if is_part(v.kind) {
+        let a = put_outer(number, tag, v.second, out, at);
+        return place(values::write_part(s, index(v.first), index(v.second), out, a));
+    }
+    let a = put_outer(number, tag, word_size(v.kind, v.first, false), out, at);
+    put_word(v.kind, v.first, out, a)
+}
+
+fn byte(x: usize) -> u8
+    requires { ⌜ x < 16 ⌝ }
+    ensures { λ r. ⌜ r ≡ x ⌝ }
+{
+    x as u8
+}
+
+// The members of an entry from one cell up to another, numbered from 0.
+fn put_cells(
+    rows: &[[u64; 50]],
+    i: usize,
+    s: &[u8],
+    kind: u64,
+    from: usize,
+    to: usize,
+    out: &mut [u8],
+    at: usize,
+) -> usize
+    requires { ⌜ (i < length (now rows)) × ((from ≤ to) × (to ≤ 16)) ⌝ }
+    ensures { λ r. ⌜ MembersPut kind from (rowCells (now (s .entry)) (now (rows .entry)) i (to - from) from) (now (out .entry)) at r (now (out .exit)) ⌝ }
+{
+    let mut c = from;
+    let mut p = at;
+    while c < to {
+        p = put_member(s, cell_at(rows, i, c), byte(c - from), out, p);
+        c = c + 1;
+    }
+    p
+}
+
+// An entry's own members, and its contents in their tags.
+fn put_entry(rows: &[[u64; 50]], i: usize, s: &[u8], kind: u64, out: &mut [u8], at: usize) -> usize
+    requires { ⌜ i < length (now rows) ⌝ }
+    ensures { λ r. ⌜ EntryPuts kind (rowCells (now (s .entry)) (now (rows .entry)) i 16 0) (now (out .entry)) at r (now (out .exit)) ⌝ }
+{
+    let split = split_of(kind);
+    let n = cells_size(rows, i, s, kind, split, 16, false);
+    let a = put_cells(rows, i, s, kind, 0, split, out, at);
+    if n == 0 {
+        return a;
+    }
+    let b = put_outer(1, 0x31, n, out, a);
+    put_cells(rows, i, s, kind, split, 16, out, b)
+}
+
+// The tag of an entry's kind, its application number, constructed: of the first kinds.
+fn first_tag(kind: u64) -> u8
+    requires { ⌜ kind ≤ 4 ⌝ }
+    ensures { λ r. ⌜ r ≡ 96 + getD applications kind 0 ⌝ }
+{
+    match kind {
+        1 => 0x61,
+        2 => 0x62,
+        3 => 0x63,
+        4 => 0x6d,
+        _ => 0x60,
+    }
+}
+
+// The same of any kind.
+fn tag_of(kind: u64) -> u8
+    ensures { λ r. ⌜ r ≡ 96 + getD applications kind 0 ⌝ }
+{
+    if kind <= 4 {
+        return first_tag(kind);
+    }
+    match kind {
+        5 => 0x69,
+        6 => 0x6a,
+        7 => 0x71,
+        8 => 0x70,
+        9 => 0x66,
+        _ => 0x60,
+    }
+}
+
+// A collection in its tags, with the trees that stand in it; an empty one is left out.
+fn put_inside(
+    rows: &[[u64; 50]],
+    s: &[u8],
+    count: usize,
+    which: u64,
+    number: u8,
+    tag: u8,
+    size: u64,
+    parent: u64,
+    start: usize,
+    k: u64,
+    above: u64,
+    out: &mut [u8],
+    at: usize,
+) -> Placed
+    requires { ⌜ (start ≤ count) × ((count ≤ length (now rows)) × (number < 31)) ⌝ }
+    ensures { λ r. ⌜ InsideBy (now (s .entry)) (now (rows .entry)) count which number tag size parent k above start (now (out .entry)) at r
+        (now (out .exit)) ⌝ }
+    ensures { λ r. ⌜ (start ≤ r .next) × (r .next ≤ count) ⌝ }
+{
+    if size == 0 {
+        return Placed {
+            next: start,
+            place: at,
+        };
+    }
+    let a = put_outer(number, tag, size, out, at);
+    put_items(rows, s, count, which, parent, start, k, above, out, a)
+}
+
+// An entry with its children and connections.
+fn put_item(
+    rows: &[[u64; 50]],
+    s: &[u8],
+    count: usize,
+    i: usize,
+    k: u64,
+    above: u64,
+    out: &mut [u8],
+    at: usize,
+) -> Placed
+    requires { ⌜ (i < count) × (count ≤ length (now rows)) ⌝ }
+    ensures { λ r. ⌜ ItemBy (now (s .entry)) (now (rows .entry)) count k above i (now (out .entry)) at r (now (out .exit)) ⌝ }
+    ensures { λ r. ⌜ (i < r .next) × (r .next ≤ count) ⌝ }
+{
+    let kind = word_at(rows, i, 0);
+    let e = entry_size(rows, i, s, k, above, false);
+    let me = wide(i) + 1;
+    let deep = inside_of(k);
+    let kids = items(rows, s, count, 1, me, i + 1, deep, e.path, false);
+    let links = items(rows, s, count, 2, me, kids.next, deep, e.path, false);
+    let held = plus(
+        e.size,
+        plus(wrapped_size(kids.size), wrapped_size(links.size)),
+    );
+    let a = put_outer(0, tag_of(kind), held, out, at);
+    let b = put_entry(rows, i, s, kind, out, a);
+    let c = put_inside(
+        rows,
+        s,
+        count,
+        1,
+        2,
+        0x64,
+        kids.size,
+        me,
+        i + 1,
+        deep,
+        e.path,
+        out,
+        b,
+    );
+    put_inside(
+        rows,
+        s,
+        count,
+        2,
+        5,
+        0x30,
+        links.size,
+        me,
+        c.next,
+        deep,
+        e.path,
+        out,
+        c.place,
+    )
+}
+
+// The trees that stand in a collection under a parent, from an entry on.
+fn put_items(
+    rows: &[[u64; 50]],
+    s: &[u8],
+    count: usize,
+    which: u64,
+    parent: u64,
+    start: usize,
+    k: u64,
+    above: u64,
+    out: &mut [u8],
+    at: usize,
+) -> Placed
+    requires { ⌜ (start ≤ count) × (count ≤ length (now rows)) ⌝ }
+    ensures { λ r. ⌜ ItemsPut (itemsIn (now (s .entry)) (now (rows .entry)) count) which parent k above start (now (out .entry)) at r (now (out .exit)) ⌝ }
+    ensures { λ r. ⌜ (start ≤ r .next) × (r .next ≤ count) ⌝ }
+{
+    let mut i = start;
+    let mut p = at;
+    while i < count {
+        if word_at(rows, i, 1) != parent {
+            return Placed { next: i, place: p };
+        }
+        if !stands_in(which, word_at(rows, i, 0)) {
+            return Placed { next: i, place: p };
+        }
+        let r = put_item(rows, s, count, i, k, above, out, p);
+        i = r.next;
+        p = r.place;
+    }
+    Placed { next: i, place: p }
+}
+
+// The tag of Root's collection.
+fn root_tag(root: u64) -> u8
+    ensures { λ r. ⌜ r ≡ 96 + rootNumber root ⌝ }
+{
+    if root == 0 { 0x6b } else { 0x65 }
+}
+
+// The message of the first `count` rows, with their texts in s.
+pub fn write(rows: &[[u64; 50]], count: usize, root: u64, s: &[u8], out: &mut [u8]) -> Wrote
+    ensures { λ r. ⌜ writes root (length (now (rows .entry))) count (itemsIn (now (s .entry)) (now (rows .entry)) count) (now (out .entry))
+        ≡ outcome r (now (out .exit)) ⌝ }
+{
+    let m = measure(rows, count, root, s, false);
+    if 16384 < m {
+        return Wrote::Out;
+    }
+    if wide(out.len()) < m {
+        return Wrote::Out;
+    }
+    let all = items(rows, s, count, root, 0, 0, 62, 0, false);
+    let a = put_head(0x60, around(all.size), out, 0);
+    let b = put_head(root_tag(root), all.size, out, a);
+    let p = put_items(rows, s, count, root, 0, 0, 62, 0, out, b);
+    Wrote::Next(p.place)
+}
