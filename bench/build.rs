@@ -12,8 +12,13 @@ fn main() {
     println!("cargo:rustc-link-lib=static=framing_c");
     // The proved tree reader takes part where its library is.
     println!("cargo:rerun-if-changed={}", folder.join("libglow_c.a").display());
-    if folder.join("libglow_c.a").exists() {
+    if let Ok(octets) = std::fs::read(folder.join("libglow_c.a")) {
         println!("cargo:rustc-cfg=glow");
         println!("cargo:rustc-link-lib=static=glow_c");
+        // The proved tree writer, where the archive's list of symbols has it.
+        let name = b"glow_write\0";
+        if octets.windows(name.len()).any(|window| window == name) {
+            println!("cargo:rustc-cfg=glow_write");
+        }
     }
 }

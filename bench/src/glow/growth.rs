@@ -25,7 +25,7 @@ pub const FAMILIES: [Family; 13] = [
 ];
 
 /// As many of the items as fit, made one by one.
-fn fill(bytes: usize, item: impl Fn(usize) -> Vec<u8>) -> Vec<u8> {
+pub fn fill(bytes: usize, item: impl Fn(usize) -> Vec<u8>) -> Vec<u8> {
     let mut items = Vec::new();
     for index in 0.. {
         let next = item(index);
@@ -37,16 +37,19 @@ fn fill(bytes: usize, item: impl Fn(usize) -> Vec<u8>) -> Vec<u8> {
     items
 }
 
-fn announcement(bytes: usize) -> Vec<u8> {
+pub fn announcement(bytes: usize) -> Vec<u8> {
     root(&fill(bytes, qualified))
 }
 
+/// With 50 sources, as an item.
+pub fn connection(index: usize) -> Vec<u8> {
+    let sent = members(&[(0, integer(index as i32)), (1, tag(0x0D, &[0x11; 50])), (2, integer(1))]);
+    member(0, &tag(0x70, &sent))
+}
+
 /// A matrix and connections with 50 sources each: at most 255 of them in the longest message.
-fn connections(bytes: usize) -> Vec<u8> {
-    let list = fill(bytes, |index| {
-        let sent = members(&[(0, integer(index as i32)), (1, tag(0x0D, &[0x11; 50])), (2, integer(1))]);
-        member(0, &tag(0x70, &sent))
-    });
+pub fn connections(bytes: usize) -> Vec<u8> {
+    let list = fill(bytes, connection);
     root(&member(0, &tag(0x71, &[member(0, &tag(0x0D, &[1, 5])), member(5, &tag(0x30, &list))].concat())))
 }
 
@@ -79,12 +82,12 @@ fn commands(bytes: usize) -> Vec<u8> {
 }
 
 /// A name without "/", looked through to its end.
-fn one_text(bytes: usize) -> Vec<u8> {
+pub fn one_text(bytes: usize) -> Vec<u8> {
     node(&[member(0, &text(&"n".repeat(bytes - 2 * AROUND))), member(2, &flag(true))].concat())
 }
 
 /// One connection with as many sources as fit.
-fn sources(bytes: usize) -> Vec<u8> {
+pub fn sources(bytes: usize) -> Vec<u8> {
     let sent = members(&[(0, integer(1)), (1, tag(0x0D, &vec![0x11; bytes - 2 * AROUND]))]);
     let list = member(0, &tag(0x70, &sent));
     root(&member(0, &tag(0x71, &[member(0, &tag(0x0D, &[1, 5])), member(5, &tag(0x30, &list))].concat())))

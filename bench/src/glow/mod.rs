@@ -1,14 +1,18 @@
-//! The Glow tree reader: the proved one, if its library is there, beside one in plain safe Rust.
+//! The Glow tree reader and writer: the proved ones, if their library is there, beside such in plain safe Rust.
 //! `bench tree [ROUNDS]`: nanoseconds a message and megabytes a second, on each of the inputs. `bench growth [ROUNDS]`:
-//! nanoseconds a byte as messages grow. `bench stack`: the stack that a call needs.
+//! nanoseconds a byte as messages grow. `bench stack`: the stack that a call needs. `bench write [ROUNDS]`: the writers.
 pub mod growth;
 mod inputs;
 mod plain;
+mod plain_writer;
 #[cfg(glow)]
 mod proved;
 pub mod stack;
 #[cfg(test)]
 mod tests;
+pub mod write;
+#[cfg(test)]
+mod write_tests;
 
 use std::hint::black_box;
 use std::time::Instant;

@@ -712,7 +712,7 @@ fn integer(octets: &[u8]) -> Option<i64> {
     }
 }
 
-fn is_name(octets: &[u8]) -> bool {
+pub fn is_name(octets: &[u8]) -> bool {
     octets.first().is_some_and(|&first| first.is_ascii_alphabetic() || first == b'_') && !octets.contains(&b'/')
 }
 
@@ -752,14 +752,14 @@ fn real(octets: &[u8]) -> Option<u64> {
     Some(sign | number)
 }
 
-struct Numbers {
-    count: usize,
-    zero: bool,
-    over: bool,
+pub struct Numbers {
+    pub count: usize,
+    pub zero: bool,
+    pub over: bool,
 }
 
 /// What a relative identifier holds; none for bad octets.
-fn numbers(octets: &[u8]) -> Option<Numbers> {
+pub fn numbers(octets: &[u8]) -> Option<Numbers> {
     let mut numbers = Numbers { count: 0, zero: false, over: false };
     let mut number = 0u64;
     let mut inside = false;

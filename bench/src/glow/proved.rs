@@ -1,8 +1,22 @@
-//! The proved reader, through its C interface. Compiled only where build.rs finds `libglow_c.a`.
+//! The proved reader, through its C interface. Compiled only where build.rs finds `libglow_c.a`; the writer only where that
+//! has `glow_write`.
 use super::{Answer, Row};
 
 extern "C" {
     fn glow_read(message: *const u8, n: usize, table: *mut Row, rows: usize, answer: *mut u64, words: usize) -> u64;
+    #[cfg(glow_write)]
+    fn glow_write(
+        rows: *const Row,
+        n: usize,
+        count: usize,
+        root: u64,
+        message: *const u8,
+        length: usize,
+        out: *mut u8,
+        out_length: usize,
+        answer: *mut u64,
+        answer_words: usize,
+    ) -> u64;
 }
 
 /// The library reads and writes only within the slices, whatever they hold and however long they are.
@@ -19,5 +33,29 @@ fn answer(number: u64, words: [u64; 3]) -> Answer {
         1 => Answer::Setup,
         38 => Answer::Room { count: words[1] as usize },
         _ => Answer::Refused { number, place: words[0] as usize },
+    }
+}
+
+/// The length written, or the number of the refusal.
+#[cfg(glow_write)]
+pub fn write(rows: &[Row], count: usize, root: u64, message: &[u8], out: &mut [u8]) -> Result<usize, u64> {
+    let mut words = [0];
+    let number = unsafe {
+        glow_write(
+            rows.as_ptr(),
+            rows.len(),
+            count,
+            root,
+            message.as_ptr(),
+            message.len(),
+            out.as_mut_ptr(),
+            out.len(),
+            words.as_mut_ptr(),
+            words.len(),
+        )
+    };
+    match number {
+        0 => Ok(words[0] as usize),
+        _ => Err(number),
     }
 }
