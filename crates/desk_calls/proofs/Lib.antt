@@ -1,0 +1,10 @@
+pub mod Sets
+pub mod Sources
+pub mod Numbers
+pub mod Items
+pub mod Walk
+pub mod Served
+pub mod Setup
+pub mod Claims
+pub mod Paths
+pub mod Vectors

@@ -1,0 +1,122 @@
+-- Connections answered one after another, and the answers laid over those lent.
+use Prim.Native.Nat.{ℕ, suc, _+_, _-_, _≤_, _<_}
+use mathlib.Core.Path.{_≡_, sym, ap, _∙_}
+use mathlib.Core.List.{List, [], _∷_, _++_}
+use mathlib.Core.Bool.{true, false}
+use native.Mathlib.Omega.{arith}
+use borrow.Author.Tests.{eq-eqb, ne-eqb}
+use lib.ListN.{length, take, drop, getD, set, take-append-drop, drop-of-length-le}
+use lib.Seq.{take-suc-set, drop-set-lt, drop-cons}
+use Rattle.entries.specs.Entry.{Rows}
+use Rattle.entries.specs.declared.Cell.{Cell}
+use Rattle.forest.specs.Content.{Item, contentOf}
+use Rattle.forest.specs.Rows.{cellAt, itemsIn}
+use Rattle.routing.specs.declared.Figures.{Figures}
+use Rattle.routing.specs.Crosspoints.{Cells, Answer, answer}
+use Rattle.desk_calls.specs.Connections.{numberOf, octetsOf, numbersIn, nobody, fullPath, askOf, asksIn, memberOf}
+use Rattle.desk_calls.specs.Calls.{Request, requests, same, answered, Served, answers, served, handled, outcome, laid}
+use Rattle.desk_calls.specs.Steps.{laidAt, answeredAt, servedIn, leftFrom, Turns}
+use Rattle.routing.specs.Figures.{side}
+use Rattle.desk_calls.proofs.Items.{in-length, in-kind, in-parent, in-first, in-second, in-third}
+use Rattle.desk_calls.proofs.Sources.{append-again}
+
+-- the answers, over those lent
+pub laid-start : (z : Served) (lent : List ℕ) → laid z lent ≡ laidAt 0 z lent
+unfolding laid laidAt
+laid-start z lent = let d : 0 + length (z .answers) ≡ length (z .answers) = omega arith in rw d
+
+pub laid-more : (n : ℕ) (x : ℕ) (ns : List ℕ) (cells : Cells) (lent : List ℕ) → n < length lent
+    → laidAt n (answers (x ∷ ns) cells) lent ≡ laidAt (n + 1) (answers ns cells) (set lent n x)
+unfolding laidAt
+laid-more n x ns cells lent h =
+    let d : n + suc (length ns) ≡ n + 1 + length ns = omega arith in
+    let o : n + 1 ≡ suc n = omega arith in
+    let k : n < n + 1 + length ns = omega arith in
+    let t : take (n + 1) (set lent n x) ≡ take n lent ++ (x ∷ []) = ap (λ (i : ℕ). take i (set lent n x)) o ∙ take-suc-set lent n x h in
+    rw (d, t, drop-set-lt (n + 1 + length ns) lent n x k, append-again (take n lent) x (ns ++ drop (n + 1 + length ns) lent))
+
+pub laid-end : (n : ℕ) (cells : Cells) (lent : List ℕ) → laidAt n (answers [] cells) lent ≡ outcome 0 n lent cells
+unfolding laidAt
+laid-end n cells lent = let d : n + 0 ≡ n = omega arith in rw (d, take-append-drop n lent)
+
+-- the connections from place i on
+module _ (request : Request) (path : List ℕ) (es : List Item) (i : ℕ) (cells : Cells) where
+  abbrev from : Served
+  from = served request path (asksIn es (drop i es)) cells
+
+  pub serve-none : length es ≤ i → from ≡ answers [] cells
+  unfolding asksIn served
+  serve-none h = rw (drop-of-length-le es h)
+
+  module _ (h : i < length es) where
+    first : drop i es ≡ getD es i nobody ∷ drop (i + 1) es
+    first = let d : suc i ≡ i + 1 = omega arith in drop-cons es i nobody h ∙ ap (λ (j : ℕ). getD es i nobody ∷ drop j es) d
+
+    pub serve-other : (getD es i nobody .kind ≡ 8 → ⊥) → from ≡ served request path (asksIn es (drop (i + 1) es)) cells
+    unfolding asksIn
+    serve-other k = rw (first, ne-eqb _ _ k)
+
+    pub serve-one : getD es i nobody .kind ≡ 8 → (x : ℕ) (after : Cells) → answered request path (askOf es (getD es i nobody)) cells ≡ answer x after
+        → from ≡ answers (x ∷ served request path (asksIn es (drop (i + 1) es)) after .answers)
+        (served request path (asksIn es (drop (i + 1) es)) after .cells)
+    unfolding asksIn served
+    serve-one k x after e = rw (first, eq-eqb _ _ k, e)
+
+-- the loop over the entries
+module _ (f : Figures) (path : List ℕ) (rows : Rows) (count : ℕ) (s : List ℕ) (c : count ≤ length rows) where
+  pub serve-start : (lent : List ℕ) (cells : Cells) → servedIn f path rows count s lent cells ≡ laidAt 0 (leftFrom f path rows count s 0 cells) lent
+  unfolding handled
+  serve-start lent cells = laid-start (leftFrom f path rows count s 0 cells) lent
+
+  module _ (i n : ℕ) (lent : List ℕ) (cells : Cells) where
+    abbrev es : List Item
+    es = itemsIn s rows count
+
+    pub serve-end : count ≤ i → laidAt n (leftFrom f path rows count s i cells) lent ≡ outcome 0 n lent cells
+    serve-end k =
+        ap (λ (z : Served). laidAt n z lent) (serve-none (requests side f) path es i cells (omega (arith, k, in-length s rows count c)))
+        ∙ laid-end n cells lent
+
+    module _ (k : i < count) (kind : ℕ) (e : kind ≡ getD (getD rows i []) 0 0) where
+      there : i < length es
+      there = omega (arith, k, in-length s rows count c)
+
+      pub turn-other : (kind ≡ 8 → ⊥) → Turns f path rows count s i n lent cells n lent cells
+      turn-other d =
+          ap (λ (z : Served). laidAt n z lent)
+          (serve-other (requests side f) path es i cells there (λ z. d (e ∙ sym (in-kind s rows count c i k) ∙ z)))
+
+      pub turn-one : kind ≡ 8 → n < length lent → (x : ℕ) (after : Cells) → answeredAt f path rows count s i cells ≡ answer x after
+          → Turns f path rows count s i n lent cells (n + 1) (set lent n x) after
+      turn-one d l x after a =
+          ap (λ (z : Served). laidAt n z lent)
+          (serve-one (requests side f) path es i cells there (in-kind s rows count c i k ∙ sym e ∙ d) x after a)
+          ∙ laid-more n x _ _ lent l
+
+-- one connection
+module _ (request : Request) (path : List ℕ) (s : List ℕ) (rows : Rows) (count : ℕ) (c : count ≤ length rows) (i : ℕ) (k : i < count) (cells : Cells) where
+  abbrev items : List Item
+  items = itemsIn s rows count
+
+  abbrev here : Item
+  here = getD items i nobody
+
+  module _ (p : ℕ) (e : p ≡ getD (getD rows i []) 1 0) where
+    matrix-is : fullPath items (here .parent) ≡ fullPath items p
+    matrix-is = ap (fullPath items) (in-parent s rows count c i k ∙ sym e)
+
+    pub other-matrix : same (fullPath items p) path ≡ false → answered request path (askOf items here) cells ≡ answer 40 cells
+    unfolding answered askOf
+    other-matrix h = rw (matrix-is, h)
+
+    pub own-matrix : same (fullPath items p) path ≡ true → (target operation : ℕ) (t o v : Cell)
+        → t ≡ cellAt (getD rows i []) 0 → o ≡ cellAt (getD rows i []) 2 → v ≡ cellAt (getD rows i []) 1
+        → numberOf (contentOf s t) ≡ target → numberOf (contentOf s o) ≡ operation
+        → (a : Answer) → request target (numbersIn (octetsOf (contentOf s v))) operation cells ≡ a
+        → answered request path (askOf items here) cells ≡ a
+    unfolding answered askOf
+    own-matrix h target operation t o v x y z m n a b =
+        let q : numberOf (memberOf here 0) ≡ target = ap numberOf (in-first s rows count c i k ∙ ap (contentOf s) (sym x)) ∙ m in
+        let r : numberOf (memberOf here 2) ≡ operation = ap numberOf (in-third s rows count c i k ∙ ap (contentOf s) (sym y)) ∙ n in
+        let l : memberOf here 1 ≡ contentOf s v = in-second s rows count c i k ∙ ap (contentOf s) (sym z) in
+        rw (matrix-is, h, q, r, l) b

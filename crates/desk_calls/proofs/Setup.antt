@@ -1,0 +1,184 @@
+-- What SETUP's tests tell, and what figures that fit tell of a path.
+use Prim.Native.Nat.{ℕ, suc, _+_, _-_, _*_, _≤_, _<_}
+use mathlib.Core.Path.{_≡_, refl, sym, ap, _∙_}
+use mathlib.Core.List.{List}
+use mathlib.Core.Bool.{Bool, true, false, true≢false}
+use native.Mathlib.Omega.{arith}
+use borrow.Author.Tests.{le-leb, lt-leb, leb-true, eq-eqb, ne-eqb}
+use lib.ListN.{length, drop, getD, drop-of-length-le}
+use lib.Seq.{drop-cons}
+use lib.Dec.{leb}
+use Rattle.integers.specs.Digits.{pick}
+use Rattle.entries.specs.Entry.{Rows}
+use Rattle.grammar.specs.Leaf as leaf
+use Rattle.forest.specs.Content.{Item}
+use Rattle.forest.specs.Rows.{itemsIn}
+use Rattle.glow_writer.specs.Accepted.{accepted, fits, lengthOf, leastReal, isWhole, octetsOf}
+use Rattle.routing.specs.declared.Figures.{Figures}
+use Rattle.routing.specs.Figures.{both}
+use Rattle.routing.specs.Crosspoints.{Cells, legal, opened, answer}
+use Rattle.routing.proofs.Laws.{both-left, both-right, both-no, both-yes, fit-sources-le}
+use Rattle.routing.proofs.Answers.{legal-fit}
+use Rattle.desk_calls.specs.Calls.{allNumbers, pathFits, deskLegal, deskOpened, handled, outcome, laid, isReady, called}
+use Rattle.desk_calls.proofs.Items.{in-length}
+
+-- a path's numbers from i on
+module _ (path : List ℕ) (i : ℕ) where
+  pub numbers-end : length path ≤ i → allNumbers (drop i path) ≡ true
+  unfolding allNumbers
+  numbers-end h = rw (drop-of-length-le path h)
+
+  module _ (h : i < length path) where
+    pub numbers-under : getD path i 0 < 1 → allNumbers (drop i path) ≡ false
+    unfolding allNumbers
+    numbers-under k = rw (drop-cons path i 0 h, lt-leb _ _ k)
+
+    pub numbers-over : 1 ≤ getD path i 0 → 2147483647 < getD path i 0 → allNumbers (drop i path) ≡ false
+    unfolding allNumbers
+    numbers-over k l = rw (drop-cons path i 0 h, le-leb _ _ k, lt-leb _ _ l)
+
+    pub numbers-more : 1 ≤ getD path i 0 → getD path i 0 ≤ 2147483647 → allNumbers (drop i path) ≡ allNumbers (drop (i + 1) path)
+    unfolding allNumbers
+    numbers-more k l = let d : i + 1 ≡ suc i = omega arith in rw (drop-cons path i 0 h, le-leb _ _ k, le-leb _ _ l, d)
+
+module _ (path : List ℕ) where
+  pub path-none : length path < 1 → pathFits path ≡ false
+  unfolding pathFits
+  path-none h = rw (lt-leb _ _ h)
+
+  pub path-long : 1 ≤ length path → 16 < length path → pathFits path ≡ false
+  unfolding pathFits
+  path-long h k = rw (le-leb _ _ h, lt-leb _ _ k)
+
+  pub path-rest : 1 ≤ length path → length path ≤ 16 → pathFits path ≡ allNumbers path
+  unfolding pathFits
+  path-rest h k = rw (le-leb _ _ h, le-leb _ _ k)
+
+  pub path-short : pathFits path ≡ true → length path ≤ 16
+  unfolding pathFits
+  path-short h =
+      leb-true (length path) 16
+      (both-right (leb 1 (length path)) (leb (length path) 16) (both-left (both (leb 1 (length path)) (leb (length path) 16)) (allNumbers path) h))
+
+module _ (w : ℕ) (f : Figures) (path : List ℕ) (cells : Cells) where
+  pub desk-path : pathFits path ≡ false → deskLegal w f path cells ≡ false
+  unfolding deskLegal
+  desk-path h = both-no (pathFits path) (legal w f cells) h
+
+  pub desk-rest : pathFits path ≡ true → deskLegal w f path cells ≡ legal w f cells
+  unfolding deskLegal
+  desk-rest h = both-yes (pathFits path) (legal w f cells) h
+
+  module _ (h : deskLegal w f path cells ≡ true) where
+    pub desk-fits : pathFits path ≡ true
+    unfolding deskLegal
+    desk-fits = both-left (pathFits path) (legal w f cells) h
+
+    pub desk-legal : legal w f cells ≡ true
+    unfolding deskLegal
+    desk-legal = both-right (pathFits path) (legal w f cells) h
+
+    pub desk-sources : f .sources ≤ w
+    desk-sources = fit-sources-le w f (legal-fit w f cells desk-legal)
+
+-- the writer's measure
+module _ (real : ℕ → List ℕ) (root rows n : ℕ) (es : List Item) (r : ℕ) (e : lengthOf real root rows n es ≡ r) where
+  pub measure-no : 16384 < r → fits real root rows n es ≡ false
+  unfolding lengthOf fits
+  measure-no h = go (leb n rows) (leb n 256) (isWhole root es) (leb (length (octetsOf real root es)) 16384) refl e
+    where
+      go : (a b c d : Bool) → leb (length (octetsOf real root es)) 16384 ≡ d
+          → pick (leaf.both a (leaf.both b (leaf.both c d))) (length (octetsOf real root es)) 65536 ≡ r
+          → leaf.both a (leaf.both b (leaf.both c d)) ≡ false
+      go false b c d z y = refl
+      go true false c d z y = refl
+      go true true false d z y = refl
+      go true true true false z y = refl
+      go true true true true z y = absurd (omega (arith, h, y, leb-true (length (octetsOf real root es)) 16384 z))
+
+  pub measure-yes : r ≤ 16384 → fits real root rows n es ≡ true
+  unfolding lengthOf
+  measure-yes h = go (fits real root rows n es) e
+    where
+      go : (a : Bool) → pick a (length (octetsOf real root es)) 65536 ≡ r → a ≡ true
+      go true y = refl
+      go false y = absurd (omega (arith, h, y))
+
+  pub measure-rows : r ≤ 16384 → n ≤ rows
+  unfolding fits
+  measure-rows h = go (leb n rows) refl (measure-yes h)
+    where
+      go : (a : Bool) → leb n rows ≡ a
+          → leaf.both a (leaf.both (leb n 256) (leaf.both (isWhole root es) (leb (length (octetsOf real root es)) 16384))) ≡ true → n ≤ rows
+      go true z y = leb-true n rows z
+      go false z y = absurd (true≢false (sym y))
+
+-- it says whether the entries make a tree that the reader accepts
+pub measure-accepted : (root : ℕ) (s : List ℕ) (rows : Rows) (n : ℕ)
+    → both (leb n (length rows)) (accepted root (itemsIn s rows n)) ≡ fits leastReal root (length rows) n (itemsIn s rows n)
+unfolding fits accepted
+measure-accepted root s rows n = go (leb n (length rows)) refl
+  where
+    go : (a : Bool) → leb n (length rows) ≡ a
+        → both a (leaf.both (leb (length (itemsIn s rows n)) 256)
+        (leaf.both (isWhole root (itemsIn s rows n)) (leb (length (octetsOf leastReal root (itemsIn s rows n))) 16384)))
+        ≡ leaf.both a (leaf.both (leb n 256) (leaf.both (isWhole root (itemsIn s rows n)) (leb (length (octetsOf leastReal root (itemsIn s rows n))) 16384)))
+    go false e = refl
+    go true e =
+        ap (λ (m : ℕ). leaf.both (leb m 256) (leaf.both (isWhole root (itemsIn s rows n)) (leb (length (octetsOf leastReal root (itemsIn s rows n))) 16384)))
+        (in-length s rows n (leb-true n (length rows) e))
+
+module _ (w : ℕ) (f : Figures) (path : List ℕ) (root : ℕ) (rows : Rows) (n : ℕ) (s lent : List ℕ) (cells : Cells) where
+  abbrev es : List Item
+  es = itemsIn s rows n
+
+  pub called-not : isReady w f path root rows n es lent cells ≡ false → called w f path root rows n s lent cells ≡ outcome 1 0 lent cells
+  unfolding called
+  called-not h = rw h
+
+  pub called-ready : isReady w f path root rows n es lent cells ≡ true
+      → called w f path root rows n s lent cells ≡ laid (handled w f path es cells) lent
+  unfolding called
+  called-ready h = rw h
+
+  pub setup-lent : length lent < n → called w f path root rows n s lent cells ≡ outcome 1 0 lent cells
+  unfolding isReady
+  setup-lent h = called-not (both-no _ _ (lt-leb _ _ h))
+
+  module _ (h : n ≤ length lent) where
+    ready : isReady w f path root rows n es lent cells ≡ both (deskLegal w f path cells) (fits leastReal root (length rows) n es)
+    unfolding isReady
+    ready =
+        both-yes (leb n (length lent)) (both (deskLegal w f path cells) (both (leb n (length rows)) (accepted root es))) (le-leb _ _ h)
+        ∙ ap (both (deskLegal w f path cells)) (measure-accepted root s rows n)
+
+    pub setup-desk : deskLegal w f path cells ≡ false → called w f path root rows n s lent cells ≡ outcome 1 0 lent cells
+    setup-desk k = called-not (ready ∙ both-no _ _ k)
+
+    module _ (k : deskLegal w f path cells ≡ true) (r : ℕ) (e : lengthOf leastReal root (length rows) n es ≡ r) where
+      pub setup-entries : 16384 < r → called w f path root rows n s lent cells ≡ outcome 1 0 lent cells
+      setup-entries l = called-not (ready ∙ both-yes _ _ k ∙ measure-no leastReal root (length rows) n es r e l)
+
+      pub not-setup : r ≤ 16384 → called w f path root rows n s lent cells ≡ laid (handled w f path es cells) lent
+      not-setup l = called-ready (ready ∙ both-yes _ _ k ∙ measure-yes leastReal root (length rows) n es r e l)
+
+  -- what a caller has to show: as many answers lent as entries, a legal desk, entries that stand in the rows and make a tree that the reader accepts
+  pub ready-from : n ≤ length lent → deskLegal w f path cells ≡ true → n ≤ length rows → accepted root es ≡ true
+      → called w f path root rows n s lent cells ≡ laid (handled w f path es cells) lent
+  unfolding isReady
+  ready-from h k l a = called-ready (rw (le-leb _ _ h, k, le-leb _ _ l, a))
+
+-- ---- opening: the path beside the other figures
+
+module _ (w : ℕ) (f : Figures) (path : List ℕ) (mode : ℕ) (cells : Cells) where
+  pub opened-path : pathFits path ≡ true → deskOpened w f path mode cells ≡ opened w f mode cells
+  unfolding deskOpened
+  opened-path h = rw h
+
+  pub opened-not : pathFits path ≡ false → length cells ≡ w * w → deskOpened w f path mode cells ≡ answer 45 cells
+  unfolding deskOpened
+  opened-not h e = rw (h, eq-eqb _ _ e)
+
+  pub opened-count : pathFits path ≡ false → (length cells ≡ w * w → ⊥) → deskOpened w f path mode cells ≡ answer 1 cells
+  unfolding deskOpened
+  opened-count h n = rw (h, ne-eqb _ _ n)

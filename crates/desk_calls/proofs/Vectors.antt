@@ -1,0 +1,129 @@
+-- The rules at a small message, by computation: rows of three cells, so at most three targets and three sources. The desk's path is 1.5.2.
+use Prim.Native.Nat.{ℕ}
+use mathlib.Core.Path.{_≡_, refl}
+use mathlib.Core.List.{List, [], _∷_}
+use mathlib.Core.Bool.{true, false}
+use Rattle.forest.specs.Content.{Content, nothing, word, bytes, Item, item}
+use Rattle.identifiers.specs.Identifier.{arcIs, arcFrom, arcAt, arcsFrom}
+use Rattle.routing.specs.declared.Limit.the-variants.{Absent}
+use Rattle.routing.specs.declared.Figures.{Figures}
+use Rattle.routing.specs.Figures.{isCount, figuresFit, mostEach, mostTotal}
+use Rattle.routing.specs.Crosspoints.{Cells, bit, count, allBits, clear, rowAt, withRow, holders, takenFrom, mostAt, rowFits, rowsFit, sourcesFit}
+use Rattle.routing.specs.Crosspoints.{kindFits, cellsFit, legal}
+use Rattle.routing.specs.Request.{marked, named, allBelow, replaces, becomes, takes, others, result, many, overTotal, judged, asked, requested}
+use Rattle.desk_calls.specs.Connections.{numbersIn, isQualified, pathUp, fullPath, ask, askOf, asksIn}
+use Rattle.desk_calls.specs.Calls.{same, answered, answers, served, handled, pathFits, allNumbers, deskLegal, outcome, laid, isReady, called}
+
+abbrev desk : ℕ → Figures
+desk kind = record { kind = kind; targets = 3; sources = 3; total = Absent; each = Absent }
+
+abbrev cells9 : ℕ → ℕ → ℕ → ℕ → ℕ → ℕ → ℕ → ℕ → ℕ → Cells
+cells9 a b c d e f g h i = a ∷ b ∷ c ∷ d ∷ e ∷ f ∷ g ∷ h ∷ i ∷ []
+
+-- a node or a matrix by its number, qualified ones by their path, a connection (target, sources, operation)
+abbrev node : ℕ → ℕ → Item
+node parent n = item 3 parent (word 2 n ∷ [])
+
+abbrev matrix : ℕ → ℕ → Item
+matrix parent n = item 4 parent (word 2 n ∷ [])
+
+abbrev qualifiedNode : List ℕ → Item
+qualifiedNode path = item 6 0 (bytes 13 path ∷ [])
+
+abbrev qualifiedMatrix : List ℕ → Item
+qualifiedMatrix path = item 7 0 (bytes 13 path ∷ [])
+
+abbrev link : ℕ → ℕ → Content → Content → Item
+link parent target sources operation = item 8 parent (word 2 target ∷ sources ∷ operation ∷ [])
+
+abbrev from : List ℕ → Content
+from octets = bytes 13 octets
+
+abbrev asIs : Content
+asIs = nothing
+
+abbrev operation : ℕ → Content
+operation n = word 2 n
+
+-- numbers up to 2,147,483,647, in octets
+pub v-numbers :
+    (numbersIn [] ≡ []) ×
+    (numbersIn (1 ∷ 5 ∷ 2 ∷ []) ≡ 1 ∷ 5 ∷ 2 ∷ []) ×
+    (numbersIn (129 ∷ 0 ∷ 127 ∷ []) ≡ 128 ∷ 127 ∷ [])
+unfolding arcIs arcFrom arcAt arcsFrom numbersIn
+v-numbers = (refl, refl, refl)
+
+-- "Which path has a matrix that is not qualified?": its parents' numbers, from a qualified parent's path on
+pub v-paths :
+    (fullPath (node 0 1 ∷ node 1 5 ∷ matrix 2 2 ∷ []) 3 ≡ 1 ∷ 5 ∷ 2 ∷ []) ×
+    (fullPath (qualifiedNode (1 ∷ 5 ∷ []) ∷ matrix 1 2 ∷ []) 2 ≡ 1 ∷ 5 ∷ 2 ∷ []) ×
+    (fullPath (qualifiedMatrix (1 ∷ 5 ∷ 2 ∷ []) ∷ []) 1 ≡ 1 ∷ 5 ∷ 2 ∷ []) ×
+    (fullPath (node 0 4 ∷ matrix 0 7 ∷ []) 2 ≡ 7 ∷ [])
+unfolding arcIs arcFrom arcAt arcsFrom numbersIn isQualified pathUp
+v-paths = (refl, refl, refl, refl)
+
+-- Every connection is answered in order, also after a refused one, and crosspoints are handed on; other entries ask nothing.
+pub v-order :
+    handled 3 (desk 0) (1 ∷ 5 ∷ 2 ∷ [])
+    (qualifiedNode (1 ∷ 5 ∷ []) ∷ matrix 1 2 ∷ link 2 0 (from (1 ∷ [])) asIs ∷ link 2 9 (from (1 ∷ [])) asIs
+    ∷ link 2 1 (from (9 ∷ [])) asIs ∷ link 2 0 (from (2 ∷ 2 ∷ [])) (operation 1) ∷ [])
+    (cells9 0 0 0 0 0 0 0 0 1)
+    ≡ answers (0 ∷ 41 ∷ 42 ∷ 0 ∷ []) (cells9 0 0 1 0 0 0 0 0 1)
+unfolding isCount figuresFit mostEach mostTotal
+    bit count allBits clear rowAt withRow holders takenFrom mostAt rowFits rowsFit sourcesFit kindFits cellsFit legal
+    marked named allBelow replaces becomes takes others result many overTotal judged asked requested
+    arcIs arcFrom arcAt arcsFrom numbersIn isQualified pathUp askOf asksIn same answered served handled
+v-order = refl
+
+-- "40 MATRIX: other path", before 41; "A missing list is empty", absolute by default; no connections, no answers
+pub v-others :
+    (handled 3 (desk 0) (1 ∷ 5 ∷ 2 ∷ [])
+    (qualifiedMatrix (1 ∷ 5 ∷ 3 ∷ []) ∷ link 1 9 nothing asIs ∷ qualifiedMatrix (1 ∷ 5 ∷ 2 ∷ []) ∷ link 3 2 nothing asIs ∷ []) (cells9 0 0 0 0 0 0 0 0 1)
+    ≡ answers (40 ∷ 0 ∷ []) (cells9 0 0 0 0 0 0 0 0 0)) ×
+    -- a longer path, and a shorter
+    (handled 3 (desk 0) (1 ∷ 5 ∷ 2 ∷ []) (qualifiedMatrix (1 ∷ 5 ∷ 2 ∷ 1 ∷ []) ∷ link 1 2 nothing asIs ∷ []) (cells9 0 0 0 0 0 0 0 0 1)
+    ≡ answers (40 ∷ []) (cells9 0 0 0 0 0 0 0 0 1)) ×
+    (handled 3 (desk 0) (1 ∷ 5 ∷ 2 ∷ []) (qualifiedMatrix (5 ∷ 2 ∷ []) ∷ link 1 2 nothing asIs ∷ []) (cells9 0 0 0 0 0 0 0 0 1)
+    ≡ answers (40 ∷ []) (cells9 0 0 0 0 0 0 0 0 1)) ×
+    (handled 3 (desk 0) (1 ∷ []) (qualifiedMatrix (1 ∷ []) ∷ []) (cells9 0 0 0 0 0 0 0 0 1) ≡ answers [] (cells9 0 0 0 0 0 0 0 0 1))
+unfolding isCount figuresFit mostEach mostTotal
+    bit count allBits clear rowAt withRow holders takenFrom mostAt rowFits rowsFit sourcesFit kindFits cellsFit legal
+    marked named allBelow replaces becomes takes others result many overTotal judged asked requested
+    arcIs arcFrom arcAt arcsFrom numbersIn isQualified pathUp askOf asksIn same answered served handled
+v-others = (refl, refl, refl, refl)
+
+-- in 1:1 the second connection takes the source from the first one's target
+pub v-moved :
+    handled 3 (desk 1) (7 ∷ []) (matrix 0 7 ∷ link 1 0 (from (2 ∷ [])) (operation 1) ∷ link 1 1 (from (2 ∷ [])) (operation 0) ∷ []) (cells9 0 0 0 0 0 0 0 0 0)
+    ≡ answers (0 ∷ 0 ∷ []) (cells9 0 0 0 0 0 1 0 0 0)
+unfolding isCount figuresFit mostEach mostTotal
+    bit count allBits clear rowAt withRow holders takenFrom mostAt rowFits rowsFit sourcesFit kindFits cellsFit legal
+    marked named allBelow replaces becomes takes others result many overTotal judged asked requested
+    arcIs arcFrom arcAt arcsFrom numbersIn isQualified pathUp askOf asksIn same answered served handled
+v-moved = refl
+
+-- "A full path has 1 to 16 numbers"; "Numbers are 1 to 2,147,483,647": the desk's own
+abbrev sixteen : List ℕ
+sixteen = 1 ∷ 2 ∷ 3 ∷ 4 ∷ 5 ∷ 6 ∷ 7 ∷ 8 ∷ 9 ∷ 10 ∷ 11 ∷ 12 ∷ 13 ∷ 14 ∷ 15 ∷ 2147483647 ∷ []
+
+pub v-path :
+    (pathFits (1 ∷ []) ≡ true) ×
+    (pathFits sixteen ≡ true) ×
+    (pathFits [] ≡ false) ×
+    (pathFits (1 ∷ sixteen) ≡ false) ×
+    (pathFits (1 ∷ 0 ∷ []) ≡ false) ×
+    (pathFits (1 ∷ 2147483648 ∷ []) ≡ false)
+unfolding pathFits allNumbers
+v-path = (refl, refl, refl, refl, refl, refl)
+
+-- The answers over the first of those lent, the others as they were; 1 leaves all: too few answers lent, a desk that is not legal, entries that no row holds.
+pub v-left :
+    (laid (answers (0 ∷ 41 ∷ []) (cells9 1 0 0 0 0 0 0 0 0)) (9 ∷ 9 ∷ 9 ∷ []) ≡ outcome 0 2 (0 ∷ 41 ∷ 9 ∷ []) (cells9 1 0 0 0 0 0 0 0 0)) ×
+    (called 3 (desk 0) (1 ∷ []) 0 [] 1 [] [] (cells9 0 0 0 0 0 0 0 0 0) ≡ outcome 1 0 [] (cells9 0 0 0 0 0 0 0 0 0)) ×
+    (called 3 (desk 0) [] 0 [] 0 [] (9 ∷ []) (cells9 0 0 0 0 0 0 0 0 0) ≡ outcome 1 0 (9 ∷ []) (cells9 0 0 0 0 0 0 0 0 0)) ×
+    (called 3 (desk 0) (1 ∷ []) 0 [] 0 [] (9 ∷ []) (cells9 1 1 0 0 0 0 0 0 0) ≡ outcome 1 0 (9 ∷ []) (cells9 1 1 0 0 0 0 0 0 0)) ×
+    (called 3 (desk 0) (1 ∷ []) 0 [] 1 [] (9 ∷ []) (cells9 0 0 0 0 0 0 0 0 0) ≡ outcome 1 0 (9 ∷ []) (cells9 0 0 0 0 0 0 0 0 0))
+unfolding isCount figuresFit mostEach mostTotal
+    bit count allBits clear rowAt withRow holders takenFrom mostAt rowFits rowsFit sourcesFit kindFits cellsFit legal
+    pathFits allNumbers deskLegal isReady called laid
+v-left = (refl, refl, refl, refl, refl)

@@ -1,0 +1,73 @@
+use mathlib.Core.Path.{_≡_, refl, sym}
+use lib.ListN.{length}
+use lib.Seq.{length-take-le}
+use native.Mathlib.Omega.{arith}
+use Rattle.routing.specs.Crosspoints.{clear}
+use Rattle.desk_calls.proofs.Sources.{ask-is}
+use borrow.Author.Needs.{needs}
+use Rattle.desk_calls.proofs.ask.Statement.{statement}
+use Rattle.desk_calls.proofs.ask.Tie as tie
+
+part-of-requires : tie.Need-part-of-requires
+part-of-requires c κs = search needs
+
+sub-gather : tie.Need-sub-gather
+sub-gather c = search needs
+
+part-gather-start : tie.Need-part-gather-start
+part-gather-start c = search needs
+
+part-gather-end : tie.Need-part-gather-end
+part-gather-end c = search needs
+
+slice-aggregate-gather : tie.Need-slice-aggregate-gather
+slice-aggregate-gather c = search needs
+
+slice-aggregate-gather-2 : tie.Need-slice-aggregate-gather-2
+slice-aggregate-gather-2 c = search needs
+
+gather-requires : tie.Need-gather-requires
+unfolding clear
+gather-requires c κs =
+    let the-Start = c .before .before .before .before .before .before in
+    (the-Start .pre, (refl, refl))
+
+array-share-prefix-list : tie.Need-array-share-prefix-list
+array-share-prefix-list c = search needs
+
+slice-aggregate-request : tie.Need-slice-aggregate-request
+slice-aggregate-request c =
+    let the-gather = c .before .before .before .gather in
+    let b = the-gather .ensures .1 in
+    let l : length (the-gather .last .1 .1 .0) ≡ 64 = the-gather .kept .1 .1 .0 in
+    sym (length-take-le _ (the-gather .last .1 .1 .0) (omega (arith, b, l)))
+
+request-requires : tie.Need-request-requires
+request-requires c κs = search needs
+
+same-length : tie.Need-same-length
+same-length c = search needs
+
+returns : tie.Need-returns
+returns c =
+    let the-part-of = c .before .before .before .before .before .before .before .before .before .before .before .part-of in
+    let the-gather = c .before .before .before .before .before .before .before .gather in
+    let the-request = c .before .before .request in
+    ask-is _ _ _ _ _ _ _ _ _ (the-part-of .ensures .0) (the-gather .ensures .0) refl (the-request .ensures)
+
+pub ask-spec : {M : Type 1} → statement M
+ask-spec =
+    tie.close
+    (tie.spec
+    part-of-requires
+    sub-gather
+    part-gather-start
+    part-gather-end
+    slice-aggregate-gather
+    slice-aggregate-gather-2
+    gather-requires
+    array-share-prefix-list
+    slice-aggregate-request
+    request-requires
+    same-length
+    returns)

@@ -1,0 +1,76 @@
+use mathlib.Core.Path.{_≡_, refl, _∙_}
+use Prim.Native.Nat.{_-_, _≤_}
+use lib.ListN.{length}
+use native.Mathlib.Omega.{arith}
+use Rattle.desk_calls.specs.Steps.{servedIn, leftFrom, laidAt}
+use Rattle.desk_calls.proofs.Served.{serve-start, serve-end}
+use Rattle.desk_calls.proofs.serve.Statement.{statement}
+use Rattle.desk_calls.proofs.serve.Tie as tie
+
+abbrev Inv-loop : tie.InvT-loop
+Inv-loop f path rows count s cells₀ answers₀ i₀ n₀ cells answers i n =
+    (servedIn f path rows count s answers₀ cells₀ ≡ laidAt n (leftFrom f path rows count s i cells) answers)
+    × ((n ≤ i) × ((length cells ≡ length cells₀) × (length answers ≡ length answers₀)))
+
+abbrev μ-loop : tie.MeasureT-loop
+μ-loop f path rows count s cells₀ answers₀ i₀ n₀ cells answers i n = count - i
+
+loop-holds : tie.Need-loop-holds Inv-loop μ-loop
+loop-holds c =
+    let the-Start = c .before .before .before .before in
+    (serve-start _ _ _ _ _ (the-Start .pre .1 .1 .0) _ _, (omega arith, (refl, refl)))
+
+turn-requires : tie.Need-turn-requires Inv-loop μ-loop
+turn-requires c κs =
+    let the-loop = c .before .before .before .loop in
+    let the-Start = c .before .before .before .before .before .before .before .before in
+    let the-loop-test = c .before .before .loop-test in
+    let i = the-loop .inv in
+    let q = the-Start .pre in
+    ((q .0, (q .1 .0, (q .1 .1 .0, the-loop-test .taken))), omega (arith, i .1 .0, i .1 .1 .1, q .1 .1 .1, the-loop-test .taken))
+
+add-i : tie.Need-add-i Inv-loop μ-loop
+add-i c = omega arith
+
+loop-less : tie.Need-loop-less Inv-loop μ-loop
+loop-less c = omega arith
+
+loop-again : tie.Need-loop-again Inv-loop μ-loop
+loop-again c =
+    let the-loop = c .before .before .before .before .before .before .before .before .loop in
+    let the-turn = c .before .before .before .before .turn in
+    let i = the-loop .inv in
+    let t = the-turn .ensures in
+    (i .0 ∙ t .0, (omega (arith, i .1 .0, t .1), (the-turn .kept .1 .1 .1 .1 .1 .1 .0 ∙ i .1 .1 .0, the-turn .kept .1 .1 .1 .1 .1 .1 .1 .0 ∙ i .1 .1 .1)))
+
+same-length : tie.Need-same-length Inv-loop μ-loop
+same-length c =
+    let the-loop = c .before .loop in
+    the-loop .inv .1 .1 .0
+
+same-length-2 : tie.Need-same-length-2 Inv-loop μ-loop
+same-length-2 c =
+    let the-loop = c .before .loop in
+    the-loop .inv .1 .1 .1
+
+returns : tie.Need-returns Inv-loop μ-loop
+returns c =
+    let the-loop = c .before .loop in
+    let the-Start = c .before .before .before .before .before .before in
+    let the-loop-test = c .loop-test in
+    the-loop .inv .0 ∙ serve-end _ _ _ _ _ (the-Start .pre .1 .1 .0) _ _ _ _ (the-loop-test .left)
+
+pub serve-spec : {M : Type 1} → statement M
+serve-spec =
+    tie.close
+    (tie.spec
+    Inv-loop
+    μ-loop
+    loop-holds
+    turn-requires
+    add-i
+    loop-less
+    loop-again
+    same-length
+    same-length-2
+    returns)

@@ -1,0 +1,58 @@
+use native.Mathlib.Omega.{arith}
+use Rattle.desk_calls.proofs.Served.{turn-other, turn-one}
+use borrow.Author.Needs.{needs}
+use Rattle.desk_calls.proofs.turn.Statement.{statement}
+use Rattle.desk_calls.proofs.turn.Tie as tie
+
+word-at-requires : tie.Need-word-at-requires
+word-at-requires c κs = search needs
+
+returns : tie.Need-returns
+returns c =
+    let the-Start = c .before .before .before .before .before .before in
+    let the-word-at = c .before .word-at in
+    let the-if1 = c .if1 in
+    (turn-other _ _ _ _ _ (the-Start .pre .0 .1 .1 .0) _ _ _ _ (the-Start .pre .0 .1 .1 .1) _ (the-word-at .ensures) (the-if1 .taken), omega arith)
+
+answer-to-requires : tie.Need-answer-to-requires
+answer-to-requires c κs = search needs
+
+mul-answers : tie.Need-mul-answers
+mul-answers c = search needs
+
+slice-write-answers : tie.Need-slice-write-answers
+slice-write-answers c = search needs
+
+add-result : tie.Need-add-result
+add-result c = search needs
+
+same-length : tie.Need-same-length
+same-length c = search needs
+
+same-length-2 : tie.Need-same-length-2
+same-length-2 c = search needs
+
+returns-2 : tie.Need-returns-2
+returns-2 c =
+    let the-Start = c .before .before .before .before .before .before .before .before .before .before in
+    let the-word-at = c .before .before .before .before .before .word-at in
+    let the-if1 = c .before .before .before .before .if1 in
+    let the-answer-to = c .before .before .answer-to in (
+      turn-one _ _ _ _ _ (the-Start .pre .0 .1 .1 .0) _ _ _ _ (the-Start .pre .0 .1 .1 .1) _ (the-word-at .ensures) (the-if1 .left) (the-Start .pre .1) _ _
+          (the-answer-to .ensures),
+      omega arith,
+    )
+
+pub turn-spec : {M : Type 1} → statement M
+turn-spec =
+    tie.close
+    (tie.spec
+    word-at-requires
+    returns
+    answer-to-requires
+    mul-answers
+    slice-write-answers
+    add-result
+    same-length
+    same-length-2
+    returns-2)

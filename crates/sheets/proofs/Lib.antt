@@ -1,0 +1,11 @@
+pub mod Laws
+pub mod Stream
+pub mod Apply
+pub mod Step
+pub mod Asked
+pub mod Suited
+pub mod Sizes
+pub mod Reals
+pub mod Theorems
+pub mod Breaks
+pub mod Table

@@ -1,0 +1,86 @@
+-- The theorem of route sheets (document 01, "Desk"): the sheet of every legal desk is read back as the same desk, with its path, figures, limits as given
+-- and crosspoints.
+-- `sheetOf` (specs/Sheet.antt) is what the writer writes, `readSheet` (specs/Reading.antt) what reading a byte string gives.
+use Prim.Native.Nat.{ℕ, _≤_, _<_}
+use mathlib.Core.Path.{_≡_, refl, sym, ap, _∙_}
+use mathlib.Core.List.{List, [], _∷_, _++_}
+use mathlib.Core.Bool.{true}
+use native.Mathlib.Omega.{arith}
+use borrow.Author.Tests.{le-ltb}
+use lib.ListN.{length}
+use lib.Dec.{ltb}
+use Rattle.integers.proofs.Radix.{Below}
+use Rattle.entries.specs.Entry.{Entries}
+use Rattle.forest.specs.Content.{Item, itemsOf}
+use Rattle.forest.specs.Trees.{count, flat}
+use Rattle.forest.specs.Written.{writtenReal}
+use Rattle.framing_writer.specs.Read.{Bytes}
+use Rattle.framing_writer.specs.Written.{frame, requestBody}
+use Rattle.glow.specs.Message.{Walk, walk}
+use Rattle.reading_back.proofs.ReadBack.{reads-back, flat-count, written-spells}
+use Rattle.routing.specs.declared.Figures.{Figures}
+use Rattle.routing.specs.Figures.{side}
+use Rattle.routing.specs.Crosspoints.{Cells}
+use Rattle.routing.proofs.Laws.{fit-targets-le}
+use Rattle.routing.proofs.Answers.{legal-fit}
+use Rattle.desk_calls.specs.Calls.{deskLegal}
+use Rattle.sheets.specs.Sheet.{Desk, desk, lineOf, sheetTree, sheetMessage, sheetOf}
+use Rattle.sheets.specs.Reading.{Sheet, refused, read, ofEntries, ofAnswer, ofMessage, readSheet}
+use Rattle.sheets.proofs.Stream.{message-read, alive-passed}
+use Rattle.sheets.proofs.Asked.{cells-ok, entries-read}
+use Rattle.sheets.proofs.Suited.{sheet-legal, sheet-count}
+use Rattle.sheets.proofs.Reals.{sheet-below}
+use Rattle.sheets.proofs.Sizes.{sheet-octets, sheet-size}
+
+bytes-of : (xs : List ℕ) → Below 256 xs → Bytes xs
+bytes-of [] h = tt
+bytes-of (x ∷ xs) h = (h .0, bytes-of xs (h .1))
+
+-- for every row size up to 64
+module _ (w : ℕ) (few : w ≤ 64) (f : Figures) (path : List ℕ) (cells : Cells) (ok : deskLegal w f path cells ≡ true) where
+  abbrev d : Desk
+  d = desk f path cells
+
+  short : length (sheetMessage w d) ≤ 16384
+  short = let s = sheet-size w f path cells few ok in omega (arith, s)
+
+  bytes : Bytes (sheetMessage w d)
+  bytes =
+      bytes-of (sheetMessage w d)
+      (sheet-below w d (sheet-legal w f path cells few ok) (sheet-octets w f path cells few ok) short)
+
+  tree-read : ofMessage w (sheetMessage w d) ≡ read d
+  unfolding ofMessage sheetMessage
+  tree-read =
+      let r = reads-back writtenReal written-spells 0 (sheetTree w d) (sheet-legal w f path cells few ok) short in
+      let n = flat-count (sheetMessage w d) (r .0) (sheetTree w d) (r .1 .1) ∙ sheet-count w f path cells in
+      let t = fit-targets-le w f (legal-fit w f cells (cells-ok w f path cells few ok)) in
+      let l : length (r .0) ≤ 256 = omega (arith, n, t, few) in
+      ap (λ (k : Walk). ofAnswer w (sheetMessage w d) (k .out .entries) (k .out .answer)) (r .1 .0)
+      ∙ rw (le-ltb _ _ l) (ap (ofEntries w) (r .1 .1) ∙ entries-read w f path cells few ok)
+
+  rows-read : readSheet w (sheetOf w d) ≡ read d
+  unfolding readSheet sheetOf
+  rows-read = message-read w (sheetMessage w d) bytes short ∙ tree-read
+
+-- "A route sheet is one message ..": every legal desk's is read back as the desk.
+pub sheet-read : (d : Desk) → deskLegal side (d .figures) (d .path) (d .cells) ≡ true → readSheet side (sheetOf side d) ≡ read d
+sheet-read d ok = rows-read side (omega arith) (d .figures) (d .path) (d .cells) ok
+
+-- "keep-alives are passed over": the line of a keep-alive before it changes nothing.
+pub sheet-alive : (d : Desk) → deskLegal side (d .figures) (d .path) (d .cells) ≡ true
+    → readSheet side (lineOf (frame requestBody) ++ sheetOf side d) ≡ read d
+unfolding readSheet sheetOf
+sheet-alive d ok =
+    let few : side ≤ 64 = omega arith in
+    alive-passed side (sheetMessage side d) (bytes side few (d .figures) (d .path) (d .cells) ok) (short side few (d .figures) (d .path) (d .cells) ok)
+    ∙ tree-read side few (d .figures) (d .path) (d .cells) ok
+
+-- Legal desks with one sheet are one desk: a sheet leaves nothing out.
+abbrev deskOr : Desk → Sheet → Desk
+deskOr d (refused n) = d
+deskOr d (read e) = e
+
+pub one-desk : (d e : Desk) → deskLegal side (d .figures) (d .path) (d .cells) ≡ true → deskLegal side (e .figures) (e .path) (e .cells) ≡ true
+    → sheetOf side d ≡ sheetOf side e → d ≡ e
+one-desk d e ok ok′ same = ap (deskOr d) (sym (sheet-read d ok) ∙ ap (readSheet side) same ∙ sheet-read e ok′)

@@ -1,0 +1,214 @@
+-- Calls of the functions: their contracts say what the claim speaks of. (framing::feed: crates/framing/proofs/Calls.antt.)
+use Prim.Native.Nat.{ℕ, suc, _≤_}
+use mathlib.Core.List.{List, [], _∷_, _++_}
+use mathlib.Core.Path.{_≡_, refl, ap}
+use contract.Lifetimes.{Lfts}
+use denote.Ref.{RefT, now}
+use denote.Triple.Clauses as Clauses
+use borrow.Fn.World as World
+use borrow.Fn.Kinds as K
+use lib.ListN.{length, drop}
+use Rattle.framing.specs.declared.Session.{Session}
+use Rattle.framing.specs.Session.{answers, feeds}
+use Rattle.framing.specs.Offers as offers
+use Rattle.entries.specs.Entry.{Rows}
+use Rattle.glow.specs.declared.Answer.{Answer}
+use Rattle.glow.specs.Message.{result, readAt}
+use Rattle.glow.proofs.read
+use Rattle.glow.proofs.read.Kinds as read-kinds
+use Rattle.glow.proofs.read.Reads as read-reads
+use Rattle.routing.specs.declared.Figures.{Figures}
+use Rattle.routing.specs.Figures.{side}
+use Rattle.routing.specs.Crosspoints.{Cells}
+use Rattle.desk_calls.specs.declared.Called.{Called}
+use Rattle.desk_calls.specs.Calls.{called, told as answered}
+use Rattle.desk_calls.proofs.call
+use Rattle.desk_calls.proofs.call.Kinds as call-kinds
+use Rattle.desk_calls.proofs.call.Reads as call-reads
+use Rattle.turns.specs.declared.Turned.{Turned}
+use Rattle.turns.specs.Rules.{Desk}
+use Rattle.turns.specs.Turns as turns
+use Rattle.turns.specs.Turns.{Turn, Turns, calls}
+use Rattle.turns.specs.Whole.{deskAt, laterOf, gave, laterAt}
+use Rattle.turns.proofs.Comes.{said-at, function-turn}
+use Rattle.turns.proofs.turn
+use Rattle.turns.proofs.turn.Kinds as turn-kinds
+use Rattle.turns.proofs.turn.Reads as turn-reads
+
+-- a lent slice that holds xs
+lent-slice : {A : Type 0} → List A → RefT (List A)
+lent-slice xs = record { ptr = (0, 0); name = 0; now = xs }
+
+-- `glow::read` was called with the message s and the table, gave a, and left the table′: what its contract has it ensure.
+pub record ReadCall (s : List ℕ) (table : Rows) (a : Answer) (table′ : Rows) : Type 0 where
+  pub κs : Lfts 2
+  pub args : World.ArgsD read.signature κs
+  pub exits : Clauses.AtExit (K.endedOf 2 read-kinds.ps read-kinds.r) κs
+  pub message-is : now (args .0) ≡ s
+  pub table-is : now (args .1 .0) ≡ table
+  pub left-is : now (exits .1 .0) ≡ table′
+  pub ensured : read-reads.Post κs args a exits
+
+pub read-says : {s : List ℕ} {table : Rows} {a : Answer} {table′ : Rows} → ReadCall s table a table′ → readAt s table ≡ result a table′
+read-says k = cc (k .ensured)
+
+pub read-called : {s : List ℕ} {table : Rows} (a : Answer) {table′ : Rows} → readAt s table ≡ result a table′ → ReadCall s table a table′
+unfolding lent-slice
+read-called {s} {table} a {table′} e =
+    record {
+      κs = ([], ([], tt));
+      args = (lent-slice s, (lent-slice table, tt));
+      exits = (lent-slice s, (lent-slice table′, tt));
+      message-is = refl;
+      table-is = refl;
+      left-is = refl;
+      ensured = e;
+    }
+
+-- `desk_calls::call`
+pub record DeskCall (f : Figures) (path : List ℕ) (rows : Rows) (n root : ℕ) (s : List ℕ) (cells : Cells) (lent : List ℕ) (r : Called) (cells′ : Cells)
+    (lent′ : List ℕ) : Type 0 where
+  pub κs : Lfts 5
+  pub args : World.ArgsD call.signature κs
+  pub exits : Clauses.AtExit (K.endedOf 5 call-kinds.ps call-kinds.r) κs
+  pub figures-are : args .0 ≡ f
+  pub path-is : now (args .1 .0) ≡ path
+  pub rows-are : now (args .1 .1 .0) ≡ rows
+  pub count-is : args .1 .1 .1 .0 ≡ n
+  pub root-is : args .1 .1 .1 .1 .0 ≡ root
+  pub message-is : now (args .1 .1 .1 .1 .1 .0) ≡ s
+  pub cells-are : now (args .1 .1 .1 .1 .1 .1 .0) ≡ cells
+  pub lent-is : now (args .1 .1 .1 .1 .1 .1 .1 .0) ≡ lent
+  pub cells-left : now (exits .1 .1 .1 .1 .1 .1 .0) ≡ cells′
+  pub lent-left : now (exits .1 .1 .1 .1 .1 .1 .1 .0) ≡ lent′
+  pub ensured : call-reads.Post κs args r exits
+
+pub call-says : {f : Figures} {path : List ℕ} {rows : Rows} {n root : ℕ} {s : List ℕ} {cells : Cells} {lent : List ℕ} {r : Called} {cells′ : Cells}
+    {lent′ : List ℕ} → DeskCall f path rows n root s cells lent r cells′ lent′ → called side f path root rows n s lent cells ≡ answered r lent′ cells′
+call-says k = cc (k .ensured)
+
+module _ (f : Figures) (path : List ℕ) (rows : Rows) (n root : ℕ) (s : List ℕ) (cells : Cells) (lent : List ℕ) (r : Called) (cells′ : Cells)
+    (lent′ : List ℕ) where
+  pub desk-called : called side f path root rows n s lent cells ≡ answered r lent′ cells′ → DeskCall f path rows n root s cells lent r cells′ lent′
+  unfolding lent-slice
+  desk-called e =
+      record {
+        κs = ([], ([], ([], ([], ([], tt)))));
+        args = (f, (lent-slice path, (lent-slice rows, (n, (root, (lent-slice s, (lent-slice cells, (lent-slice lent, tt))))))));
+        exits = (f, (lent-slice path, (lent-slice rows, (n, (root, (lent-slice s, (lent-slice cells′, (lent-slice lent′, tt))))))));
+        figures-are = refl;
+        path-is = refl;
+        rows-are = refl;
+        count-is = refl;
+        root-is = refl;
+        message-is = refl;
+        cells-are = refl;
+        lent-is = refl;
+        cells-left = refl;
+        lent-left = refl;
+        ensured = e;
+      }
+
+-- `turn`
+pub record TurnCall (s : Session) (t c : List ℕ) (table : Rows) (f : Figures) (path : List ℕ) (cells : Cells) (lent : List ℕ) (r : Turned)
+    (t′ : List ℕ) (table′ : Rows) (cells′ : Cells) (lent′ : List ℕ) : Type 0 where
+  pub κs : Lfts 6
+  pub args : World.ArgsD turn.signature κs
+  pub exits : Clauses.AtExit (K.endedOf 6 turn-kinds.ps turn-kinds.r) κs
+  pub session-is : args .0 ≡ s
+  pub store-is : now (args .1 .0) ≡ t
+  pub chunk-is : now (args .1 .1 .0) ≡ c
+  pub table-is : now (args .1 .1 .1 .0) ≡ table
+  pub figures-are : args .1 .1 .1 .1 .0 ≡ f
+  pub path-is : now (args .1 .1 .1 .1 .1 .0) ≡ path
+  pub cells-are : now (args .1 .1 .1 .1 .1 .1 .0) ≡ cells
+  pub lent-is : now (args .1 .1 .1 .1 .1 .1 .1 .0) ≡ lent
+  pub store-left : now (exits .1 .0) ≡ t′
+  pub table-left : now (exits .1 .1 .1 .0) ≡ table′
+  pub cells-left : now (exits .1 .1 .1 .1 .1 .1 .0) ≡ cells′
+  pub lent-left : now (exits .1 .1 .1 .1 .1 .1 .1 .0) ≡ lent′
+  pub ensured : turn-reads.Post κs args r exits
+
+module _ {s : Session} {t c : List ℕ} {table : Rows} {f : Figures} {path : List ℕ} {cells : Cells} {lent : List ℕ} {r : Turned}
+    {t′ : List ℕ} {table′ : Rows} {cells′ : Cells} {lent′ : List ℕ} (k : TurnCall s t c table f path cells lent r t′ table′ cells′ lent′) where
+  pub turn-feeds : feeds s t c ≡ answers (r .fed) t′
+  turn-feeds = cc (k .ensured .0)
+
+  pub turn-later : laterAt (deskAt f path cells) (r .fed .event) t′ table lent ≡ gave (r .after) table′ lent′ cells′
+  turn-later = cc (k .ensured .1)
+
+  -- A call of `turn` is a turn: before any other turns it makes a list of turns, and the claim speaks of it.
+  pub turn-made : {rows : ℕ} {s″ : Session} {t″ : List ℕ} {d″ : Desk} {rest″ : List ℕ} {ts : List Turn} (later : List ℕ) → length table ≡ rows
+      → rows ≤ length lent → Turns rows (r .fed .session) t′ (deskAt f path cells′) (drop (r .fed .consumed) (c ++ later)) ts s″ t″ d″ rest″
+      → Turns rows s t (deskAt f path cells) (c ++ later)
+      (record { offered = c; fed = r .fed; store = t′; later = laterOf (r .after) table′ lent′ cells′ } ∷ ts) s″ t″ d″ rest″
+  turn-made later sized enough more = function-turn c later table lent r table′ lent′ cells′ sized enough turn-feeds turn-later more
+
+module _ (s : Session) (t c : List ℕ) (table : Rows) (f : Figures) (path : List ℕ) (cells : Cells) (lent : List ℕ) (r : Turned)
+    (t′ : List ℕ) (table′ : Rows) (cells′ : Cells) (lent′ : List ℕ) where
+  pub turn-called : feeds s t c ≡ answers (r .fed) t′
+      → laterAt (deskAt f path cells) (r .fed .event) t′ table lent ≡ gave (r .after) table′ lent′ cells′
+      → TurnCall s t c table f path cells lent r t′ table′ cells′ lent′
+  unfolding lent-slice
+  turn-called e q =
+      record {
+        κs = ([], ([], ([], ([], ([], ([], tt))))));
+        args = (s, (lent-slice t, (lent-slice c, (lent-slice table, (f, (lent-slice path, (lent-slice cells, (lent-slice lent, tt))))))));
+        exits = (s, (lent-slice t′, (lent-slice c, (lent-slice table′, (f, (lent-slice path, (lent-slice cells′, (lent-slice lent′, tt))))))));
+        session-is = refl;
+        store-is = refl;
+        chunk-is = refl;
+        table-is = refl;
+        figures-are = refl;
+        path-is = refl;
+        cells-are = refl;
+        lent-is = refl;
+        store-left = refl;
+        table-left = refl;
+        cells-left = refl;
+        lent-left = refl;
+        ensured = (e, q);
+      }
+
+-- A list of calls of `turn` on one desk: each takes the session, the store and the crosspoints that the call before it left, and is offered bytes from the
+-- first not yet consumed. The table's content and the answers lent may be any at each.
+pub data Made (rows : ℕ) (f : Figures) (path : List ℕ) : Session → List ℕ → Cells → List ℕ → List Turn → Session → List ℕ → Cells → List ℕ → Type 0 where
+  none : {s : Session} {t : List ℕ} {cells : Cells} {rest : List ℕ} → Made rows f path s t cells rest [] s t cells rest
+  made : {s s″ : Session} {t t′ t″ : List ℕ} {cells cells′ cells″ : Cells} {rest″ : List ℕ} {ts : List Turn} (c later : List ℕ) (table : Rows)
+      (lent : List ℕ) (r : Turned) (table′ : Rows) (lent′ : List ℕ) → TurnCall s t c table f path cells lent r t′ table′ cells′ lent′
+      → length table ≡ rows → rows ≤ length lent
+      → Made rows f path (r .fed .session) t′ cells′ (drop (r .fed .consumed) (c ++ later)) ts s″ t″ cells″ rest″
+      → Made rows f path s t cells (c ++ later)
+      (record { offered = c; fed = r .fed; store = t′; later = laterOf (r .after) table′ lent′ cells′ } ∷ ts) s″ t″ cells″ rest″
+
+-- It is a list of turns.
+pub made-turns : {rows : ℕ} {f : Figures} {path : List ℕ} {s s″ : Session} {t t″ : List ℕ} {cells cells″ : Cells} {rest rest″ : List ℕ} {ts : List Turn}
+    → Made rows f path s t cells rest ts s″ t″ cells″ rest″ → Turns rows s t (deskAt f path cells) rest ts s″ t″ (deskAt f path cells″) rest″
+made-turns none = turns.none
+made-turns (made c later table lent r table′ lent′ k sized enough more) = turn-made k later sized enough (made-turns more)
+
+-- There are such calls: session calls, made calls of `turn`, the i-th with the i-th table and the i-th answers lent.
+module _ (rows : ℕ) (tables : ℕ → Rows) (sized : (i : ℕ) → length (tables i) ≡ rows) (lents : ℕ → List ℕ) (enough : (i : ℕ) → rows ≤ length (lents i))
+    (f : Figures) (path : List ℕ) where
+  pub record SomeMade (s : Session) (t : List ℕ) (cells : Cells) (rest : List ℕ) (cs : List offers.Turn) (s″ : Session) (t″ rest″ : List ℕ) : Type 0 where
+    pub turns : List Turn
+    pub cells″ : Cells
+    pub calls-made : Made rows f path s t cells rest turns s″ t″ cells″ rest″
+    pub same : calls turns ≡ cs
+
+  pub some-made : {s s″ : Session} {t t″ rest rest″ : List ℕ} {cs : List offers.Turn} (i : ℕ) (cells : Cells) → offers.Turns s t rest cs s″ t″ rest″
+      → SomeMade s t cells rest cs s″ t″ rest″
+  some-made i cells offers.none = record { turns = []; cells″ = cells; calls-made = none; same = refl }
+  some-made {s} {t = t} i cells (offers.turn {t′ = t′} c later r e more) =
+      let d = deskAt f path cells in
+      let x = said-at d (lents i) (r .event) t′ (tables i) in
+      let y = laterAt d (r .event) t′ (tables i) (lents i) in
+      let k = some-made (suc i) (y .crosspoints) more in
+      let w : Turned = record { fed = r; after = x .0 } in
+      let g = turn-called s t c (tables i) f path cells (lents i) w t′ (y .table) (y .crosspoints) (y .lent) e (x .1) in
+      record {
+        turns = record { offered = c; fed = r; store = t′; later = laterOf (x .0) (y .table) (y .lent) (y .crosspoints) } ∷ k .turns;
+        cells″ = k .cells″;
+        calls-made = made c later (tables i) (lents i) w (y .table) (y .lent) g (sized i) (enough i) (k .calls-made);
+        same = ap (λ (xs : List offers.Turn). record { offered = c; fed = r; store = t′ } ∷ xs) (k .same);
+      }

@@ -1,0 +1,157 @@
+-- What comes after the session's call in a turn is what the rules have follow its event.
+use Prim.Native.Nat.{ℕ, _≤_}
+use mathlib.Core.Bool.{Bool, true, false}
+use mathlib.Core.List.{List}
+use mathlib.Core.Path.{_≡_, refl, sym, ap, subst, _∙_}
+use native.Mathlib.Omega.{arith}
+use borrow.Author.Tests.{le-leb}
+use lib.Dec.{eqb}
+use lib.ListN.{length, take, drop}
+use lib.Seq.{take-at}
+use Rattle.integers.proofs.Radix.{Below}
+use Rattle.framing.specs.declared.Event.{Event}
+use Rattle.framing.specs.declared.Event.the-variants as ev
+use Rattle.framing.specs.declared.Fault.{Fault}
+use Rattle.framing.specs.declared.Fault.the-variants.{Stray, Cut, Byte, Long, Escape, Short, Crc, Header, Flags, Dtd, Orphan, Big}
+use Rattle.framing.specs.Numbers.{number}
+use Rattle.framing.specs.Rules as framing
+use Rattle.framing.specs.Session.{saidBy}
+use Rattle.entries.specs.Entry.{Rows}
+use Rattle.glow.specs.declared.Answer.{Answer}
+use Rattle.glow.specs.declared.Answer.the-variants.{Read}
+use Rattle.glow.specs.Message.{Result, result, readAt, saidBy as treeSaid}
+use Rattle.forest.specs.Content.{Item}
+use Rattle.forest.specs.Rows.{itemsIn}
+use Rattle.routing.specs.Figures.{side}
+use Rattle.routing.specs.Crosspoints.{Cells}
+use Rattle.desk_calls.specs.declared.Called.{Called}
+use Rattle.desk_calls.specs.declared.Called.the-variants.{Setup, Done}
+use Rattle.desk_calls.specs.Calls.{deskLegal, Served, handled, Outcome, laid, isReady, called, told as answered}
+use Rattle.desk_calls.proofs.Setup.{called-ready}
+use Rattle.desk_calls.proofs.Claims.{called-legal}
+use Rattle.tree_round_trip.proofs.Theorems.{read-accepted}
+use Rattle.tree_round_trip.proofs.Rewriting.{in-rows}
+use Rattle.turns.specs.Rules.{Desk, isLegal, withCells, refusal, treeOf, Then, nothing, served, follow, asked, follows}
+use Rattle.turns.specs.Turns.{Later, read, desk, isMessage, isRead, Comes, ends, reads, serves, thenOf}
+use Rattle.turns.proofs.Trees.{tree-refused, tree-read}
+
+-- only event 3 is a message
+fault-other : (f : Fault) → eqb (number f) 3 ≡ false
+fault-other Stray = refl
+fault-other Cut = refl
+fault-other Byte = refl
+fault-other Long = refl
+fault-other Escape = refl
+fault-other Short = refl
+fault-other Crc = refl
+fault-other Header = refl
+fault-other Flags = refl
+fault-other Dtd = refl
+fault-other Orphan = refl
+fault-other Big = refl
+
+other : (e : Event) (t : List ℕ) → isMessage e ≡ false → eqb (saidBy e t .number) 3 ≡ false
+other ev.More t h = refl
+other ev.Setup t h = refl
+other (ev.Piece d) t h = refl
+other (ev.Message n d) t h = let z : _≡_ {A = ℕ} 0 1 = cc in absurd (omega arith)
+other ev.Request t h = refl
+other ev.Response t h = refl
+other (ev.Refused f d) t h = fault-other f
+
+nothing-follows : (rows : ℕ) (d : Desk) (e : framing.Said) → eqb (e .number) 3 ≡ false → follows rows d e ≡ follow nothing d
+unfolding follows
+nothing-follows rows d e h = rw h refl
+
+-- "1 SETUP" is not for a legal desk and entries as read, with an answer lent for each
+ready : (s : List ℕ) → Below 256 s → (table : Rows) (root count : ℕ) → readAt s table .answer ≡ Read root count → (lent : List ℕ) → count ≤ length lent
+    → (d : Desk) → isLegal d ≡ true
+    → isReady side (d .figures) (d .path) root (readAt s table .rows) count (itemsIn s (readAt s table .rows) count) lent (d .crosspoints) ≡ true
+unfolding isReady
+ready s octets table root count h lent l d g = rw (le-leb _ _ l, g, le-leb _ _ (in-rows s table h .0), read-accepted s octets table root count h) refl
+
+-- what a call that lays z over the answers lent tells
+laid-tells : (z : Served) (lent : List ℕ) → take (laid z lent .count) (laid z lent .answers) ≡ z .answers
+unfolding laid
+laid-tells z lent = take-at (z .answers) (drop (length (z .answers)) lent) (length (z .answers)) refl
+
+laid-is : (z : Served) (lent : List ℕ) → (laid z lent .number ≡ 0) × (laid z lent .cells ≡ z .cells)
+unfolding laid
+laid-is z lent = (refl, refl)
+
+-- as the rules: what is told, and the desk
+pub record Agrees (rows : ℕ) (d : Desk) (e : framing.Said) (x : Then) (d′ : Desk) : Type 0 where
+  pub same : follow x d′ ≡ follows rows d e
+  pub legal : isLegal d′ ≡ true
+
+module _ (rows : ℕ) (d : Desk) (g : isLegal d ≡ true) (n : ℕ) (b : Bool) (t : List ℕ) (octets : Below 256 (take n t)) where
+  abbrev m : List ℕ
+  m = take n t
+
+  abbrev e : framing.Said
+  e = saidBy (ev.Message n b) t
+
+  on-message : follows rows d e ≡ asked d (treeOf m rows)
+  unfolding follows
+  on-message = refl
+
+  module _ (table : Rows) (k : length table ≡ rows) where
+    not-read : (a : Answer) (table′ : Rows) → readAt m table ≡ result a table′ → isRead a ≡ false → Agrees rows d e (thenOf (read a table′) m) d
+    not-read a table′ q h =
+        let x : treeOf m rows ≡ refusal (treeSaid a) =
+        ap (treeOf m) (sym k) ∙ tree-refused m table a (ap (λ (z : Result). z .answer) q) h in
+        record { same = sym (on-message ∙ ap (asked d) x); legal = g }
+
+    module _ (root count : ℕ) (h : readAt m table .answer ≡ Read root count) (lent : List ℕ) (l : count ≤ length lent) where
+      abbrev table′ : Rows
+      table′ = readAt m table .rows
+
+      abbrev es : List Item
+      es = itemsIn m table′ count
+
+      abbrev z : Served
+      z = handled side (d .figures) (d .path) es (d .crosspoints)
+
+      read-follows : follows rows d e ≡ follow (served (treeSaid (Read root count)) es 0 (z .answers)) (withCells d (z .cells))
+      read-follows =
+          on-message ∙ ap (λ (i : ℕ). asked d (treeOf m i)) (sym k) ∙ ap (asked d) (tree-read m octets table root count h)
+
+      desk-served : (o : Outcome) → called side (d .figures) (d .path) root table′ count m lent (d .crosspoints) ≡ o
+          → Agrees rows d e (thenOf (desk root count table′ o) m) (withCells d (o .cells))
+      desk-served o q =
+          let y = called-ready side (d .figures) (d .path) root table′ count m lent (d .crosspoints) (ready m octets table root count h lent l d g) in
+          let x : laid z lent ≡ o = sym y ∙ q in
+          let v = called-legal side (d .figures) (d .path) root table′ count m lent (d .crosspoints) g in
+          let said = treeSaid (Read root count) in
+          record {
+            same =
+                ap (λ (w : Outcome). follow (served said es (w .number) (take (w .count) (w .answers))) (withCells d (w .cells))) (sym x)
+                ∙ ap (λ (i : ℕ). follow (served said es i (take (laid z lent .count) (laid z lent .answers))) (withCells d (laid z lent .cells)))
+                (laid-is z lent .0)
+                ∙ ap (λ (ns : List ℕ). follow (served said es 0 ns) (withCells d (laid z lent .cells))) (laid-tells z lent)
+                ∙ ap (λ (c : Cells). follow (served said es 0 (z .answers)) (withCells d c)) (laid-is z lent .1)
+                ∙ sym read-follows;
+            legal = subst (λ (w : Outcome). deskLegal side (d .figures) (d .path) (w .cells) ≡ true) q v;
+          }
+
+    is-read : (root count : ℕ) (table″ : Rows) → readAt m table ≡ result (Read root count) table″ → (lent : List ℕ) → count ≤ length lent
+        → (o : Outcome) → called side (d .figures) (d .path) root table″ count m lent (d .crosspoints) ≡ o
+        → Agrees rows d e (thenOf (desk root count table″ o) m) (withCells d (o .cells))
+    is-read root count table″ q lent l o p =
+        let h : readAt m table .answer ≡ Read root count = ap (λ (x : Result). x .answer) q in
+        let y : readAt m table .rows ≡ table″ = ap (λ (x : Result). x .rows) q in
+        subst (λ (x : Rows). called side (d .figures) (d .path) root x count m lent (d .crosspoints) ≡ o
+        → Agrees rows d e (thenOf (desk root count x o) m) (withCells d (o .cells))) y (desk-served root count h lent l o) p
+
+-- the crosspoints after a call, by its answer
+cells-of : (r : Called) (lent : List ℕ) (cells : Cells) → answered r lent cells .cells ≡ cells
+cells-of Setup lent cells = refl
+cells-of (Done n) lent cells = refl
+
+pub comes-as : {rows : ℕ} {e : Event} {t : List ℕ} {d d′ : Desk} {x : Later} → Comes rows e t d x d′ → isLegal d ≡ true → Below 256 (saidBy e t .message)
+    → Agrees rows d (saidBy e t) (thenOf x (saidBy e t .message)) d′
+comes-as {rows} {e} {t} {d} (ends h) g o = record { same = sym (nothing-follows rows d (saidBy e t) (other e t h)); legal = g }
+comes-as {rows} {t = t} {d = d} (reads {n = n} {b = b} table a table′ k q h) g o = not-read rows d g n b t o table k a table′ q h
+comes-as {rows} {t = t} {d = d} (serves {n = n} {b = b} table root count table′ lent r lent′ cells′ k q l p) g o =
+    subst (λ (c : Cells). Agrees rows d (saidBy (ev.Message n b) t) (thenOf (desk root count table′ (answered r lent′ cells′)) (take n t)) (withCells d c))
+    (cells-of r lent′ cells′) (is-read rows d g n b t o table k root count table′ q lent l (answered r lent′ cells′) p)

@@ -1,0 +1,81 @@
+use Rattle.turns.specs.Whole.{deskAt}
+use mathlib.Core.Path.{sym}
+use lib.Seq.{length-take-le}
+use Rattle.turns.proofs.Steps.{other-event, later-none, later-message}
+use borrow.Author.Needs.{needs}
+use Rattle.turns.proofs.turn.Statement.{statement}
+use Rattle.turns.proofs.turn.Tie as tie
+
+feed-requires : tie.Need-feed-requires
+feed-requires c κs = search needs
+
+enum-known-event : tie.Need-enum-known-event
+enum-known-event c = search needs
+
+same-length : tie.Need-same-length
+same-length c = search needs
+
+returns : tie.Need-returns
+returns c =
+    let the-feed = c .before .before .before .feed in
+    let a = c .before .before .before .before .before .before .before .before .before .before .args in
+    let d = deskAt (a .figures) (a .path .now) (a .crosspoints .now) in
+    let e = the-feed .result .event in
+    (the-feed .ensures, later-none d e (the-feed .last .1 .0) (a .table .now) (a .lent .now) (other-event e (c .match .keys2)))
+
+front-requires : tie.Need-front-requires
+front-requires c κs = search needs
+
+slice-reshare-prefix-message : tie.Need-slice-reshare-prefix-message
+slice-reshare-prefix-message c = search needs
+
+slice-aggregate-message : tie.Need-slice-aggregate-message
+slice-aggregate-message c = sym (length-take-le _ _ (c .before .front .ensures .1))
+
+message-requires : tie.Need-message-requires
+message-requires c κs = search needs
+
+same-length-2 : tie.Need-same-length-2
+same-length-2 c = search needs
+
+same-length-3 : tie.Need-same-length-3
+same-length-3 c = search needs
+
+same-length-4 : tie.Need-same-length-4
+same-length-4 c = search needs
+
+same-length-5 : tie.Need-same-length-5
+same-length-5 c = search needs
+
+returns-2 : tie.Need-returns-2
+returns-2 c =
+    let at-message = c .before .before .before .before .before in
+    let at-front = at-message .before .before .before .before .before in
+    let at-event = at-front .before .before .before in
+    let at-feed = at-event .before .before .before .before in
+    let a = at-feed .before .before .before .before .before .before .before .args in
+    let d = deskAt (a .figures) (a .path .now) (a .crosspoints .now) in
+    let fed = at-feed .feed in
+    let n = at-event .event .given .0 .0 in (
+      fed .ensures,
+      later-message d (fed .result .event) (fed .last .1 .0) (a .table .now) (a .lent .now) n (at-front .front .result)
+          (at-event .event .given .1) (at-front .front .ensures .0) (at-message .message .ensures),
+    )
+
+pub turn-spec : {M : Type 1} → statement M
+turn-spec =
+    tie.close
+    (tie.spec
+    feed-requires
+    enum-known-event
+    same-length
+    returns
+    front-requires
+    slice-reshare-prefix-message
+    slice-aggregate-message
+    message-requires
+    same-length-2
+    same-length-3
+    same-length-4
+    same-length-5
+    returns-2)

@@ -1,0 +1,94 @@
+// A whole turn: session, tree reader and desk. The claim over every list of turns is proofs/Claim.antt.
+use desk_calls::Called;
+use framing::Event;
+use framing::Fed;
+use framing::Session;
+use glow::Answer;
+use routing::Figures;
+ghost use mathlib.Core.Path.{_≡_};
+ghost use Prim.Native.Nat.{_≤_};
+ghost use lib.ListN.{length, take};
+ghost use Rattle.framing.specs.Session.{feeds, answers};
+ghost use Rattle.turns.specs.Whole.{deskAt, gave, readTo, laterAt};
+
+// What came after the session's call: nothing; the tree reader's answer, other than 0; its answer 0 and the desk's.
+pub enum After {
+    Nothing,
+    Refused {
+        answer: Answer,
+    },
+    Served {
+        root: u64,
+        count: usize,
+        called: Called,
+    },
+}
+
+pub struct Turned {
+    pub fed: Fed,
+    pub after: After,
+}
+
+// A message of n bytes is a part of the store.
+fn front(store: &[u8], n: usize) -> usize
+    ensures { λ r. ⌜ take r (now (store .entry)) ≡ take n (now (store .entry)) ⌝ }
+    ensures { λ r. ⌜ r ≤ length (now (store .entry)) ⌝ }
+{
+    if n < store.len() {
+        return n;
+    }
+    store.len()
+}
+
+// The tree reader's call on a message; if it gives 0, the desk's call on those entries, as read.
+fn message(
+    m: &[u8],
+    table: &mut [[u64; 50]],
+    figures: Figures,
+    path: &[u64],
+    crosspoints: &mut [u8],
+    lent: &mut [u64],
+) -> After
+    ensures { λ r. ⌜ readTo (deskAt figures (now (path .entry)) (now (crosspoints .entry))) (now (m .entry)) (now (table .entry)) (now (lent .entry))
+        ≡ gave r (now (table .exit)) (now (lent .exit)) (now (crosspoints .exit)) ⌝ }
+{
+    let answer = glow::read(m, table);
+    let Answer::Read { root, count } = answer else {
+        return After::Refused { answer };
+    };
+    let called = desk_calls::call(figures, path, table, count, root, m, crosspoints, lent);
+    After::Served {
+        root,
+        count,
+        called,
+    }
+}
+
+// A turn: the session's call on a chunk; if it gives 3, the tree reader's call on that message; if that gives 0, the desk's call on those entries.
+pub fn turn(
+    session: Session,
+    store: &mut [u8],
+    chunk: &[u8],
+    table: &mut [[u64; 50]],
+    figures: Figures,
+    path: &[u64],
+    crosspoints: &mut [u8],
+    lent: &mut [u64],
+) -> Turned
+    ensures { λ r. ⌜ feeds session (now (store .entry)) (now (chunk .entry)) ≡ answers (r .fed) (now (store .exit)) ⌝ }
+    ensures { λ r. ⌜ laterAt (deskAt figures (now (path .entry)) (now (crosspoints .entry))) (r .fed .event) (now (store .exit))
+        (now (table .entry)) (now (lent .entry))
+        ≡ gave (r .after) (now (table .exit)) (now (lent .exit)) (now (crosspoints .exit)) ⌝ }
+{
+    let fed = framing::feed(session, store, chunk);
+    let event = fed.event;
+    let Event::Message { length, .. } = event else {
+        return Turned {
+            fed,
+            after: After::Nothing,
+        };
+    };
+    let n = front(store, length);
+    let after = message(&store[..n], table, figures, path, crosspoints, lent);
+    Turned { fed, after }
+}
