@@ -78,7 +78,7 @@ static int connection(size_t count, size_t place, const uint8_t *message, size_t
     uint64_t sources[EMBER_ROWS_MAX], matrix[EMBER_PATH_MAX];
     size_t n, found = 0;
     int64_t t;
-    if (path_words == 0 || ember_kind(table[place]) != EMBER_KIND_CONNECTION || !ember_integer(table[place], EMBER_CONNECTION_TARGET, &t)
+    if (ember_kind(table[place]) != EMBER_KIND_CONNECTION || !ember_integer(table[place], EMBER_CONNECTION_TARGET, &t)
         || (uint64_t)t != target)
         return GOING;
     n = ember_path(ember_rows(table), count, ember_parent(table[place]), message, message_bytes, matrix);
@@ -94,18 +94,15 @@ static int connection(size_t count, size_t place, const uint8_t *message, size_t
     return found ? CONNECTED : REFUSED;
 }
 
-/* A message: its entries, one after another. */
+/* A message: the announcement, until a matrix is found; then answers. */
 static int look(const uint8_t *message, size_t message_bytes)
 {
     uint64_t told[EMBER_READ_WORDS];
-    int state = GOING;
+    int searching = path_words == 0, state = GOING;
     if (ember_read(message, message_bytes, table, EMBER_ROWS_MAX, told, EMBER_READ_WORDS) != EMBER_DONE)
         return GOING;
-    for (size_t i = 0; i < told[EMBER_COUNT] && state == GOING; i++) {
-        state = announced(told[EMBER_COUNT], i, message, message_bytes);
-        if (state == GOING)
-            state = connection(told[EMBER_COUNT], i, message, message_bytes);
-    }
+    for (size_t i = 0; i < told[EMBER_COUNT] && state == GOING; i++)
+        state = searching ? announced(told[EMBER_COUNT], i, message, message_bytes) : connection(told[EMBER_COUNT], i, message, message_bytes);
     return state;
 }
 
