@@ -37,7 +37,7 @@ use Rattle.routing.specs.Figures.{both, isLimit, figuresFit}
 use Rattle.routing.specs.Crosspoints.{Cells, rowAt}
 use Rattle.routing.proofs.Laws.{both-right, fit-targets-le, fit-sources-le}
 use Rattle.routing.proofs.Claims.{fit-kind-le}
-use Rattle.routing.proofs.Answers.{legal-fit}
+use Rattle.routing.proofs.Answers.{legal-fit, legal-length}
 use Rattle.routing.proofs.Under.{take-short}
 use Rattle.desk_calls.specs.Calls.{deskLegal}
 use Rattle.sheets.specs.Sheet.{Desk, desk, sourcesFrom, sourcesAt, number, identifier, list, limit, leftOut, linkMembers, matrixMembers, links, sheetTree, sheetMessage}
@@ -313,32 +313,43 @@ module _ (w : ℕ) (f : Figures) (path : List ℕ) (cells : Cells) (few : w ≤ 
 
   -- as the code goes: r is what `write_oid` answers, m the matrix's row
   pub entries-put : (rows : Rows) → 65 ≤ length rows → (o : List ℕ) → 80 + w * 64 ≤ length o
-      → (r : Wrote) (o1 : List ℕ) → putOid o 0 path ≡ outcome r o1 → (end : ℕ) → nextOf r ≡ end → (m : List ℕ) → m ≡ row (matrixEntry f end)
-      → (x : Filled) → withLinks w cells 0 (f .targets) (filled (set rows 0 m) o1 end) ≡ x → (n : ℕ) → n ≡ suc (f .targets)
-      → itemsIn (x .octets) (x .rows) n ≡ flat 0 0 (sheetTree w (desk f path cells))
-  entries-put rows h o k r o1 e end q m p x g n c =
+      → {r : Wrote} {o1 : List ℕ} → putOid o 0 path ≡ outcome r o1 → {end : ℕ} → nextOf r ≡ end → {len : ℕ} → len ≡ end
+      → {m : List ℕ} → m ≡ row (matrixEntry f len) → {targets : ℕ} → targets ≡ f .targets
+      → {x : Filled} → withLinks w cells 0 targets (filled (set rows 0 m) o1 end) ≡ x
+      → (itemsIn (x .octets) (x .rows) (targets + 1) ≡ flat 0 0 (sheetTree w (desk f path cells))) × (targets + 1 ≤ 65)
+  entries-put rows h o k {r} {o1} e {end} q {len} j {m} p {targets} c {x} g =
       let z : outcome (Next (length ps)) (ps ++ drop (length ps) o) ≡ outcome r o1 = sym (oid-put o (omega (arith, k))) ∙ e in
       let l : length ps ≡ end = ap (λ (y : Put). nextOf (y .answer)) z ∙ q in
-      ap (itemsIn (x .octets) (x .rows)) c
-      ∙ filled-items rows h o k x
-      (ap (λ (i : ℕ). withLinks w cells 0 (f .targets) (filled (set rows 0 (row (matrixEntry f i))) (ps ++ drop (length ps) o) i)) l
-      ∙ ap (λ (y : List ℕ). withLinks w cells 0 (f .targets) (filled (set rows 0 y) (ps ++ drop (length ps) o) end)) (sym p)
-      ∙ ap (λ (y : Put). withLinks w cells 0 (f .targets) (filled (set rows 0 m) (y .out) end)) z
-      ∙ g)
+      let n : targets + 1 ≡ suc (f .targets) = omega (arith, c) in
+      let t = fit-targets-le w f fit in (
+        ap (itemsIn (x .octets) (x .rows)) n
+            ∙ filled-items rows h o k x
+            (ap (λ (i : ℕ). withLinks w cells 0 (f .targets) (filled (set rows 0 (row (matrixEntry f i))) (ps ++ drop (length ps) o) i)) l
+            ∙ ap (λ (i : ℕ). withLinks w cells 0 (f .targets) (filled (set rows 0 (row (matrixEntry f i))) (ps ++ drop (length ps) o) end)) (sym j)
+            ∙ ap (λ (y : List ℕ). withLinks w cells 0 (f .targets) (filled (set rows 0 y) (ps ++ drop (length ps) o) end)) (sym p)
+            ∙ ap (λ (y : Put). withLinks w cells 0 (f .targets) (filled (set rows 0 m) (y .out) end)) z
+            ∙ ap (λ (i : ℕ). withLinks w cells 0 i (filled (set rows 0 m) o1 end)) (sym c)
+            ∙ g),
+        omega (arith, n, t, few),
+      )
 
   -- .. where the path ends
-  pub path-end : (o : List ℕ) → 80 ≤ length o → (r : Wrote) (o1 : List ℕ) → putOid o 0 path ≡ outcome r o1 → nextOf r ≤ 80
-  path-end o k r o1 e =
+  pub path-end : (o : List ℕ) → 80 ≤ length o → {r : Wrote} {o1 : List ℕ} → putOid o 0 path ≡ outcome r o1 → nextOf r ≤ 80
+  path-end o k {r} {o1} e =
       let l : length ps ≡ nextOf r = ap (λ (y : Put). nextOf (y .answer)) (sym (oid-put o k) ∙ e) in
       omega (arith, l, path-size)
+
+  -- so many cells and targets
+  pub desk-counts : (length cells ≡ w * w) × (f .targets ≤ w)
+  desk-counts = (legal-length w f cells (cells-ok w f path cells few ok), fit-targets-le w f fit)
 
   -- ---- the message
 
   pub message-put : (es : List Item) → es ≡ flat 0 0 (sheetTree w (desk f path cells)) → (rows n : ℕ) → n ≤ 65 → 65 ≤ rows
-      → (o : List ℕ) → 6108 ≤ length o → (r : Wrote) (o1 : List ℕ) → writes 0 rows n es o ≡ outcome r o1
-      → (take (nextOf r) o1 ≡ sheetMessage w (desk f path cells)) × (nextOf r ≤ 6108)
+      → (o : List ℕ) → length o ≡ 6144 → {r : Wrote} {o1 : List ℕ} → writes 0 rows n es o ≡ outcome r o1 → {end : ℕ} → nextOf r ≡ end
+      → (take end o1 ≡ sheetMessage w (desk f path cells)) × (end ≤ 6144)
   unfolding sheetMessage
-  message-put es e rows n h k o l r o1 g =
+  message-put es e rows n h k o l {r} {o1} g {end} p =
       let t = sheetTree w (desk f path cells) in
       let ms = octetsOf writtenReal 0 es in
       let q : ms ≡ messageOctets writtenReal 0 t = octets-tree 0 t (sheet-legal w f path cells few ok) es e writtenReal in
@@ -351,7 +362,7 @@ module _ (w : ℕ) (f : Figures) (path : List ℕ) (cells : Cells) (few : w ≤ 
         few = omega (arith, b, c);
       }) in
       let z : outcome (Next (length ms)) (ms ++ drop (length ms) o) ≡ outcome r o1 = sym (writes-yes 0 rows n es o i (omega (arith, b, c, l))) ∙ g in
-      let j : length ms ≡ nextOf r = ap (λ (y : Put). nextOf (y .answer)) z in (
-        ap (λ (y : Put). take (nextOf (y .answer)) (y .out)) (sym z) ∙ take-at ms (drop (length ms) o) (length ms) refl ∙ q,
+      let j : length ms ≡ end = ap (λ (y : Put). nextOf (y .answer)) z ∙ p in (
+        ap (λ (i : ℕ). take i o1) (sym p) ∙ ap (λ (y : Put). take (nextOf (y .answer)) (y .out)) (sym z) ∙ take-at ms (drop (length ms) o) (length ms) refl ∙ q,
         omega (arith, b, c, j),
       )

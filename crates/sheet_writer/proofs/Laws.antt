@@ -18,6 +18,7 @@ use Rattle.framing_writer.specs.Stores as stores
 use Rattle.framing_writer.proofs.Laws.{wrote-none}
 use Rattle.routing.specs.declared.Figures.{Figures}
 use Rattle.routing.specs.Crosspoints.{Cells, rowAt}
+use Rattle.routing.proofs.Under.{take-short}
 use Rattle.sheets.specs.Sheet.{sourcesFrom, sourcesAt}
 use Rattle.sheet_writer.specs.Steps.{oneSource, numberCell, limitCell, listCell, matrixEntry, linkEntry, Filled, filled, withLink, withLinks}
 
@@ -71,23 +72,33 @@ matrix-put f n total each p q =
 
 -- ---- connections
 
--- the octets as `put_sources` leaves them, the row as `link_row` gives it; `part` is the target's cells as the code takes them
-module _ (cells : Cells) (t : ℕ) (rows : Rows) (o : List ℕ) (at : ℕ) where
-  pub link-put : (part : Cells) → part ≡ rowAt 64 cells t → {next : ℕ} {o′ : List ℕ} → wrote o at (sourcesFrom 0 part) ≡ record { next = next; output = o′ }
-      → (n : ℕ) → n ≡ next - at → (v : Cell) → listCell at n ≡ v → (r : List ℕ) → r ≡ row (linkEntry t v) → (i : ℕ) → i ≡ suc t
-      → withLink 64 cells t (filled rows o at) ≡ filled (set rows i r) o′ next
+-- the octets as `put_sources` leaves them, the row as `link_row` gives it; the target's cells as the code takes them
+module _ (cells : Cells) (t : ℕ) where
+  abbrev part : Cells
+  part = take (t * 64 + 64 - t * 64) (drop (t * 64) cells)
+
+  part-is : part ≡ rowAt 64 cells t
+  unfolding rowAt
+  part-is = let e : t * 64 + 64 - t * 64 ≡ 64 = omega arith in ap (λ (n : ℕ). take n (drop (t * 64) cells)) e
+
+  pub part-short : length part ≤ 64
+  part-short = omega (arith, take-short (t * 64 + 64 - t * 64) (drop (t * 64) cells))
+
+  pub link-put : (rows : Rows) (o : List ℕ) (at : ℕ) {next : ℕ} {o′ : List ℕ} → wrote o at (sourcesFrom 0 part) ≡ record { next = next; output = o′ }
+      → {u start n : ℕ} → u ≡ t → start ≡ at → n ≡ next - at → {v : Cell} → listCell start n ≡ v → {r : List ℕ} → r ≡ row (linkEntry u v)
+      → withLink 64 cells t (filled rows o at) ≡ filled (set rows (t + 1) r) o′ next
   unfolding withLink wrote
-  link-put part p {next} {o′} e n l v c r q i j =
+  link-put rows o at {next} {o′} e {u} {start} {n} i j l {v} c {r} q =
       let ss = sourcesAt 64 cells t in
-      let g : wrote o at ss ≡ record { next = next; output = o′ } = ap (λ (x : Cells). wrote o at (sourcesFrom 0 x)) (sym p) ∙ e in
+      let g : wrote o at ss ≡ record { next = next; output = o′ } = ap (λ (x : Cells). wrote o at (sourcesFrom 0 x)) (sym part-is) ∙ e in
       let k : at + length ss ≡ next = ap (λ (x : stores.Wrote). x .next) g in
       let m : length ss ≡ n = omega (arith, k, l) in
+      let w : listCell at (length ss) ≡ v = ap (listCell at) m ∙ ap (λ (x : ℕ). listCell x n) (sym j) ∙ c in
+      let z : row (linkEntry t (listCell at (length ss))) ≡ r = ap (λ (x : Cell). row (linkEntry t x)) w ∙ ap (λ (x : ℕ). row (linkEntry x v)) (sym i) ∙ sym q in
       ap (λ (x : List ℕ). filled (set rows (suc t) (row (linkEntry t (listCell at (length ss))))) x (at + length ss)) (ap (λ (x : stores.Wrote). x .output) g)
       ∙ ap (λ (x : ℕ). filled (set rows (suc t) (row (linkEntry t (listCell at (length ss))))) o′ x) k
-      ∙ ap (λ (x : ℕ). filled (set rows (suc t) (row (linkEntry t (listCell at x)))) o′ next) m
-      ∙ ap (λ (x : Cell). filled (set rows (suc t) (row (linkEntry t x))) o′ next) c
-      ∙ ap (λ (x : List ℕ). filled (set rows (suc t) x) o′ next) (sym q)
-      ∙ ap (λ (x : ℕ). filled (set rows x r) o′ next) (sym j)
+      ∙ ap (λ (x : List ℕ). filled (set rows (suc t) x) o′ next) z
+      ∙ ap (λ (x : ℕ). filled (set rows x r) o′ next) (sym (add-one t))
 
 -- n targets are left from t on
 module _ (w : ℕ) (cells : Cells) (targets t : ℕ) where
@@ -96,6 +107,9 @@ module _ (w : ℕ) (cells : Cells) (targets t : ℕ) where
   links-more h x y e =
       let k : targets - t ≡ suc (targets - (t + 1)) = omega arith in
       rw (k, add-one t) (ap (λ (z : Filled). withLinks w cells (suc t) (targets - suc t) z) e)
+
+  pub links-begin : (x : Filled) → withLinks w cells 0 targets x ≡ withLinks w cells 0 (targets - 0) x
+  links-begin x = let k : targets ≡ targets - 0 = omega arith in ap (λ (n : ℕ). withLinks w cells 0 n x) k
 
   pub links-end : targets ≤ t → (x : Filled) → withLinks w cells t (targets - t) x ≡ x
   unfolding withLinks

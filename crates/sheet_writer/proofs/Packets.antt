@@ -1,4 +1,4 @@
--- How long the frames of a message are, and the answers of those who write them.
+-- How long the frames and the lines of a message are, and the answers of those who write them.
 use Prim.Native.Nat.{ℕ, zero, suc, _+_, _-_, _*_, _/_, _≤_, _<_}
 use mathlib.Core.Path.{_≡_, refl, sym, ap, subst, _∙_}
 use mathlib.Core.List.{List, [], _∷_, _++_}
@@ -15,6 +15,7 @@ use Rattle.framing_writer.specs.declared.Written.the-variants.{Done, Out}
 use Rattle.framing_writer.specs.Written.{escape, escapes, sealed, frame, flags, header, packetBody, packet, packets, payloadLimit, earlier, inPackets}
 use Rattle.framing_writer.specs.Written.{Outcome, outcome, into, limited, messageInto}
 use Rattle.framing_writer.proofs.Laws.{limited-fits}
+use Rattle.sheets.specs.Sheet.{hexText, lineOf, packetLines, messageLines}
 
 -- ---- two bytes for each at most, and 24 more a packet
 
@@ -86,3 +87,33 @@ module _ (m o : List ℕ) (short : length m ≤ 6144) (room : length o ≡ 16384
   frames-out r o′ g q =
       let e : messageInto m o ≡ outcome Out o′ = g ∙ ap (λ (x : Written). outcome x o′) q in
       let z : _≡_ {A = ℕ} 0 46 = ap (λ (x : Outcome). x .number) (sym message-fits ∙ e) in omega arith
+
+-- ---- its lines: two digits a byte, and 0A
+
+hex-double : (xs : List ℕ) → length (hexText xs) ≡ 2 * length xs
+unfolding hexText
+hex-double [] = refl
+hex-double (x ∷ xs) = omega (arith, hex-double xs)
+
+line-length : (first last : Bool) (p : List ℕ) → length (lineOf (packet first last p)) ≤ 49 + 4 * length p
+line-length first last p =
+    omega (arith, length-append (hexText (packet first last p)) (10 ∷ []), hex-double (packet first last p), packet-length first last p)
+
+lines-length : (n : ℕ) (first : Bool) (m : List ℕ) → length (packetLines n first m) ≤ 49 * suc n + 4 * length m
+unfolding packetLines
+lines-length zero first m = line-length first true m
+lines-length (suc n) first m =
+    let t = take payloadLimit m in
+    let d = drop payloadLimit m in
+    let a = line-length first false t in
+    let b = lines-length n false d in
+    let c = length-append (lineOf (packet first false t)) (packetLines n false d) in
+    let e = length-append t d in
+    let g = ap length (take-append-drop payloadLimit m) in
+    omega (arith, a, b, c, e, g)
+
+pub text-length : (m : List ℕ) → length m ≤ 6108 → length (messageLines m) ≤ 25000
+text-length m h =
+    let a = lines-length (earlier (length m)) true m in
+    let b : earlier (length m) ≤ 6 = omega arith in
+    omega (arith, a, b, h)

@@ -82,7 +82,8 @@ unfolding words blanks
 returns c =
     let the-limit-cell = c .before .limit-cell in
     let the-limit-cell2 = c .limit-cell2 in
-    matrix-put _ _ _ _ (the-limit-cell .ensures) (the-limit-cell2 .ensures)
+    let the-Start = c .before .before in
+    matrix-put (the-Start .args .f) (the-Start .args .len) _ _ (the-limit-cell .ensures) (the-limit-cell2 .ensures)
 
 pub matrix-row-spec : {M : Type 1} → statement M
 matrix-row-spec =
