@@ -3,3 +3,4 @@ pub mod Events
 pub mod Ways
 pub mod Steps
 pub mod Messages
+pub mod Answers

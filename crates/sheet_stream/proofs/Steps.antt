@@ -1,5 +1,5 @@
 -- Laws for the functions: one byte offered to the session is one step of the rules, and leaves what the bytes give.
-use Prim.Native.Nat.{ℕ, _+_, _≤_, _<_, min}
+use Prim.Native.Nat.{ℕ, _≤_, _<_}
 use mathlib.Core.Path.{_≡_, refl, sym, ap, subst, _∙_}
 use mathlib.Core.List.{List, [], _∷_}
 use mathlib.Core.Bool.{Bool, true, false, true≢false}
@@ -10,8 +10,7 @@ use types.Run.{OneOf}
 use denote.Enum.Declared.{tagOf}
 use lib.ListN.{length, take, length-take}
 use lib.Seq.{sets}
-use lib.Dec.{leb, eqb}
-use Rattle.integers.specs.Digits as int
+use lib.Dec.{eqb}
 use Rattle.framing.proofs.Event as event
 use Rattle.framing.specs.declared.Event.{Event}
 use Rattle.framing.specs.declared.Event.the-variants as ev
@@ -22,15 +21,15 @@ use Rattle.framing.specs.declared.Pending.{Pending}
 use Rattle.framing.specs.declared.Pending.the-variants.{Nothing, Part}
 use Rattle.framing.specs.declared.Session.{Session}
 use Rattle.framing.specs.Numbers.{storeLength, messageLimit, contentStart, pick}
-use Rattle.framing.specs.Rules.{Message, none, part, isOpen, State, Step, begin, step, happens, after}
+use Rattle.framing.specs.Rules.{Message, none, part, isOpen, Step, begin, step, happens, after}
 use Rattle.framing.specs.Session.{saidBy, placeOf, messageOf, stateOf, sessionOf, legal, Legal, content, held, kept, Whole, whole, answers, run, feeds}
 use Rattle.framing.proofs.Lists.{take-sets-le}
 use Rattle.framing.proofs.Laws.{legal-true, true-legal, Bounded, bounded-state, Within, within-step, kept-state, legal-next, number-high}
 use Rattle.sheets.specs.Lines.{Stream, linesIn}
-use Rattle.sheets.specs.Reading.{Held, refusal, message, inFrame, somethingOpen, ofEvents, heldIn}
+use Rattle.sheets.specs.Reading.{refusal, message, inFrame, somethingOpen, ofEvents, heldIn}
 use Rattle.sheets.specs.Steps.{isBad}
 use Rattle.sheet_stream.specs.declared.Tally.{Tally}
-use Rattle.sheet_stream.specs.Finding.{Outcome, setup, holds, finds}
+use Rattle.sheet_stream.specs.Finding.{setup, holds, finds}
 use Rattle.sheet_stream.specs.Steps.{frameOpen, partOpen, openIn, bytesFrom, another, collects, left, Sound, Taken}
 use Rattle.framing.proofs.Chunks.{fresh-legal}
 use Rattle.sheet_stream.proofs.Lines.{lines-bytes, lines-bad}

@@ -1,6 +1,6 @@
 -- What a byte does to the unfinished message. So a finished message stays in the store until a piece comes; and a piece leaves a message open until another
 -- is finished or a fault throws it away.
-use Prim.Native.Nat.{ℕ, _+_, _-_, _≤_, _<_}
+use Prim.Native.Nat.{ℕ, _+_, _≤_}
 use mathlib.Core.Path.{_≡_, refl, sym, ap, subst, _∙_}
 use mathlib.Core.List.{List, [], _∷_, _++_}
 use mathlib.Core.Bool.{Bool, true, false, true≢false}
@@ -20,7 +20,7 @@ use Rattle.framing.specs.Rules.{Place, outside, stray, inside, escaped, badByte
 use Rattle.framing.specs.Rules.{makes, refuses, adds, joins, pieces, reads, ends, faulted, cuts, inPlace, step}
 use Rattle.framing.specs.Session.{held}
 use Rattle.framing.proofs.Laws.{pick-by, number-high, Bounded, within-step}
-use Rattle.sheets.specs.Reading.{Held, refusal, message, inFrame, somethingOpen}
+use Rattle.sheets.specs.Reading.{refusal, message, inFrame, somethingOpen}
 use Rattle.sheet_stream.specs.Steps.{another, collects}
 
 -- an event from 10 up; a message finished; one left open; or all as it was, m
