@@ -3,6 +3,7 @@
 A claim is (index of the entry in message order or None, what, field). The walk is strict: a field that it does not know,
 a choice that is labelled otherwise than what it holds, or an expert's remark is `Strange`."""
 
+import collections
 import os
 import re
 import subprocess
@@ -29,6 +30,11 @@ MEMBERS = {
     },
 }
 CONNECTION = {"glow.target": "target", "glow.sources": "sources", "glow.operation": "operation"}
+# 001's members that our reader passes over.
+PASSED_OVER = {
+    "glow.format", "glow.enumeration", "glow.formula", "glow.default", "glow.type", "glow.gainParameterNumber",
+    "glow.targetList", "glow.sourceList", "glow.disposition",
+}
 VALUES = {"integer": "int", "real": "real", "string": "text", "boolean": "bool", "octets": "octets"}
 STRAY = "Trailing stray characters"
 
@@ -107,11 +113,14 @@ def dissected(path, port):
 
 
 class Walk:
-    """The claims that a dissected tree makes, in message order."""
+    """The claims that a dissected tree makes, in message order. If lenient, what our reader passes over or counts as absent
+    is left out and counted."""
 
-    def __init__(self, glow):
+    def __init__(self, glow, lenient):
         self.claims = []
         self.count = 0
+        self.lenient = lenient
+        self.ours_not = collections.Counter()
         root = glow.only("glow.Root")
         if root.word() != "elements":
             raise Strange(root.label)
@@ -122,6 +131,15 @@ class Walk:
 
     def claim(self, index, what, field):
         self.claims.append((index, what, field))
+
+    def left_out(self, field):
+        if self.lenient and field.name in PASSED_OVER:
+            self.ours_not["members of 001 that our reader passes over, shown"] += 1
+            return True
+        if self.lenient and field.name in ("glow.children", "glow.connections") and field.show == "0" and not field.below:
+            self.ours_not["empty children or connections, absent by our reader, shown as 0 items"] += 1
+            return True
+        return False
 
     def chosen(self, item, name):
         """What a choice holds; its label names it."""
@@ -144,6 +162,8 @@ class Walk:
         plain = kind.replace("qualified-", "")
         key = "glow.number" if plain == kind else "glow.path"
         for part in field.below:
+            if self.left_out(part):
+                continue
             if part.name == key:
                 self.claim(index, key[5:], part)
             elif part.name == "glow.options" and kind == "command":
@@ -172,6 +192,8 @@ class Walk:
     def member(self, index, names, field):
         name = names.get(field.name)
         if not name:
+            if self.left_out(field):
+                return
             raise Strange("member " + str(field.label))
         if name in ("value", "minimum", "maximum"):
             self.claim(index, name + "'s kind", VALUES.get(field.word()))

@@ -35,7 +35,7 @@ PASSED_OVER = {
     "matrix": [(9, (1, 100))],
 }
 WORDS = ["Gain", "PGM 1", "Lautstärke", "Düsseldorf", "音量", "Ёлка", "🎚", "a<b>&c", 'say "no"', "it's", "back\\slash", "", " ", "x.y/z"]
-CONTROLS = ["\n", "\t", "\r", "two\nlines", "\x01", "\x7f", "\x1b[0m", "\u0085", "\u2028", "\ufeff", "\ufffd", "e\u0301"]
+CONTROLS = ["\n", "\t", "\r", "two\nlines", "\x01", "\x7f", "\x1b[0m", "\u0085", "\u2028", "\ufeff", "\ufffd", "e\u0301", "\0", "a\0b"]
 LETTERS = "ABCDEFGHIJKLMNOPQRSTUVWXYZabcdefghijklmnopqrstuvwxyz_"
 
 
@@ -90,7 +90,7 @@ class Drawn:
     def text(self):
         random = self.random
         if self.long_texts and random.random() < 0.2:
-            return (random.choice(WORDS) * 400).encode()[:random.choice([127, 128, 255, 256, 400])].decode(errors="ignore").encode()
+            return (random.choice(WORDS) * 400).encode()[:random.choice([127, 128, 255, 256, 400, 1013, 3000])].decode(errors="ignore").encode()
         words = random.choices(WORDS, k=random.choice([1, 1, 1, 2, 3]))
         if random.random() < 0.05:
             words.append(random.choice(CONTROLS))
