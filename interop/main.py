@@ -15,13 +15,14 @@ import ours
 import theirs
 from capture import PORT, Capture
 from compare import Comparison, has_one_octet
+from outside import CASES
 from plain import escaped, is_first, is_last, unescaped
 from trees import Drawn
 
 BATCH = 500  # trees to a capture
 MESSAGE_MAX = 16384
 # The consumer's port of each connection in the capture.
-WRITTEN, SPELLED, DAMAGED, CUT, WOVEN, TWICE = range(50000, 50006)
+WRITTEN, SPELLED, DAMAGED, CUT, WOVEN, TWICE, OUTSIDE = range(50000, 50007)
 STOPPED = 'failed assertion "lenE < len - 1"'
 PLANTED = 0.1  # share of messages in which a difference is planted, to see that it is told
 
@@ -43,7 +44,7 @@ class Batch:
         messages, entries = self.through_tree(trees)
         self.segments = self.stream(WRITTEN, messages, entries)
         self.segments += self.stream(SPELLED, [tree.message for tree in trees], [tree.entries for tree in trees])
-        self.segments += self.damaged() + self.cut() + self.woven()
+        self.segments += self.damaged() + self.cut() + self.woven() + self.outside()
 
     def draw(self):
         while True:
@@ -137,6 +138,15 @@ class Batch:
         turns = [Segment([frame], WOVEN, way) for frame in (first, last) for way in (True, False)]
         return turns + [Segment([first, last, first, last], TWICE)]
 
+    def outside(self):
+        """Messages outside the notation, a segment each."""
+        answers = [ours.run("tree", ["read " + case[1]])[0] for case in CASES]
+        for case, answer in zip(CASES, answers):
+            if answer != case[2]:
+                self.comparison.differ(case[0], "tree read", answer, "(expected: %s)" % case[2])
+        frames = ours.frames(["message " + case[1] for case in CASES])
+        return [Segment([(parts[0], 3, case)], OUTSIDE) for parts, case in zip(frames, CASES)]
+
     # What tshark shows of it
 
     def look(self, path):
@@ -145,7 +155,7 @@ class Batch:
                 capture.add(b"".join(frame for frame, _, _ in segment.frames), segment.port, segment.to_provider)
         looks = {
             WRITTEN: self.look_whole, SPELLED: self.look_whole, DAMAGED: self.look_damaged, CUT: self.look_cut,
-            WOVEN: self.look_woven, TWICE: self.look_twice,
+            WOVEN: self.look_woven, TWICE: self.look_twice, OUTSIDE: self.look_outside,
         }
         number = 0
         for segment, (frames, remarks) in zip(self.segments, theirs.dissected(path, PORT)):
@@ -224,6 +234,15 @@ class Batch:
         together = sum(frame.pieces is not None for frame in frames)
         self.comparison.seen["messages of two packets, two in one segment"] += 2
         self.comparison.known["messages of several packets, the second that begins in a segment, not put together"] += 2 - together
+
+    def look_outside(self, where, segment, frames, remarks):
+        name, _, _, shown = segment.frames[0][2]
+        labels = [field.label for field in frames[0].glow.all_below()]
+        as_told = any(shown in label for label in labels) if shown else not labels
+        if as_told:
+            self.comparison.known["outside the notation: " + name] += 1
+        else:
+            self.comparison.differ(where, name, shown, labels)
 
 
 def main(count, seed):

@@ -50,7 +50,7 @@ class Field:
         self.name = node.get("name")
         self.show = node.get("show")
         self.hexadecimal = node.get("value") or ""
-        self.label = node.get("showname")
+        self.label = node.get("showname") or self.show or ""
         self.below = [Field(child) for child in node]
 
     @property
@@ -61,6 +61,11 @@ class Field:
         """The name in `Element: node (3)`."""
         found = re.search(r": (\w+) \(\d+\)$", self.label)
         return found[1] if found else None
+
+    def all_below(self):
+        for field in self.below:
+            yield field
+            yield from field.all_below()
 
     def only(self, name):
         if [field.name for field in self.below] != [name]:
