@@ -181,6 +181,7 @@ class Batch:
                 comparison.differ(where, "tree", bool(message), bool(frame.glow))
             elif message:
                 comparison.seen["messages of several packets"] += message[2] > 1
+                comparison.seen["packets of the longest message"] = max(comparison.seen["packets of the longest message"], message[2])
                 comparison.pieces(where, message[0], message[2], frame)
                 last = bool(stopped) and frame is frames[-1]
                 comparison.tree(where, message[1], frame.glow, segment.port == WRITTEN, last)
@@ -237,7 +238,7 @@ class Batch:
 
     def look_outside(self, where, segment, frames, remarks):
         name, _, _, shown = segment.frames[0][2]
-        labels = [field.label for field in frames[0].glow.all_below()]
+        labels = [field.label for frame in frames if frame.glow for field in frame.glow.all_below()]
         as_told = any(shown in label for label in labels) if shown else not labels
         if as_told:
             self.comparison.known["outside the notation: " + name] += 1

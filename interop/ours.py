@@ -4,9 +4,10 @@ import os
 import re
 import subprocess
 
+from capture import frames_of
+
 ROOT = os.path.dirname(os.path.dirname(os.path.abspath(__file__)))
 MEMBER = re.compile(r' ([a-z-]+)=((?:text:)?"[^"]*"|[^ ]*)')
-NAMES_OF_PATHS = {"path", ("connection", "sources")}
 
 
 def run(program, requests):
@@ -18,7 +19,7 @@ def run(program, requests):
 
 
 def written(messages):
-    """Each message as `tree` writes it again; None with the answer where it does not."""
+    """Each message as `tree write` writes it again, or None, and the answer."""
     lines = run("tree", ["write " + message.hex().upper() for message in messages])
     assert len(lines) == len(messages), "tree write: another count of answers"
     return [(bytes.fromhex(line[2:]) if line.startswith("0 ") else None, line) for line in lines]
@@ -79,8 +80,6 @@ def unquoted(text):
 
 def frames(requests):
     """What `packets` writes for each request, cut into frames."""
-    from capture import frames_of
-
     lines = run("packets", requests)
     assert len(lines) == len(requests), "packets: another count of answers"
     return [frames_of(bytes.fromhex(line)) for line in lines]

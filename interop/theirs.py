@@ -163,7 +163,7 @@ class Walk:
         kind = ELEMENTS.get(field.name)
         if not kind:
             raise Strange("element " + field.label)
-        index = self.entry(kind, parent, field)
+        index = self.entry(kind, parent)
         plain = kind.replace("qualified-", "")
         key = "glow.number" if plain == kind else "glow.path"
         for part in field.below:
@@ -187,7 +187,7 @@ class Walk:
             else:
                 raise Strange("%s in %s" % (part.label, kind))
 
-    def entry(self, kind, parent, field):
+    def entry(self, kind, parent):
         index = self.count
         self.count += 1
         self.claim(index, "kind", kind)
@@ -210,6 +210,6 @@ class Walk:
     def connection(self, field, parent):
         if field.name != "glow.Connection_element":
             raise Strange("connection " + field.label)
-        index = self.entry("connection", parent, field)
+        index = self.entry("connection", parent)
         for part in field.below:
             self.member(index, CONNECTION, part)
