@@ -1,0 +1,4 @@
+pub mod Members
+pub mod Numbers
+pub mod Desks
+pub mod Messages
