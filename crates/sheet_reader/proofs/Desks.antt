@@ -43,9 +43,6 @@ module _ (w : ℕ) (f : Figures) (path : List ℕ) (mode : ℕ) (es : List Item)
   opens-any =
       rw (eq-eqb _ _ (clear-length (w * w)), eq-eqb _ _ sized) (go (pathFits path) (both (figuresFit w f) (eqb mode 0)))
     where
-      all : Cells
-      all = clear (w * w)
-
       go : (u v : Bool)
           → begun w f path es (pick u (pick v (answer 0 (clear (w * w))) (answer 45 (clear (w * w)))) (answer 45 (clear (w * w))))
           ≡ begun w f path es (pick u (pick v (answer 0 (clear (w * w))) (answer 45 cells)) (answer 45 cells))

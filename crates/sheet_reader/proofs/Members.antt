@@ -69,9 +69,13 @@ pub figures-is : (rows : Rows) (v3 v5 v6 v7 v8 : Cell) (kind targets sources : �
     → (s : List ℕ) → figuresIn (firstOf s rows) ≡ record { kind = kind; targets = targets; sources = sources; total = total; each = each }
 unfolding contentsOf cellsFrom
 figures-is rows v3 v5 v6 v7 v8 kind targets sources total each e3 e5 e6 e7 e8 a b c d e s =
-    rw (ap (λ (v : Cell). numberOf (contentOf s v)) (sym e3) ∙ a s, ap (λ (v : Cell). numberOf (contentOf s v)) (sym e5) ∙ b s,
-    ap (λ (v : Cell). numberOf (contentOf s v)) (sym e6) ∙ c s, ap (λ (v : Cell). limitIn (contentOf s v)) (sym e7) ∙ d s,
-    ap (λ (v : Cell). limitIn (contentOf s v)) (sym e8) ∙ e s)
+    rw (
+      ap (λ (v : Cell). numberOf (contentOf s v)) (sym e3) ∙ a s,
+      ap (λ (v : Cell). numberOf (contentOf s v)) (sym e5) ∙ b s,
+      ap (λ (v : Cell). numberOf (contentOf s v)) (sym e6) ∙ c s,
+      ap (λ (v : Cell). limitIn (contentOf s v)) (sym e7) ∙ d s,
+      ap (λ (v : Cell). limitIn (contentOf s v)) (sym e8) ∙ e s,
+    )
 
 pub mode-is : (rows : Rows) (v : Cell) (mode : ℕ) → v ≡ cellAt (getD rows 0 []) 4 → ((s : List ℕ) → numberOf (contentOf s v) ≡ mode)
     → (s : List ℕ) → modeIn (firstOf s rows) ≡ mode

@@ -5,7 +5,7 @@ use mathlib.Core.List.{List, [], _∷_, _++_, append-nil}
 use mathlib.Core.Bool.{Bool, true, false}
 use native.Mathlib.Omega.{arith}
 use borrow.Author.Tests.{eq-eqb, ne-eqb}
-use lib.ListN.{length, take, drop, getD, set, drop-of-length-le, length-append}
+use lib.ListN.{length, take, drop, getD, set, drop-of-length-le, length-append, length-drop}
 use lib.Seq.{drop-cons, take-suc, take-suc-set, append-snoc, set-at, length-take-le, take-length}
 use Rattle.entries.specs.declared.Cell.{Cell}
 use Rattle.forest.specs.Content.{contentOf}
@@ -81,3 +81,10 @@ module _ (a b : List ℕ) (i : ℕ) where
   copy-end h k =
       let e : i ≡ length a = omega arith in
       ap (λ (j : ℕ). take j a ++ drop j b) e ∙ ap (λ (l : List ℕ). l ++ drop (length a) b) (take-length a)
+
+  pub copy-length : (c : List ℕ) → i ≤ length a → length a ≤ length b → c ≡ take i a ++ drop i b → length c ≡ length b
+  copy-length c h k e =
+      let x = length-append (take i a) (drop i b) in
+      let y = length-take-le i a h in
+      let z = length-drop i b in
+      ap length e ∙ omega arith

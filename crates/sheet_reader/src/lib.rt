@@ -272,7 +272,14 @@ fn copy_bytes(from: &[u8], to: &mut [u8])
 }
 
 // The answer: a desk where the number is 0, with its path and crosspoints handed over; else a refusal.
-fn hand_over(number: u64, f: Figures, numbers: &[u64], cells: &[u8], path: &mut [u64], crosspoints: &mut [u8]) -> Sheet
+fn hand_over(
+    number: u64,
+    f: Figures,
+    numbers: &[u64],
+    cells: &[u8],
+    path: &mut [u64],
+    crosspoints: &mut [u8],
+) -> Sheet
     requires { ⌜ (length (now numbers) ≤ length (now path)) × (length (now cells) ≡ length (now crosspoints)) ⌝ }
     ensures { λ r. ⌜ Tells (sheetBy number f (now (numbers .entry)) (now (cells .entry))) (now (path .entry)) (now (crosspoints .entry))
         r (now (path .exit)) (now (crosspoints .exit)) ⌝ }

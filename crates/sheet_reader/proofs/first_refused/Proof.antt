@@ -1,53 +1,59 @@
+use borrow.Author.Needs.{needs}
+use Rattle.sheet_reader.proofs.Numbers.{refused-none, refused-one, refused-more}
+use Rattle.sheets.specs.Reading.{firstRefused}
+use lib.ListN.{length, drop}
+use Prim.Native.Nat.{_-_}
+use mathlib.Core.Path.{_≡_, refl, sym, ap, _∙_}
+use native.Mathlib.Omega.{arith}
 use Rattle.sheet_reader.proofs.first_refused.Statement.{statement}
 use Rattle.sheet_reader.proofs.first_refused.Tie as tie
-use Rattle.sheet_reader.proofs.first_refused.Reads as reads
-use Rattle.sheet_reader.proofs.first_refused.Lts as lts
 
 abbrev Inv-loop : tie.InvT-loop
-Inv-loop answers i₀ i = ?
+Inv-loop answers i₀ i = firstRefused answers ≡ firstRefused (drop i answers)
 
 abbrev μ-loop : tie.MeasureT-loop
-μ-loop answers i₀ i = ?
+μ-loop answers i₀ i = length answers - i
 
--- src/lib.rt:213:5
 loop-holds : tie.Need-loop-holds Inv-loop μ-loop
-loop-holds c = ?
+loop-holds c = refl
 
--- src/lib.rt:214:12
 mul-if1 : tie.Need-mul-if1 Inv-loop μ-loop
-mul-if1 c = ?
+mul-if1 c = search needs
 
--- src/lib.rt:214:12
 shared-slice-read-if1 : tie.Need-shared-slice-read-if1 Inv-loop μ-loop
-shared-slice-read-if1 c = ?
+shared-slice-read-if1 c = search needs
 
--- src/lib.rt:215:20
 mul-result : tie.Need-mul-result Inv-loop μ-loop
-mul-result c = ?
+mul-result c = search needs
 
--- src/lib.rt:215:20
 shared-slice-read-result : tie.Need-shared-slice-read-result Inv-loop μ-loop
-shared-slice-read-result c = ?
+shared-slice-read-result c = search needs
 
--- src/lib.rt:215:13
 returns : tie.Need-returns Inv-loop μ-loop
-returns c = ?
+returns c =
+    let the-loop = c .before .before .before .before .loop in
+    let the-loop-test = c .before .before .before .loop-test in
+    let the-if1 = c .before .if1 in
+    the-loop .inv ∙ refused-one _ _ (the-loop-test .taken) (the-if1 .taken)
 
--- src/lib.rt:217:9
 add-i : tie.Need-add-i Inv-loop μ-loop
-add-i c = ?
+add-i c = omega arith
 
--- src/lib.rt:213:5
 loop-less : tie.Need-loop-less Inv-loop μ-loop
-loop-less c = ?
+loop-less c = omega arith
 
--- src/lib.rt:213:5
 loop-again : tie.Need-loop-again Inv-loop μ-loop
-loop-again c = ?
+loop-again c =
+    let the-loop = c .before .before .before .loop in
+    let the-loop-test = c .before .before .loop-test in
+    let the-if1 = c .if1 in
+    the-loop .inv ∙ refused-more _ _ (the-loop-test .taken) (the-if1 .left)
 
--- src/lib.rt:209:1
 returns-2 : tie.Need-returns-2 Inv-loop μ-loop
-returns-2 c = ?
+returns-2 c =
+    let the-loop = c .before .loop in
+    let the-loop-test = c .loop-test in
+    the-loop .inv ∙ refused-none _ _ (the-loop-test .left)
 
 pub first-refused-spec : {M : Type 1} → statement M
 first-refused-spec =

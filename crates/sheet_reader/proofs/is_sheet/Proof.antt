@@ -1,65 +1,82 @@
+use borrow.Author.Needs.{needs}
+use Rattle.sheet_reader.proofs.Members.{sheet-none, sheet-other, sheet-links, links-end, links-other, links-more}
+use Rattle.sheet_reader.specs.Steps.{isSheet}
+use Rattle.sheets.specs.Reading.{allLinks}
+use Rattle.forest.specs.Rows.{itemsIn}
+use lib.ListN.{length, drop}
+use Prim.Native.Nat.{ℕ, _-_, _≤_}
+use mathlib.Core.List.{List}
+use mathlib.Core.Path.{_≡_, refl, sym, ap, _∙_}
+use native.Mathlib.Omega.{arith}
 use Rattle.sheet_reader.proofs.is_sheet.Statement.{statement}
 use Rattle.sheet_reader.proofs.is_sheet.Tie as tie
-use Rattle.sheet_reader.proofs.is_sheet.Reads as reads
-use Rattle.sheet_reader.proofs.is_sheet.Lts as lts
 
 abbrev Inv-loop : tie.InvT-loop
-Inv-loop rows count i₀ i = ?
+Inv-loop rows count i₀ i = (s : List ℕ) → isSheet (itemsIn s rows count) ≡ allLinks (drop i (itemsIn s rows count))
 
 abbrev μ-loop : tie.MeasureT-loop
-μ-loop rows count i₀ i = ?
+μ-loop rows count i₀ i = count - i
 
--- src/lib.rt:118:9
 returns : tie.Need-returns Inv-loop μ-loop
-returns c = ?
+returns c =
+    let the-if1 = c .if1 in
+    λ s. sheet-none s _ _ (the-if1 .taken)
 
--- src/lib.rt:120:8
 index-1-if2 : tie.Need-index-1-if2 Inv-loop μ-loop
-index-1-if2 c = ?
+index-1-if2 c = omega arith
 
--- src/lib.rt:120:8
 index-2-if2 : tie.Need-index-2-if2 Inv-loop μ-loop
-index-2-if2 c = ?
+index-2-if2 c = search needs
 
--- src/lib.rt:121:9
 returns-2 : tie.Need-returns-2 Inv-loop μ-loop
-returns-2 c = ?
+returns-2 c =
+    let the-Start = c .before .before .before in
+    let the-if2 = c .if2 in
+    λ s. sheet-other s _ _ (the-Start .pre) (omega arith) (the-if2 .taken)
 
--- src/lib.rt:124:5
 loop-holds : tie.Need-loop-holds Inv-loop μ-loop
-loop-holds c = ?
+loop-holds c =
+    let the-Start = c .before .before .before in
+    let the-if2 = c .if2 in
+    λ s. sheet-links s _ _ (the-Start .pre) (omega arith) (the-if2 .left)
 
--- src/lib.rt:125:12
 mul-if3 : tie.Need-mul-if3 Inv-loop μ-loop
-mul-if3 c = ?
+mul-if3 c = search needs
 
--- src/lib.rt:125:12
 index-1-if3 : tie.Need-index-1-if3 Inv-loop μ-loop
-index-1-if3 c = ?
+index-1-if3 c = omega arith
 
--- src/lib.rt:125:12
 index-2-if3 : tie.Need-index-2-if3 Inv-loop μ-loop
-index-2-if3 c = ?
+index-2-if3 c = search needs
 
--- src/lib.rt:126:13
 returns-3 : tie.Need-returns-3 Inv-loop μ-loop
-returns-3 c = ?
+returns-3 c =
+    let the-Start = c .before .before .before .before .before .before .before in
+    let the-loop = c .before .before .before .loop in
+    let the-loop-test = c .before .before .loop-test in
+    let the-if3 = c .if3 in
+    λ s. the-loop .inv s ∙ links-other s _ _ (the-Start .pre) _ (the-loop-test .taken) (the-if3 .taken)
 
--- src/lib.rt:128:9
 add-i : tie.Need-add-i Inv-loop μ-loop
-add-i c = ?
+add-i c = omega arith
 
--- src/lib.rt:124:5
 loop-less : tie.Need-loop-less Inv-loop μ-loop
-loop-less c = ?
+loop-less c = omega arith
 
--- src/lib.rt:124:5
 loop-again : tie.Need-loop-again Inv-loop μ-loop
-loop-again c = ?
+loop-again c =
+    let the-Start = c .before .before .before .before .before .before .before in
+    let the-loop = c .before .before .before .loop in
+    let the-loop-test = c .before .before .loop-test in
+    let the-if3 = c .if3 in
+    λ s. the-loop .inv s ∙ links-more s _ _ (the-Start .pre) _ (the-loop-test .taken) (the-if3 .left)
 
--- src/lib.rt:113:1
 returns-4 : tie.Need-returns-4 Inv-loop μ-loop
-returns-4 c = ?
+returns-4 c =
+    let the-Start = c .before .before .before .before .before in
+    let the-loop = c .before .loop in
+    let the-loop-test = c .loop-test in
+    λ s. the-loop .inv s ∙ links-end s _ _ (the-Start .pre) _ (the-loop-test .left)
 
 pub is-sheet-spec : {M : Type 1} → statement M
 is-sheet-spec =
