@@ -2,3 +2,6 @@ pub mod Members
 pub mod Numbers
 pub mod Desks
 pub mod Messages
+pub mod Bounds
+pub mod Whole
+pub mod Theorems

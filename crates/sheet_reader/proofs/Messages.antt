@@ -8,6 +8,7 @@ use borrow.Author.Tests.{le-ltb}
 use lib.Dec.{ltb}
 use lib.ListN.{length}
 use Rattle.integers.specs.Digits.{pick}
+use Rattle.integers.proofs.Radix.{Below}
 use Rattle.containers.specs.declared.Onto.{Onto}
 use Rattle.containers.specs.declared.Onto.the-variants.{Next, Refused as Stopped}
 use Rattle.entries.specs.Entry.{Entries, Rows, overlay}
@@ -27,7 +28,7 @@ use Rattle.sheets.specs.Reading.{refused, ofEntries, ofAnswer, ofMessage}
 use Rattle.sheet_reader.specs.declared.Sheet.{Sheet}
 use Rattle.sheet_reader.specs.declared.Sheet.the-variants.{Setup, Refused, Read}
 use Rattle.sheet_reader.specs.Calls.{leaves, told}
-use Rattle.sheet_reader.specs.Steps.{Octets, Tells}
+use Rattle.sheet_reader.specs.Steps.{Tells}
 
 module _ (w : ℕ) (m : List ℕ) (table : Rows) (few : length m ≤ 16384) (sized : length table ≡ 256) where
   -- by the tree reader's answer
@@ -94,7 +95,7 @@ module _ (w : ℕ) (m : List ℕ) (table : Rows) (few : length m ≤ 16384) (siz
         ap (λ (x : reading.Sheet). leaves x path cells) (by-answer a after q ∙ ap (λ (x : Answer). sheetFor x (walk m .out .entries)) h)
 
     -- after 0 the entries are those in the first rows
-    module _ (root count : ℕ) (h : a ≡ glow.Read root count) (octets : Octets m) where
+    module _ (root count : ℕ) (h : a ≡ glow.Read root count) (octets : Below 256 m) where
       answers : readAt m table .answer ≡ glow.Read root count
       answers = ap (λ (x : Result). x .answer) q ∙ h
 

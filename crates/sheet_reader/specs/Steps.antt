@@ -6,7 +6,6 @@ use mathlib.Core.Bool.{Bool, true, false}
 use lib.ListN.{length, take, getD}
 use lib.Dec.{eqb}
 use Rattle.integers.specs.Digits.{pick}
-use Rattle.integers.proofs.Radix.{Below}
 use Rattle.entries.specs.Entry.{Rows}
 use Rattle.grammar.specs.Grammar.{qualifiedMatrix}
 use Rattle.forest.specs.Content.{Item, itemOf}
@@ -23,10 +22,6 @@ use Rattle.sheet_reader.specs.Calls.{leaves, told}
 -- the entry in the first row
 abbrev pub firstOf : List ℕ → Rows → Item
 firstOf s rows = itemOf s (entryOf (getD rows 0 []))
-
--- every byte is an octet
-abbrev pub Octets : List ℕ → Type 0
-Octets m = Below 256 m
 
 -- one qualified matrix, and connections alone
 abbrev pub isSheet : List Item → Bool

@@ -6,6 +6,7 @@ use identifiers::Arc;
 use identifiers::Oid;
 use routing::Figures;
 use routing::Limit;
+use sheet_stream::Found;
 ghost use mathlib.Core.Path.{_≡_};
 ghost use mathlib.Core.Bool.{true};
 ghost use mathlib.Core.List.{List, [], _++_};
@@ -18,7 +19,8 @@ ghost use Rattle.routing.specs.Figures.{side};
 ghost use Rattle.desk_calls.specs.Connections.{numberOf, octetsOf, numbersIn};
 ghost use Rattle.desk_calls.specs.Steps.{Left, Goes};
 ghost use Rattle.sheets.specs.Reading.{firstRefused, limitIn, figuresIn, opens, ofEntries, ofMessage};
-ghost use Rattle.sheet_reader.specs.Steps.{firstOf, Octets, isSheet, Taken, sheetBy, Tells};
+ghost use Rattle.sheet_reader.specs.Calls.{sheetRead, told};
+ghost use Rattle.sheet_reader.specs.Steps.{firstOf, isSheet, Taken, sheetBy, Tells};
 
 // 1 SETUP; a refusal; or a desk: its figures, and how many numbers its path has.
 pub enum Sheet {
@@ -142,9 +144,9 @@ fn list_end(octets: &[u8]) -> usize
 }
 
 // A number of an identifier, and where the next one begins.
-pub struct Step {
-    pub number: u64,
-    pub next: usize,
+struct Step {
+    number: u64,
+    next: usize,
 }
 
 fn next_number(octets: &[u8], p: usize, end: usize) -> Step
@@ -326,7 +328,7 @@ fn of_entries(
 
 // A message: the tree's refusals, with the largest table, and then its entries.
 fn of_message(m: &[u8], table: &mut [[u64; 50]], path: &mut [u64], crosspoints: &mut [u8]) -> Sheet
-    requires { ⌜ (length (now m) ≤ 16384) × Octets (now m) ⌝ }
+    requires { ⌜ length (now m) ≤ 16384 ⌝ }
     requires { ⌜ (length (now table) ≡ 256) × ((length (now path) ≡ 16) × (length (now crosspoints) ≡ 4096)) ⌝ }
     ensures { λ r. ⌜ Tells (ofMessage side (now (m .entry))) (now (path .entry)) (now (crosspoints .entry)) r (now (path .exit)) (now (crosspoints .exit)) ⌝ }
 {
@@ -335,5 +337,48 @@ fn of_message(m: &[u8], table: &mut [[u64; 50]], path: &mut [u64], crosspoints: 
         Answer::Refused { number, place: _ } => Sheet::Refused { number },
         Answer::Room { count: _ } => Sheet::Refused { number: 38 },
         Answer::Read { root, count } => of_entries(table, count, root, m, path, crosspoints),
+    }
+}
+
+// A message of n bytes is a part of the store.
+fn front(store: &[u8], n: usize) -> usize
+    ensures { λ r. ⌜ take r (now (store .entry)) ≡ take n (now (store .entry)) ⌝ }
+    ensures { λ r. ⌜ r ≤ length (now (store .entry)) ⌝ }
+{
+    if n < store.len() {
+        return n;
+    }
+    store.len()
+}
+
+// Reads a route sheet: a desk, with its path in the first `length` words of `path` and its crosspoints in `crosspoints`; or the first refusal, with both as
+// they were. `Setup`, with everything as it was, for a store of other than 17,408 bytes, a table of other than 256 rows, a path of other than 16 words or
+// crosspoints of other than 4,096 cells. After any other answer what store and table hold is free.
+pub fn read(
+    text: &[u8],
+    store: &mut [u8],
+    table: &mut [[u64; 50]],
+    path: &mut [u64],
+    crosspoints: &mut [u8],
+) -> Sheet
+    ensures { λ r. ⌜ sheetRead side (now (text .entry)) (now (store .entry)) (now (table .entry)) (now (path .entry)) (now (crosspoints .entry))
+        ≡ told r (now (store .exit)) (now (table .exit)) (now (path .exit)) (now (crosspoints .exit)) ⌝ }
+{
+    if table.len() != 256 {
+        return Sheet::Setup;
+    }
+    if path.len() != 16 {
+        return Sheet::Setup;
+    }
+    if crosspoints.len() != 4096 {
+        return Sheet::Setup;
+    }
+    match sheet_stream::find_message(text, store) {
+        Found::Setup => Sheet::Setup,
+        Found::Refused { number } => Sheet::Refused { number },
+        Found::Message { length } => {
+            let n = front(store, length);
+            of_message(&store[..n], table, path, crosspoints)
+        }
     }
 }
