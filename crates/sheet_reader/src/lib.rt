@@ -211,12 +211,12 @@ fn path_of(s: &[u8], v: Cell, list: &mut [u64]) -> usize
 fn first_refused(answers: &[u64]) -> u64
     ensures { λ r. ⌜ firstRefused (now (answers .entry)) ≡ r ⌝ }
 {
-    let mut i: usize = 0;
-    while i < answers.len() {
-        if answers[i] != 0 {
-            return answers[i];
+    let mut j: usize = 0;
+    while j < answers.len() {
+        if answers[j] != 0 {
+            return answers[j];
         }
-        i += 1;
+        j += 1;
     }
     0
 }

@@ -9,10 +9,10 @@ use Rattle.sheet_reader.proofs.first_refused.Statement.{statement}
 use Rattle.sheet_reader.proofs.first_refused.Tie as tie
 
 abbrev Inv-loop : tie.InvT-loop
-Inv-loop answers i₀ i = firstRefused answers ≡ firstRefused (drop i answers)
+Inv-loop answers j₀ j = firstRefused answers ≡ firstRefused (drop j answers)
 
 abbrev μ-loop : tie.MeasureT-loop
-μ-loop answers i₀ i = length answers - i
+μ-loop answers j₀ j = length answers - j
 
 loop-holds : tie.Need-loop-holds Inv-loop μ-loop
 loop-holds c = refl
@@ -36,8 +36,8 @@ returns c =
     let the-if1 = c .before .if1 in
     the-loop .inv ∙ refused-one _ _ (the-loop-test .taken) (the-if1 .taken)
 
-add-i : tie.Need-add-i Inv-loop μ-loop
-add-i c = omega arith
+add-j : tie.Need-add-j Inv-loop μ-loop
+add-j c = omega arith
 
 loop-less : tie.Need-loop-less Inv-loop μ-loop
 loop-less c = omega arith
@@ -67,7 +67,7 @@ first-refused-spec =
     mul-result
     shared-slice-read-result
     returns
-    add-i
+    add-j
     loop-less
     loop-again
     returns-2)
