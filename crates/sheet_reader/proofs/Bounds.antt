@@ -1,17 +1,16 @@
 -- A message that the lines hold has at most 16,384 bytes; what lies in a slice of bytes is octets.
 use Prim.Native.Nat.{ℕ, suc, _≤_, _<_}
-use mathlib.Core.Path.{_≡_, sym, ap, subst, _∙_}
+use mathlib.Core.Path.{_≡_, sym, subst}
 use mathlib.Core.List.{List, [], _∷_}
 use native.Mathlib.Omega.{arith}
 use borrow.Author.Tests.{eqb-true}
 use lib.Dec.{leb, eqb}
 use lib.ListN.{length, getD}
-use Rattle.integers.specs.Digits.{pick}
 use Rattle.integers.proofs.Radix.{Below}
 use Rattle.framing.specs.Numbers.{messageLimit}
-use Rattle.framing.specs.Rules.{Message, State, Step, begin, step, happens, after}
+use Rattle.framing.specs.Rules.{Message, State, begin, step}
 use Rattle.framing.specs.Session.{held}
-use Rattle.framing.proofs.Laws.{pick-by, Bounded, Within, bounded-begin, bounded-next, within-step}
+use Rattle.framing.proofs.Laws.{pick-by, Bounded, bounded-begin, bounded-next, within-step}
 use Rattle.sheets.specs.Lines.{Stream, bad, stream, linesIn}
 use Rattle.sheets.specs.Reading.{Held, refusal, message, somethingOpen, heldIn}
 use Rattle.sheet_stream.specs.Steps.{another, collects}

@@ -1,25 +1,22 @@
 -- What the rows say: limits, figures, and which entries they are.
 use Prim.Native.Nat.{ℕ, suc, _+_, _≤_, _<_}
-use mathlib.Core.Path.{_≡_, refl, sym, ap, subst, _∙_}
+use mathlib.Core.Path.{_≡_, refl, sym, ap, _∙_}
 use mathlib.Core.List.{List, [], _∷_}
 use mathlib.Core.Bool.{Bool, true, false, true≢false}
 use native.Mathlib.Omega.{arith}
 use borrow.Author.Tests.{eq-eqb, ne-eqb, eqb-true, lt-ltb}
 use lib.ListN.{length, take, drop, getD, drop-of-length-le}
 use lib.Seq.{drop-cons}
-use lib.Dec.{leb, ltb, eqb}
+use lib.Dec.{leb, eqb}
 use Rattle.integers.specs.Digits.{pick}
 use Rattle.entries.specs.Entry.{Rows}
 use Rattle.entries.specs.declared.Cell.{Cell}
-use Rattle.entries.specs.Cell.{cell}
-use Rattle.forest.specs.Content.{Content, nothing, word, bytes, wrong, Item, contentOf, contentsOf, itemsOf, isPart, isWord}
+use Rattle.forest.specs.Content.{nothing, bytes, wrong, Item, contentOf, contentsOf, itemsOf, isPart, isWord}
 use Rattle.forest.specs.Rows.{cellAt, cellsFrom, entriesOf, itemsIn}
 use Rattle.routing.specs.declared.Limit.{Limit}
 use Rattle.routing.specs.declared.Limit.the-variants.{Absent, Most}
-use Rattle.routing.specs.declared.Figures.{Figures}
-use Rattle.routing.specs.Figures.{both}
 use Rattle.desk_calls.specs.Connections.{numberOf, memberOf, nobody}
-use Rattle.desk_calls.proofs.Items.{in-length, in-at, in-kind, cell-words}
+use Rattle.desk_calls.proofs.Items.{in-length, in-kind}
 use Rattle.sheets.specs.Reading.{limitIn, figuresIn, modeIn, allLinks}
 use Rattle.sheet_reader.specs.Steps.{firstOf, isSheet}
 

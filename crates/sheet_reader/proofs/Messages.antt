@@ -1,5 +1,5 @@
 -- From a message to its entries, as they stand in the table's first rows.
-use Prim.Native.Nat.{ℕ, _≤_, _<_}
+use Prim.Native.Nat.{ℕ, _≤_}
 use mathlib.Core.Path.{_≡_, refl, sym, ap, subst, _∙_}
 use mathlib.Core.List.{List}
 use mathlib.Core.Bool.{Bool, true, false}
@@ -15,7 +15,7 @@ use Rattle.entries.specs.Entry.{Entries, Rows, overlay}
 use Rattle.glow.specs.declared.Answer.{Answer}
 use Rattle.glow.specs.declared.Answer.the-variants as glow
 use Rattle.glow.specs.Message.{Result, result, readOf, readAt, setup, walk}
-use Rattle.forest.specs.Content.{Item, itemsOf}
+use Rattle.forest.specs.Content.{itemsOf}
 use Rattle.forest.specs.Rows.{itemsIn}
 use Rattle.glow_writer.specs.Accepted.{accepted}
 use Rattle.read_trees.proofs.Message.{is-legal}
@@ -27,7 +27,7 @@ use Rattle.sheets.specs.Reading as reading
 use Rattle.sheets.specs.Reading.{refused, ofEntries, ofAnswer, ofMessage}
 use Rattle.sheet_reader.specs.declared.Sheet.{Sheet}
 use Rattle.sheet_reader.specs.declared.Sheet.the-variants.{Setup, Refused, Read}
-use Rattle.sheet_reader.specs.Calls.{leaves, told}
+use Rattle.sheet_reader.specs.Calls.{leaves}
 use Rattle.sheet_reader.specs.Steps.{Tells}
 
 module _ (w : ℕ) (m : List ℕ) (table : Rows) (few : length m ≤ 16384) (sized : length table ≡ 256) where

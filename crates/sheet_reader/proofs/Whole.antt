@@ -1,10 +1,10 @@
 -- The whole call: what is lent, what the text holds, and the message.
 use Prim.Native.Nat.{ℕ, _*_, _≤_}
-use mathlib.Core.Path.{_≡_, refl, sym, ap, subst, _∙_}
+use mathlib.Core.Path.{_≡_, refl, sym, ap, _∙_}
 use mathlib.Core.List.{List}
 use mathlib.Core.Bool.{Bool, true, false}
 use native.Mathlib.Omega.{arith}
-use borrow.Author.Tests.{eq-eqb, ne-eqb, eqb-true}
+use borrow.Author.Tests.{eq-eqb, ne-eqb}
 use lib.Dec.{eqb}
 use lib.ListN.{length, take}
 use Rattle.integers.specs.Digits.{pick}
@@ -12,13 +12,12 @@ use Rattle.entries.specs.Entry.{Rows}
 use Rattle.framing.specs.Numbers.{storeLength}
 use Rattle.routing.specs.Figures.{both}
 use Rattle.sheets.specs.Lines.{linesIn}
-use Rattle.sheets.specs.Reading as reading
 use Rattle.sheets.specs.Reading.{Held, refusal, message, heldIn, ofHeld, ofMessage, readSheet}
 use Rattle.sheet_stream.specs.declared.Found.{Found}
 use Rattle.sheet_stream.specs.declared.Found.the-variants as found
-use Rattle.sheet_stream.specs.Finding.{Outcome as Finding, setup, holds, finds, foundBy}
+use Rattle.sheet_stream.specs.Finding.{setup, holds, finds, foundBy}
 use Rattle.sheet_reader.specs.declared.Sheet.{Sheet}
-use Rattle.sheet_reader.specs.declared.Sheet.the-variants.{Setup, Refused, Read}
+use Rattle.sheet_reader.specs.declared.Sheet.the-variants.{Setup, Refused}
 use Rattle.sheet_reader.specs.Calls.{none, kept, Outcome, outcome, leaves, isReady, sheetRead, told}
 use Rattle.sheet_reader.specs.Steps.{Tells}
 use Rattle.sheet_reader.proofs.Bounds.{held-short}

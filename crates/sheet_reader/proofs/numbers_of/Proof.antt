@@ -6,7 +6,7 @@ use Rattle.desk_calls.specs.Connections.{numbersIn}
 use lib.ListN.{length, take, length-set}
 use Prim.Native.Nat.{ℕ, _-_, _≤_}
 use mathlib.Core.List.{List, _++_}
-use mathlib.Core.Path.{_≡_, refl, sym, ap, _∙_}
+use mathlib.Core.Path.{_≡_, refl, _∙_}
 use native.Mathlib.Omega.{arith}
 use Rattle.sheet_reader.proofs.numbers_of.Statement.{statement}
 use Rattle.sheet_reader.proofs.numbers_of.Tie as tie
