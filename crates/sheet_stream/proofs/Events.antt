@@ -1,6 +1,6 @@
 -- What the bytes hold, taken one by one, is what the events of all of them say.
-use Prim.Native.Nat.{ℕ, _+_, _≤_}
-use mathlib.Core.Path.{_≡_, refl, sym, ap, subst, _∙_}
+use Prim.Native.Nat.{ℕ, _+_}
+use mathlib.Core.Path.{_≡_, refl, sym, ap, _∙_}
 use mathlib.Core.List.{List, [], _∷_}
 use mathlib.Core.Bool.{Bool, true, false}
 use native.Mathlib.Omega.{arith}
@@ -25,13 +25,13 @@ module _ (e : Said) (n : ℕ) (hs : List Happening) where
   unfolding firstFault
   fault-later h = pick-by (λ (xs : List Happening). firstFault xs ≡ firstFault hs) (eqb (e .number) 0) (λ q. refl) (λ q. rw h refl)
 
-  finished-here : eqb (e .number) 3 ≡ true → finished (noted e n hs) ≡ e .message ∷ finished hs
+  pub finished-here : eqb (e .number) 3 ≡ true → finished (noted e n hs) ≡ e .message ∷ finished hs
   unfolding finished
   finished-here h =
       let k = eqb-true (e .number) 3 h in
       rw (ne-eqb (e .number) 0 (λ q. omega (arith, k, q)), h) refl
 
-  finished-later : eqb (e .number) 3 ≡ false → finished (noted e n hs) ≡ finished hs
+  pub finished-later : eqb (e .number) 3 ≡ false → finished (noted e n hs) ≡ finished hs
   unfolding finished
   finished-later h = pick-by (λ (xs : List Happening). finished xs ≡ finished hs) (eqb (e .number) 0) (λ q. refl) (λ q. rw h refl)
 

@@ -2,3 +2,5 @@ pub mod Lines
 pub mod Events
 pub mod Ways
 pub mod Steps
+pub mod Messages
+pub mod Answers

@@ -1,5 +1,5 @@
 -- Laws for the functions: one byte offered to the session is one step of the rules, and leaves what the bytes give.
-use Prim.Native.Nat.{ℕ, _+_, _≤_, _<_, min}
+use Prim.Native.Nat.{ℕ, _≤_, _<_}
 use mathlib.Core.Path.{_≡_, refl, sym, ap, subst, _∙_}
 use mathlib.Core.List.{List, [], _∷_}
 use mathlib.Core.Bool.{Bool, true, false, true≢false}
@@ -10,8 +10,7 @@ use types.Run.{OneOf}
 use denote.Enum.Declared.{tagOf}
 use lib.ListN.{length, take, length-take}
 use lib.Seq.{sets}
-use lib.Dec.{leb, eqb}
-use Rattle.integers.specs.Digits as int
+use lib.Dec.{eqb}
 use Rattle.framing.proofs.Event as event
 use Rattle.framing.specs.declared.Event.{Event}
 use Rattle.framing.specs.declared.Event.the-variants as ev
@@ -22,20 +21,20 @@ use Rattle.framing.specs.declared.Pending.{Pending}
 use Rattle.framing.specs.declared.Pending.the-variants.{Nothing, Part}
 use Rattle.framing.specs.declared.Session.{Session}
 use Rattle.framing.specs.Numbers.{storeLength, messageLimit, contentStart, pick}
-use Rattle.framing.specs.Rules.{Message, none, part, isOpen, State, Step, begin, step, happens, after}
+use Rattle.framing.specs.Rules.{Message, none, part, isOpen, Step, begin, step, happens, after}
 use Rattle.framing.specs.Session.{saidBy, placeOf, messageOf, stateOf, sessionOf, legal, Legal, content, held, kept, Whole, whole, answers, run, feeds}
 use Rattle.framing.proofs.Lists.{take-sets-le}
-use Rattle.framing.proofs.Laws.{legal-true, true-legal, bounded-state, Within, within-step, kept-state, legal-next, number-high}
+use Rattle.framing.proofs.Laws.{legal-true, true-legal, Bounded, bounded-state, Within, within-step, kept-state, legal-next, number-high}
 use Rattle.sheets.specs.Lines.{Stream, linesIn}
-use Rattle.sheets.specs.Reading.{Held, refusal, message, inFrame, somethingOpen, ofEvents, heldIn}
+use Rattle.sheets.specs.Reading.{refusal, message, inFrame, somethingOpen, ofEvents, heldIn}
 use Rattle.sheets.specs.Steps.{isBad}
 use Rattle.sheet_stream.specs.declared.Tally.{Tally}
-use Rattle.sheet_stream.specs.Finding.{Outcome, setup, holds, finds}
+use Rattle.sheet_stream.specs.Finding.{setup, holds, finds}
 use Rattle.sheet_stream.specs.Steps.{frameOpen, partOpen, openIn, bytesFrom, another, collects, left, Sound, Taken}
 use Rattle.framing.proofs.Chunks.{fresh-legal}
 use Rattle.sheet_stream.proofs.Lines.{lines-bytes, lines-bad}
 use Rattle.sheet_stream.proofs.Events.{collects-all}
-use Rattle.sheet_stream.proofs.Ways.{Way, high, done, opens, stays, way, loose-open, collects-any}
+use Rattle.sheet_stream.proofs.Ways.{Way, high, done, opens, stays, way, said-short, loose-open, collects-any}
 
 -- an event's number does not depend on the store
 said-any : (e : Event) (t : List ℕ) → saidBy e [] .number ≡ saidBy e t .number
@@ -70,8 +69,11 @@ module _ (r : Tally) (t : List ℕ) (b : ℕ) (l : Sound r t) (z : r .refused �
   lawful : Legal (r .session) t
   lawful = legal-true (r .session) t (l .legal)
 
+  bounded : Bounded (stateOf (r .session) t)
+  bounded = bounded-state (r .session) t (lawful .room) (lawful .frame) (lawful .message)
+
   within : Within o
-  within = within-step (stateOf (r .session) t) b (bounded-state (r .session) t (lawful .room) (lawful .frame) (lawful .message))
+  within = within-step (stateOf (r .session) t) b bounded
 
   one-run : run (b ∷ []) (stateOf (r .session) t) t 0 ≡ answers f t′
   unfolding feeds
@@ -161,23 +163,13 @@ module _ (r : Tally) (t : List ℕ) (b : ℕ) (l : Sound r t) (z : r .refused �
         sound = record { legal = lawful-next; short = l .short };
       }
 
-  -- a finished message is short
-  said-short : n ≡ 3 → length (o .said .message) ≤ messageLimit
-  said-short i = go (way (stateOf (r .session) t) b)
-    where
-      go : Way (stateOf (r .session) t .message) o → length (o .said .message) ≤ messageLimit
-      go (high k) = absurd (omega (arith, i, k))
-      go (done k j) = subst (λ (x : Message). length (held x (o .said .message)) ≤ messageLimit) j (within .message)
-      go (opens k j) = absurd (omega (arith, i, k))
-      go (stays k j) = subst (λ (x : List ℕ). length x ≤ messageLimit) (sym j) (omega arith)
-
   pub taken-message : (k : ℕ) (d : Bool) → f .event ≡ ev.Message k d → (x : ℕ) → another (r .messages) ≡ x
       → Taken r t b (record { session = f .session; messages = x; length = k; refused = 0 }) t′
   unfolding left collects
   taken-message k d q x c =
       let i : 3 ≡ n = ap (λ (x : Event). saidBy x [] .number) (sym q) ∙ number-is in
       let j : take k t′ ≡ o .said .message = ap (λ (x : Event). saidBy x t′ .message) (sym q) ∙ told .1 .0 (sym i) in
-      let s : length (take k t′) ≤ messageLimit = subst (λ (x : List ℕ). length x ≤ messageLimit) (sym j) (said-short (sym i)) in
+      let s : length (take k t′) ≤ messageLimit = subst (λ (x : List ℕ). length x ≤ messageLimit) (sym j) (said-short (stateOf (r .session) t) b bounded (sym i)) in
       let a = length-take k t′ in
       let room = legal-true (f .session) t′ lawful-next .room in
       record {

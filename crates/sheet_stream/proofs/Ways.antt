@@ -1,6 +1,6 @@
 -- What a byte does to the unfinished message. So a finished message stays in the store until a piece comes; and a piece leaves a message open until another
 -- is finished or a fault throws it away.
-use Prim.Native.Nat.{ℕ, _+_, _-_, _≤_, _<_}
+use Prim.Native.Nat.{ℕ, _+_, _≤_}
 use mathlib.Core.Path.{_≡_, refl, sym, ap, subst, _∙_}
 use mathlib.Core.List.{List, [], _∷_, _++_}
 use mathlib.Core.Bool.{Bool, true, false, true≢false}
@@ -18,8 +18,9 @@ use Rattle.framing.specs.Content.{contentOf, payload}
 use Rattle.framing.specs.Numbers.{BOF, EOF, CE, contentLimit, messageLimit, number}
 use Rattle.framing.specs.Rules.{Place, outside, stray, inside, escaped, badByte, tooLong, Message, none, part, isOpen, State, Step}
 use Rattle.framing.specs.Rules.{makes, refuses, adds, joins, pieces, reads, ends, faulted, cuts, inPlace, step}
-use Rattle.framing.proofs.Laws.{pick-by, number-high}
-use Rattle.sheets.specs.Reading.{Held, refusal, message, inFrame, somethingOpen}
+use Rattle.framing.specs.Session.{held}
+use Rattle.framing.proofs.Laws.{pick-by, number-high, Bounded, within-step}
+use Rattle.sheets.specs.Reading.{refusal, message, inFrame, somethingOpen}
 use Rattle.sheet_stream.specs.Steps.{another, collects}
 
 -- an event from 10 up; a message finished; one left open; or all as it was, m
@@ -88,6 +89,16 @@ w-place (tooLong xs) m b = w-faulted m Long (tooLong xs) b
 pub way : (s : State) (b : ℕ) → Way (s .message) (step s b)
 unfolding step
 way s b = w-place (s .place) (s .message) b
+
+-- a finished message is short
+pub said-short : (s : State) (b : ℕ) → Bounded s → step s b .said .number ≡ 3 → length (step s b .said .message) ≤ messageLimit
+said-short s b h i = go (way s b)
+  where
+    go : Way (s .message) (step s b) → length (step s b .said .message) ≤ messageLimit
+    go (high k) = absurd (omega (arith, i, k))
+    go (done k j) = subst (λ (x : Message). length (held x (step s b .said .message)) ≤ messageLimit) j (within-step s b h .message)
+    go (opens k j) = absurd (omega (arith, i, k))
+    go (stays k j) = subst (λ (x : List ℕ). length x ≤ messageLimit) (sym j) (omega arith)
 
 -- ---- where the last message finished is not the answer, it may be any
 

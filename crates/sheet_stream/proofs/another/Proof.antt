@@ -1,9 +1,6 @@
 use borrow.Author.Tests.{eq-eqb, ne-eqb}
-use borrow.Author.Needs.{needs}
 use Rattle.sheet_stream.proofs.another.Statement.{statement}
 use Rattle.sheet_stream.proofs.another.Tie as tie
-use Rattle.sheet_stream.proofs.another.Reads as reads
-use Rattle.sheet_stream.proofs.another.Lts as lts
 
 -- src/lib.rt:67:1
 returns : tie.Need-returns

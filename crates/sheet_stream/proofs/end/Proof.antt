@@ -4,9 +4,6 @@ use mathlib.Core.Path.{ap, _∙_}
 use borrow.Author.Needs.{needs}
 use Rattle.sheet_stream.proofs.end.Statement.{statement}
 use Rattle.sheet_stream.proofs.end.Tie as tie
-use Rattle.sheet_stream.proofs.end.Reads as reads
-use Rattle.sheet_stream.proofs.end.Lts as lts
-use Rattle.sheet_stream.proofs.is_open.Reads as is-open-reads
 
 -- src/lib.rt:146:9
 returns : tie.Need-returns

@@ -1,14 +1,9 @@
 use Rattle.sheet_stream.proofs.Steps.{finds-setup, finds-bad, finds-lines}
 use Rattle.sheet_stream.specs.Finding.{holds}
-use mathlib.Core.Path.{sym, ap, _∙_}
+use mathlib.Core.Path.{ap, _∙_}
 use borrow.Author.Needs.{needs}
 use Rattle.sheet_stream.proofs.find_message.Statement.{statement}
 use Rattle.sheet_stream.proofs.find_message.Tie as tie
-use Rattle.sheet_stream.proofs.find_message.Reads as reads
-use Rattle.sheet_stream.proofs.find_message.Lts as lts
-use Rattle.sheet_stream.proofs.end.Reads as end-reads
-use Rattle.sheet_stream.proofs.take_text.Reads as take-text-reads
-use Rattle.sheets.proofs.has_bad_line.Reads as has-bad-line-reads
 
 -- src/lib.rt:166:9
 returns : tie.Need-returns

@@ -3,11 +3,6 @@ use native.Mathlib.Omega.{arith}
 use borrow.Author.Needs.{needs}
 use Rattle.sheet_stream.proofs.take_byte.Statement.{statement}
 use Rattle.sheet_stream.proofs.take_byte.Tie as tie
-use Rattle.sheet_stream.proofs.take_byte.Reads as reads
-use Rattle.sheet_stream.proofs.take_byte.Lts as lts
-use Rattle.events.proofs.number.Reads as number-reads
-use Rattle.framing.proofs.feed.Reads as feed-reads
-use Rattle.sheet_stream.proofs.another.Reads as another-reads
 
 -- src/lib.rt:80:44
 slice-aggregate-feed : tie.Need-slice-aggregate-feed
@@ -32,7 +27,7 @@ returns c =
     let the-feed = c .before .before .before .before .before .feed in
     let the-number = c .before .number in
     let the-if1 = c .if1 in
-    taken-high (the-Start .args .tally) _ _ (search needs) (search needs) (the-feed .result) _ (the-feed .ensures) _ (the-number .ensures) (the-if1 .taken)
+    taken-high (the-Start .args .tally) _ _ (search needs) (search needs) (the-feed .result) _ (the-feed .ensures) _ (the-number .ensures) (omega arith)
 
 -- src/lib.rt:92:26
 enum-known-event : tie.Need-enum-known-event

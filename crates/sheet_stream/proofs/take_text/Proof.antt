@@ -1,21 +1,15 @@
 use borrow.Author.Needs.{needs}
-use Rattle.sheet_stream.proofs.Steps.{sound-start, left-start, left-refused, left-none}
+use Rattle.sheet_stream.proofs.Steps.{sound-start, left-start, left-none}
 use Rattle.sheet_stream.proofs.Lines.{digit-small, bytes-over, bytes-first, bytes-pair, bytes-end}
 use Rattle.sheet_stream.specs.Steps.{bytesFrom, left, Sound}
 use Rattle.sheets.specs.Reading.{ofEvents}
 use Rattle.framing.specs.Rules.{begin, happens, after}
 use lib.ListN.{length, drop}
 use native.Mathlib.Omega.{arith}
-use mathlib.Core.List.{List, []}
-use mathlib.Core.Path.{_≡_, refl, sym, ap, subst, _∙_}
-use Prim.Native.Nat.{_≤_, _+_, _-_}
+use mathlib.Core.Path.{_≡_, refl, ap, subst, _∙_}
+use Prim.Native.Nat.{_≤_, _-_}
 use Rattle.sheet_stream.proofs.take_text.Statement.{statement}
 use Rattle.sheet_stream.proofs.take_text.Tie as tie
-use Rattle.sheet_stream.proofs.take_text.Reads as reads
-use Rattle.sheet_stream.proofs.take_text.Lts as lts
-use Rattle.framing.proofs.start.Reads as start-reads
-use Rattle.sheet_stream.proofs.take_byte.Reads as take-byte-reads
-use Rattle.sheets.proofs.digit.Reads as digit-reads
 
 abbrev Inv-loop : tie.InvT-loop
 Inv-loop text store₀ tally₀ first₀ i₀ store tally first i = (i ≤ length text) × ((first ≤ 16) × ((length store ≡ length store₀) × (Sound tally store × ((tally .refused ≡ 0) × (ofEvents (happens begin 0 (bytesFrom 16 text)) (after begin (bytesFrom 16 text)) ≡ left tally store (bytesFrom first (drop i text)))))))
