@@ -15,12 +15,12 @@ use Rattle.sheets.specs.Lines.{linesIn}
 use Rattle.sheets.specs.Reading.{Held, refusal, message, heldIn, ofHeld, ofMessage, readSheet}
 use Rattle.sheet_stream.specs.declared.Found.{Found}
 use Rattle.sheet_stream.specs.declared.Found.the-variants as found
+use Rattle.sheet_stream.proofs.Messages.{held-short}
 use Rattle.sheet_stream.specs.Finding.{setup, holds, finds, foundBy}
 use Rattle.sheet_reader.specs.declared.Sheet.{Sheet}
 use Rattle.sheet_reader.specs.declared.Sheet.the-variants.{Setup, Refused}
 use Rattle.sheet_reader.specs.Calls.{none, kept, Outcome, outcome, leaves, isReady, sheetRead, told}
 use Rattle.sheet_reader.specs.Steps.{Tells}
-use Rattle.sheet_reader.proofs.Bounds.{held-short}
 
 both-no : (a b : Bool) → b ≡ false → both a b ≡ false
 both-no true b h = h
