@@ -12,6 +12,7 @@
 //
 // An event's line is its number, for 3 the tree's number too, and after tree number 0 the desk's answers with commas between, `-` for none.
 mod figures;
+mod route;
 mod show;
 mod stream;
 mod words;
@@ -24,7 +25,7 @@ use requests::text;
 use requests::text::Hex;
 use routing::Figures;
 use routing::Limit;
-use words::List;
+use words::Listed;
 use words::Word;
 
 // The desk that is there, if one is: its figures, how many numbers its path has, and its stream's session.
@@ -60,12 +61,16 @@ fn refuse(desk: Desk) -> Desk {
     desk
 }
 
+fn put(to: &mut [u64], at: usize, n: u64) {
+    if at < to.len() {
+        to[at] = n;
+    }
+}
+
 fn copy(to: &mut [u64], from: &[u64]) {
     let mut i: usize = 0;
     while i < from.len() {
-        if i < to.len() {
-            to[i] = from[i];
-        }
+        put(to, i, from[i]);
         i = i + 1;
     }
 }
@@ -112,8 +117,8 @@ fn open_word(
     cells: &mut [u8],
 ) -> Desk {
     match words::list(word, list) {
-        List::Numbers(n) => open_path(f, mode, list, n, path, cells),
-        List::Bad => refuse(desk),
+        Listed::Numbers(n) => open_path(f, mode, list, n, path, cells),
+        Listed::Bad => refuse(desk),
     }
 }
 
@@ -130,7 +135,15 @@ fn open(desk: Desk, line: &[u8], list: &mut [u64], path: &mut [u64], cells: &mut
         return refuse(desk);
     }
     let f = figures::figures(numbers, given);
-    open_word(desk, f, figures::mode(numbers), &line[from..], list, path, cells)
+    open_word(
+        desk,
+        f,
+        figures::mode(numbers),
+        &line[from..],
+        list,
+        path,
+        cells,
+    )
 }
 
 // A request with the first n numbers of a list as its sources.
@@ -149,7 +162,7 @@ fn ask_words(
     list: &mut [u64],
     cells: &mut [u8],
 ) {
-    let List::Numbers(n) = words::list(sources, list) else {
+    let Listed::Numbers(n) = words::list(sources, list) else {
         print::bad_line();
         return;
     };
@@ -194,7 +207,14 @@ fn request(f: Figures, line: &[u8], list: &mut [u64], cells: &mut [u8]) {
         return;
     }
     let last = second + 1;
-    ask_target(f, &line[8..first], &line[from..second], &line[last..], list, cells);
+    ask_target(
+        f,
+        &line[8..first],
+        &line[from..second],
+        &line[last..],
+        list,
+        cells,
+    );
 }
 
 // The chunk's turns with the desk's own path.
@@ -212,7 +232,16 @@ fn offer(
         return desk;
     }
     let figures = desk.figures;
-    let session = stream::offer(desk.session, chunk, store, table, figures, &path[..n], cells, answers);
+    let session = stream::offer(
+        desk.session,
+        chunk,
+        store,
+        table,
+        figures,
+        &path[..n],
+        cells,
+        answers,
+    );
     Desk {
         there: true,
         figures,
@@ -268,6 +297,13 @@ fn look(f: Figures, line: &[u8], list: &mut [u64], cells: &mut [u8]) {
     print::bad_line();
 }
 
+// The route sheet, with the desk's own path.
+fn sheet(f: Figures, path: &[u64], n: usize, cells: &[u8]) {
+    if n <= path.len() {
+        route::sheet(f, &path[..n], cells);
+    }
+}
+
 fn answer(
     desk: Desk,
     line: &[u8],
@@ -287,6 +323,10 @@ fn answer(
     }
     if text::starts(line, b"bytes ") {
         return bytes(desk, line, work, store, table, path, cells, answers);
+    }
+    if is(line, b"sheet") {
+        sheet(desk.figures, path, desk.path, cells);
+        return desk;
     }
     look(desk.figures, line, list, cells);
     desk
@@ -312,7 +352,17 @@ fn finish(
     if line.len() < n {
         return desk;
     }
-    answer(desk, &line[..n], work, store, table, list, path, cells, answers)
+    answer(
+        desk,
+        &line[..n],
+        work,
+        store,
+        table,
+        list,
+        path,
+        cells,
+        answers,
+    )
 }
 
 fn main() {
@@ -344,6 +394,17 @@ fn main() {
         if found.ended {
             break;
         }
-        desk = finish(desk, found, line, work, store, table, list, path, cells, answers);
+        desk = finish(
+            desk,
+            found,
+            line,
+            work,
+            store,
+            table,
+            list,
+            path,
+            cells,
+            answers,
+        );
     }
 }

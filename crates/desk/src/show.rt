@@ -29,12 +29,16 @@ fn is_set(cells: &[u8], t: usize, s: usize) -> bool {
     cells[i] != 0
 }
 
-// A source, after a dot where one stands before it.
-fn source(s: usize, begun: bool) {
+// A source that is set, after a dot where one stands before it. Whether one stands there then.
+fn source(cells: &[u8], t: usize, s: usize, begun: bool) -> bool {
+    if !is_set(cells, t, s) {
+        return begun;
+    }
     if begun {
         print::dot();
     }
     print::decimal(word(s));
+    true
 }
 
 // The sources of a target, `-` for none.
@@ -42,10 +46,7 @@ fn row(cells: &[u8], t: usize, sources: usize) {
     let mut begun = false;
     let mut s: usize = 0;
     while s < sources {
-        if is_set(cells, t, s) {
-            source(s, begun);
-            begun = true;
-        }
+        begun = source(cells, t, s, begun);
         s = s + 1;
     }
     if !begun {
@@ -100,17 +101,26 @@ fn head(out: &mut [u8], a: u8, b: u8) {
     put(out, 2, b' ');
 }
 
-// The tens, or the ones, of each source's number.
+// Where source s stands in a line.
+fn place(s: usize) -> usize {
+    if s < 64 {
+        return 3 + s;
+    }
+    66
+}
+
+// The tens, or the ones, of a number.
+fn numeral(n: usize, high: bool) -> u8 {
+    if high {
+        return tens(n);
+    }
+    ones(n)
+}
+
 fn numbers(out: &mut [u8], sources: usize, high: bool) {
     let mut s: usize = 0;
     while s < sources {
-        if s < 64 {
-            if high {
-                put(out, 3 + s, tens(s));
-            } else {
-                put(out, 3 + s, ones(s));
-            }
-        }
+        put(out, place(s), numeral(s, high));
         s = s + 1;
     }
 }
@@ -125,9 +135,7 @@ fn mark(set: bool) -> u8 {
 fn marks(out: &mut [u8], cells: &[u8], t: usize, sources: usize) {
     let mut s: usize = 0;
     while s < sources {
-        if s < 64 {
-            put(out, 3 + s, mark(is_set(cells, t, s)));
-        }
+        put(out, place(s), mark(is_set(cells, t, s)));
         s = s + 1;
     }
 }

@@ -12,14 +12,19 @@ fn space() {
     print::say(b" ");
 }
 
+// An answer, after a comma where one stands before it.
+fn one(n: u64, i: usize) {
+    if 0 < i {
+        print::say(b",");
+    }
+    print::decimal(n);
+}
+
 // The desk's answers with commas between.
 fn list(answers: &[u64]) {
     let mut i: usize = 0;
     while i < answers.len() {
-        if 0 < i {
-            print::say(b",");
-        }
-        print::decimal(answers[i]);
+        one(answers[i], i);
         i = i + 1;
     }
 }
@@ -60,7 +65,11 @@ fn after(a: After, answers: &[u64]) {
             space();
             print::decimal(number(answer));
         }
-        After::Served { root: _, count: _, called: c } => {
+        After::Served {
+            root: _,
+            count: _,
+            called: c,
+        } => {
             print::say(b" 0 ");
             called(c, answers);
         }
@@ -77,15 +86,15 @@ fn report(event: Event, a: After, answers: &[u64]) {
     print::end();
 }
 
-// A call consumes no more than it is offered.
-fn least(consumed: usize, offered: usize) -> usize
-    ensures { λ r. ⌜ r ≤ offered ⌝ }
+// The place after the bytes that a call consumed of those from a place on: it consumes no more than it is offered.
+fn onward(from: usize, consumed: usize, end: usize) -> usize
+    requires { ⌜ from ≤ end ⌝ }
+    ensures { λ r. ⌜ r ≤ end ⌝ }
 {
-    if consumed < offered {
-        consumed
-    } else {
-        offered
+    if end - from < consumed {
+        return end;
     }
+    from + consumed
 }
 
 // Offers a chunk until it is consumed.
@@ -102,16 +111,25 @@ pub(crate) fn offer(
     let mut session = start;
     let mut from = 0;
     while from < chunk.len() {
-        let t = turns::turn(session, store, &chunk[from..], table, f, path, cells, answers);
+        let t = turns::turn(
+            session,
+            store,
+            &chunk[from..],
+            table,
+            f,
+            path,
+            cells,
+            answers,
+        );
         let fed = t.fed;
         let a = t.after;
         let event = fed.event;
-        let consumed = least(fed.consumed, chunk.len() - from);
+        let next = onward(from, fed.consumed, chunk.len());
         // Only 1 SETUP consumes nothing. It does not come here, and would end the chunk.
-        if consumed == 0 {
+        if next <= from {
             return session;
         }
-        from += consumed;
+        from = next;
         session = fed.session;
         report(event, a, answers);
     }

@@ -11,7 +11,7 @@ pub enum Word {
 }
 
 // How many numbers a list has, or no list.
-pub enum List {
+pub enum Listed {
     Numbers(usize),
     Bad,
 }
@@ -46,30 +46,30 @@ fn put(word: &[u8], from: usize, end: usize, list: &mut [u64], at: usize) -> boo
 }
 
 // Numbers with dots between, put into a list.
-fn numbers(word: &[u8], list: &mut [u64]) -> List {
+fn numbers(word: &[u8], list: &mut [u64]) -> Listed {
     let mut from: usize = 0;
     let mut n: usize = 0;
     while from < word.len() {
         let dot = text::find(word, from, b'.');
         if !put(word, from, dot, list, n) {
-            return List::Bad;
+            return Listed::Bad;
         }
         if usize::MAX - 1 < n {
-            return List::Bad;
+            return Listed::Bad;
         }
         n = n + 1;
         if word.len() <= dot {
-            return List::Numbers(n);
+            return Listed::Numbers(n);
         }
         from = dot + 1;
     }
-    List::Bad
+    Listed::Bad
 }
 
 // A list, `-` for no numbers.
-pub(crate) fn list(word: &[u8], list: &mut [u64]) -> List {
+pub(crate) fn list(word: &[u8], list: &mut [u64]) -> Listed {
     if is_dash(word) {
-        return List::Numbers(0);
+        return Listed::Numbers(0);
     }
     numbers(word, list)
 }
