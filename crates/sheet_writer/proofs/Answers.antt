@@ -1,5 +1,5 @@
 -- What the sheet writer answers.
-use Prim.Native.Nat.{ℕ, _≤_, _<_}
+use Prim.Native.Nat.{ℕ, _≤_}
 use mathlib.Core.Path.{_≡_, refl, sym, ap, _∙_}
 use mathlib.Core.List.{List, [], _∷_}
 use mathlib.Core.Bool.{true, false}
@@ -8,7 +8,7 @@ use lib.ListN.{length}
 use Rattle.integers.proofs.Radix.{Below}
 use Rattle.framing_writer.specs.declared.Written.{Written}
 use Rattle.framing_writer.specs.declared.Written.the-variants as written
-use Rattle.framing_writer.specs.Written.{Outcome, outcome, into, inPackets}
+use Rattle.framing_writer.specs.Written.{outcome, into, inPackets}
 use Rattle.framing_writer.specs.Read.{Bytes}
 use Rattle.framing_writer.proofs.Laws.{limited-fits}
 use Rattle.routing.specs.declared.Figures.{Figures}

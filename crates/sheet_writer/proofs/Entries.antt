@@ -1,28 +1,27 @@
 -- The rows that are filled hold the entries of the sheet's tree.
 use Prim.Native.Nat.{ℕ, zero, suc, _+_, _-_, _*_, _/_, _%_, _≤_, _<_}
-use mathlib.Core.Path.{_≡_, refl, sym, ap, subst, _∙_}
+use mathlib.Core.Path.{_≡_, refl, sym, ap, _∙_}
 use mathlib.Core.List.{List, [], _∷_, _++_, append-assoc, append-nil}
 use mathlib.Core.Bool.{Bool, true, false}
 use native.Mathlib.Omega.{arith}
 use borrow.Author.Tests.{le-leb, leb-true, lt-ltb, ne-eqb}
 use lib.ListN.{length, take, drop, set, length-append, length-drop}
-use lib.Seq.{sets, sets-eq, length-sets, take-at, drop-at}
-use lib.Dec.{leb, ltb, eqb}
+use lib.Seq.{sets, sets-eq, take-at, drop-at}
+use lib.Dec.{leb, eqb}
 use Rattle.integers.specs.Digits.{pick, digits, countBy, Put, put, outcome}
 use Rattle.integers.specs.declared.Wrote.{Wrote}
 use Rattle.integers.specs.declared.Wrote.the-variants.{Next}
 use Rattle.integers.specs.Digits as digit
 use Rattle.integers.proofs.Radix.{count-least}
-use Rattle.tags.specs.Write.{marked, septets}
+use Rattle.tags.specs.Write.{septets}
 use Rattle.tags.proofs.Septets.{length-septets}
 use Rattle.identifiers.specs.Identifier.{oidOctets, inRange, putOid}
-use Rattle.entries.specs.declared.Cell.{Cell}
-use Rattle.entries.specs.Cell.{cell, absent, numbersCell}
+use Rattle.entries.specs.Cell.{absent, numbersCell}
 use Rattle.entries.specs.Entry.{Entry, Entries, blanks, row, Rows, overlay}
 use Rattle.framing.proofs.Lists.{sets-append}
 use Rattle.forest.specs.Content.{Content, bytes, contentOf, contentsOf, Item, item, itemsOf}
 use Rattle.forest.specs.Rows.{itemsIn}
-use Rattle.forest.specs.Trees.{Trees, none, flat, count}
+use Rattle.forest.specs.Trees.{none, flat, count}
 use Rattle.forest.specs.Written.{messageOctets, writtenReal}
 use Rattle.glow_writer.specs.Sizes.{nextOf}
 use Rattle.glow_writer.specs.Accepted.{octetsOf, writes}
@@ -33,14 +32,14 @@ use Rattle.tree_round_trip.proofs.Writing.{whole-tree, octets-tree, fits-by, wr
 use Rattle.routing.specs.declared.Limit.{Limit}
 use Rattle.routing.specs.declared.Limit.the-variants.{Absent, Most}
 use Rattle.routing.specs.declared.Figures.{Figures}
-use Rattle.routing.specs.Figures.{both, isLimit, figuresFit}
+use Rattle.routing.specs.Figures.{isLimit, figuresFit}
 use Rattle.routing.specs.Crosspoints.{Cells, rowAt}
 use Rattle.routing.proofs.Laws.{both-right, fit-targets-le, fit-sources-le}
 use Rattle.routing.proofs.Claims.{fit-kind-le}
 use Rattle.routing.proofs.Answers.{legal-fit, legal-length}
 use Rattle.routing.proofs.Under.{take-short}
 use Rattle.desk_calls.specs.Calls.{deskLegal}
-use Rattle.sheets.specs.Sheet.{Desk, desk, sourcesFrom, sourcesAt, number, identifier, list, limit, leftOut, linkMembers, matrixMembers, links, sheetTree, sheetMessage}
+use Rattle.sheets.specs.Sheet.{desk, sourcesFrom, sourcesAt, number, list, limit, leftOut, linkMembers, matrixMembers, links, sheetTree, sheetMessage}
 use Rattle.sheets.proofs.Asked.{flat-sheet, path-ok, cells-ok, path-small}
 use Rattle.sheets.proofs.Suited.{path-short, total-fits, each-fits, sheet-legal, sheet-count}
 use Rattle.sheets.proofs.Sizes.{sheet-size}

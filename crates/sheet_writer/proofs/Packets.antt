@@ -1,6 +1,6 @@
 -- How long the frames and the lines of a message are, and the answers of those who write them.
-use Prim.Native.Nat.{ℕ, zero, suc, _+_, _-_, _*_, _/_, _≤_, _<_}
-use mathlib.Core.Path.{_≡_, refl, sym, ap, subst, _∙_}
+use Prim.Native.Nat.{ℕ, zero, suc, _+_, _-_, _*_, _≤_}
+use mathlib.Core.Path.{_≡_, refl, sym, ap, _∙_}
 use mathlib.Core.List.{List, [], _∷_, _++_}
 use mathlib.Core.Bool.{Bool, true, false}
 use native.Mathlib.Omega.{arith}
@@ -9,11 +9,11 @@ use lib.ListN.{length, take, drop, length-append, take-append-drop}
 use lib.Seq.{take-at}
 use lib.Dec.{leb}
 use Rattle.framing.specs.Checksum.{checksum, octetsOf}
-use Rattle.framing.specs.Numbers.{pick, messageLimit}
+use Rattle.framing.specs.Numbers.{pick}
 use Rattle.framing_writer.specs.declared.Written.{Written}
 use Rattle.framing_writer.specs.declared.Written.the-variants.{Done, Out}
-use Rattle.framing_writer.specs.Written.{escape, escapes, sealed, frame, flags, header, packetBody, packet, packets, payloadLimit, earlier, inPackets}
-use Rattle.framing_writer.specs.Written.{Outcome, outcome, into, limited, messageInto}
+use Rattle.framing_writer.specs.Written.{escape, escapes, sealed, frame, packetBody, packet, packets, payloadLimit, earlier, inPackets}
+use Rattle.framing_writer.specs.Written.{Outcome, outcome, into, messageInto}
 use Rattle.framing_writer.proofs.Laws.{limited-fits}
 use Rattle.sheets.specs.Sheet.{hexText, lineOf, packetLines, messageLines}
 

@@ -1,15 +1,13 @@
 -- The theorems of the route sheet writer, over what the code is proved to answer (`writesSheet`, specs/Calls.antt): for all figures, paths, crosspoints and outputs.
-use Prim.Native.Nat.{ℕ, _+_, _*_, _≤_, _<_}
-use mathlib.Core.Path.{_≡_, refl, sym, ap, subst, _∙_}
-use mathlib.Core.List.{List, [], _∷_, _++_}
+use Prim.Native.Nat.{ℕ, _+_, _≤_}
+use mathlib.Core.Path.{_≡_, refl, sym, ap, _∙_}
+use mathlib.Core.List.{List, _++_}
 use mathlib.Core.Bool.{Bool, true, false}
 use native.Mathlib.Omega.{arith}
-use borrow.Author.Tests.{le-leb, lt-leb, leb-true}
+use borrow.Author.Tests.{le-leb}
 use lib.ListN.{length, take, drop}
-use lib.Dec.{leb}
 use Rattle.integers.specs.Digits.{pick}
-use Rattle.framing_writer.specs.Written.{Outcome, into, inPackets}
-use Rattle.framing_writer.specs.Written as frames
+use Rattle.framing_writer.specs.Written.{Outcome, into}
 use Rattle.framing_writer.specs.declared.Written.the-variants as written
 use Rattle.framing_writer.proofs.Laws.{into-back}
 use Rattle.routing.specs.declared.Figures.{Figures}
@@ -19,7 +17,7 @@ use Rattle.desk_calls.specs.Calls.{deskLegal}
 use Rattle.sheets.specs.Sheet.{desk, sheetOf}
 use Rattle.sheets.specs.Reading.{read, readSheet}
 use Rattle.sheets.proofs.Theorems.{sheet-read}
-use Rattle.sheet_writer.specs.declared.Answer.the-variants.{Setup, Out, Done}
+use Rattle.sheet_writer.specs.declared.Answer.the-variants.{Setup, Done}
 use Rattle.sheet_writer.specs.Calls.{told, writesSheet}
 use Rattle.sheet_writer.proofs.Answers.{sheet-into, sheet-length}
 

@@ -40,7 +40,7 @@ matrixEntry f n = record {
   kind = qualifiedMatrix;
   parent = 0;
   cells = numbersCell 0 n ∷ absent ∷ absent ∷ numberCell (f .kind) ∷ absent ∷ numberCell (f .targets) ∷ numberCell (f .sources)
-    ∷ limitCell (f .total) ∷ limitCell (f .each) ∷ blanks 7;
+      ∷ limitCell (f .total) ∷ limitCell (f .each) ∷ blanks 7;
 }
 
 abbrev pub linkEntry : ℕ → Cell → Entry

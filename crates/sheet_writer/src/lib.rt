@@ -179,7 +179,13 @@ fn put_link(cells: &[u8], t: usize, rows: &mut [[u64; 50]], octets: &mut [u8], a
 }
 
 // Every target.
-fn put_links(cells: &[u8], targets: usize, rows: &mut [[u64; 50]], octets: &mut [u8], at: usize) -> usize
+fn put_links(
+    cells: &[u8],
+    targets: usize,
+    rows: &mut [[u64; 50]],
+    octets: &mut [u8],
+    at: usize,
+) -> usize
     requires { ⌜ (length (now cells) ≡ 4096) × ((targets ≤ 64) × ((length (now rows) ≡ 65) × (at ≤ 80))) ⌝ }
     ensures { λ r. ⌜ withLinks side (now (cells .entry)) 0 targets (filled (now (rows .entry)) (now (octets .entry)) at)
         ≡ filled (now (rows .exit)) (now (octets .exit)) r ⌝ }
@@ -203,7 +209,13 @@ fn end_of(w: Wrote) -> usize
 }
 
 // The entries of a sheet as rows, with the octets beside them: how many rows.
-fn put_entries(f: Figures, path: &[u64], cells: &[u8], rows: &mut [[u64; 50]], octets: &mut [u8]) -> usize
+fn put_entries(
+    f: Figures,
+    path: &[u64],
+    cells: &[u8],
+    rows: &mut [[u64; 50]],
+    octets: &mut [u8],
+) -> usize
     requires { ⌜ deskLegal side f (now path) (now cells) ≡ true ⌝ }
     requires { ⌜ (length (now rows) ≡ 65) × (length (now octets) ≡ 4176) ⌝ }
     ensures { λ r. ⌜ itemsIn (now (octets .exit)) (now (rows .exit)) r ≡ flat 0 0 (sheetTree side (desk f (now (path .entry)) (now (cells .entry)))) ⌝ }

@@ -3,38 +3,28 @@ use mathlib.Core.Path.{refl}
 use borrow.Author.Needs.{needs}
 use Rattle.sheet_writer.proofs.link_row.Statement.{statement}
 use Rattle.sheet_writer.proofs.link_row.Tie as tie
-use Rattle.sheet_writer.proofs.link_row.Reads as reads
-use Rattle.sheet_writer.proofs.link_row.Lts as lts
 
--- src/lib.rt:147:5
 array-write-row : tie.Need-array-write-row
 array-write-row c = search needs
 
--- src/lib.rt:148:5
 array-write-row-2 : tie.Need-array-write-row-2
 array-write-row-2 c = search needs
 
--- src/lib.rt:149:5
 array-write-row-3 : tie.Need-array-write-row-3
 array-write-row-3 c = search needs
 
--- src/lib.rt:150:5
 array-write-row-4 : tie.Need-array-write-row-4
 array-write-row-4 c = search needs
 
--- src/lib.rt:151:5
 array-write-row-5 : tie.Need-array-write-row-5
 array-write-row-5 c = search needs
 
--- src/lib.rt:152:5
 array-write-row-6 : tie.Need-array-write-row-6
 array-write-row-6 c = search needs
 
--- src/lib.rt:153:5
 array-write-row-7 : tie.Need-array-write-row-7
 array-write-row-7 c = search needs
 
--- src/lib.rt:143:1
 returns : tie.Need-returns
 unfolding words blanks
 returns c = refl

@@ -1,16 +1,12 @@
 use Rattle.sheet_writer.proofs.Laws.{list-none, list-some}
 use Rattle.sheet_writer.proofs.list_cell.Statement.{statement}
 use Rattle.sheet_writer.proofs.list_cell.Tie as tie
-use Rattle.sheet_writer.proofs.list_cell.Reads as reads
-use Rattle.sheet_writer.proofs.list_cell.Lts as lts
 
--- src/lib.rt:102:9
 returns : tie.Need-returns
 returns c =
     let the-if1 = c .if1 in
     list-none _ _ (the-if1 .taken)
 
--- src/lib.rt:98:1
 returns-2 : tie.Need-returns-2
 returns-2 c =
     let the-if1 = c .if1 in

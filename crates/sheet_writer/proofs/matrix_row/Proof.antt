@@ -1,82 +1,60 @@
 use Rattle.sheet_writer.proofs.Laws.{matrix-put}
 use Rattle.entries.specs.Entry.{words, blanks}
-use mathlib.Core.Path.{refl, sym}
 use borrow.Author.Needs.{needs}
 use Rattle.sheet_writer.proofs.matrix_row.Statement.{statement}
 use Rattle.sheet_writer.proofs.matrix_row.Tie as tie
-use Rattle.sheet_writer.proofs.matrix_row.Reads as reads
-use Rattle.sheet_writer.proofs.matrix_row.Lts as lts
-use Rattle.sheet_writer.proofs.limit_cell.Reads as limit-cell-reads
 
--- src/lib.rt:121:9
 limit-cell-requires : tie.Need-limit-cell-requires
 limit-cell-requires c κs = search needs
 
--- src/lib.rt:122:9
 limit-cell-requires-2 : tie.Need-limit-cell-requires-2
 limit-cell-requires-2 c κs = search needs
 
--- src/lib.rt:124:5
 array-write-row : tie.Need-array-write-row
 array-write-row c = search needs
 
--- src/lib.rt:125:5
 array-write-row-2 : tie.Need-array-write-row-2
 array-write-row-2 c = search needs
 
--- src/lib.rt:126:5
 array-write-row-3 : tie.Need-array-write-row-3
 array-write-row-3 c = search needs
 
--- src/lib.rt:127:5
 array-write-row-4 : tie.Need-array-write-row-4
 array-write-row-4 c = search needs
 
--- src/lib.rt:128:5
 array-write-row-5 : tie.Need-array-write-row-5
 array-write-row-5 c = search needs
 
--- src/lib.rt:129:5
 array-write-row-6 : tie.Need-array-write-row-6
 array-write-row-6 c = search needs
 
--- src/lib.rt:130:5
 array-write-row-7 : tie.Need-array-write-row-7
 array-write-row-7 c = search needs
 
--- src/lib.rt:131:5
 array-write-row-8 : tie.Need-array-write-row-8
 array-write-row-8 c = search needs
 
--- src/lib.rt:132:5
 array-write-row-9 : tie.Need-array-write-row-9
 array-write-row-9 c = search needs
 
--- src/lib.rt:133:5
 array-write-row-10 : tie.Need-array-write-row-10
 array-write-row-10 c = search needs
 
--- src/lib.rt:134:5
 array-write-row-11 : tie.Need-array-write-row-11
 array-write-row-11 c = search needs
 
--- src/lib.rt:135:5
 array-write-row-12 : tie.Need-array-write-row-12
 array-write-row-12 c = search needs
 
--- src/lib.rt:136:5
 array-write-row-13 : tie.Need-array-write-row-13
 array-write-row-13 c = search needs
 
--- src/lib.rt:137:5
 array-write-row-14 : tie.Need-array-write-row-14
 array-write-row-14 c = search needs
 
--- src/lib.rt:138:5
 array-write-row-15 : tie.Need-array-write-row-15
 array-write-row-15 c = search needs
 
--- src/lib.rt:116:1
 returns : tie.Need-returns
 unfolding words blanks
 returns c =

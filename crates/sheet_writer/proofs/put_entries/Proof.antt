@@ -1,44 +1,29 @@
-use mathlib.Core.Path.{_≡_, refl, sym, ap, _∙_}
+use mathlib.Core.Path.{_∙_}
 use native.Mathlib.Omega.{arith}
-use lib.ListN.{length, length-set}
+use lib.ListN.{length-set}
 use Rattle.sheet_writer.proofs.Entries.{desk-counts, path-end, entries-put}
 use borrow.Author.Needs.{needs}
 use Rattle.sheet_writer.proofs.put_entries.Statement.{statement}
 use Rattle.sheet_writer.proofs.put_entries.Tie as tie
-use Rattle.sheet_writer.proofs.put_entries.Reads as reads
-use Rattle.sheet_writer.proofs.put_entries.Lts as lts
-use Rattle.identifiers.proofs.write_oid.Reads as write-oid-reads
-use Rattle.sheet_writer.proofs.end_of.Reads as end-of-reads
-use Rattle.sheet_writer.proofs.index.Reads as index-reads
-use Rattle.sheet_writer.proofs.matrix_row.Reads as matrix-row-reads
-use Rattle.sheet_writer.proofs.put_links.Reads as put-links-reads
-use Rattle.sheet_writer.proofs.wide.Reads as wide-reads
 
--- src/lib.rt:212:9
 index-requires : tie.Need-index-requires
 index-requires c κs = search needs
 
--- src/lib.rt:213:22
 write-oid-requires : tie.Need-write-oid-requires
 write-oid-requires c κs = search needs
 
--- src/lib.rt:213:9
 end-of-requires : tie.Need-end-of-requires
 end-of-requires c κs = search needs
 
--- src/lib.rt:214:29
 wide-requires : tie.Need-wide-requires
 wide-requires c κs = search needs
 
--- src/lib.rt:214:15
 matrix-row-requires : tie.Need-matrix-row-requires
 matrix-row-requires c κs = search needs
 
--- src/lib.rt:214:5
 slice-set-from-rows : tie.Need-slice-set-from-rows
 slice-set-from-rows c = search needs
 
--- src/lib.rt:215:5
 put-links-requires : tie.Need-put-links-requires
 put-links-requires c κs =
     let the-Start = c .before .before .before .before .before .before .before .before .before .before .before .before .before in
@@ -51,7 +36,6 @@ put-links-requires c κs =
     let e = path-end 64 _ _ _ (omega arith) ok _ (omega (arith, lens)) (the-write-oid .ensures) in
     (n .0, (omega (arith, n, the-index .ensures), (length-set (the-Start .args .rows .now) 0 (c .before .before .matrix-row .result) ∙ lens .0, omega (arith, e, the-end-of .ensures))))
 
--- src/lib.rt:216:5
 add-result : tie.Need-add-result
 add-result c =
     let the-Start = c .before .before .before .before .before .before .before .before .before .before .before .before .before .before .before .before .before in
@@ -59,17 +43,14 @@ add-result c =
     let n = desk-counts 64 _ _ _ (omega arith) (the-Start .pre .0) in
     omega (arith, n, the-index .ensures)
 
--- src/lib.rt:206:1
 same-length : tie.Need-same-length
 same-length c =
     let the-put-links = c .before .before .before .put-links in
     the-put-links .kept .1 .1 .0 ∙ length-set (c .before .before .before .before .before .before .before .before .before .before .before .before .before .before .before .before .before .args .rows .now) 0 (c .before .before .before .before .before .before .matrix-row .result)
 
--- src/lib.rt:206:1
 same-length-2 : tie.Need-same-length-2
 same-length-2 c = search needs
 
--- src/lib.rt:206:1
 returns : tie.Need-returns
 returns c =
     let the-Start = c .before .before .before .before .before .before .before .before .before .before .before .before .before .before .before .before .before in

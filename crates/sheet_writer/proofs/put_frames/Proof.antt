@@ -1,29 +1,20 @@
 use Rattle.sheet_writer.proofs.Packets.{frames-put, frames-out}
-use mathlib.Core.Path.{ap, _∙_}
 use borrow.Author.Needs.{needs}
 use Rattle.sheet_writer.proofs.put_frames.Statement.{statement}
 use Rattle.sheet_writer.proofs.put_frames.Tie as tie
-use Rattle.sheet_writer.proofs.put_frames.Reads as reads
-use Rattle.sheet_writer.proofs.put_frames.Lts as lts
-use Rattle.framing_writer.proofs.write_message.Reads as write-message-reads
 
--- src/lib.rt:238:11
 write-message-requires : tie.Need-write-message-requires
 write-message-requires c κs = search needs
 
--- src/lib.rt:239:25
 enum-known-length : tie.Need-enum-known-length
 enum-known-length c = search needs
 
--- src/lib.rt:240:25
 enum-told : tie.Need-enum-told
 enum-told c = search needs
 
--- src/lib.rt:233:1
 same-length : tie.Need-same-length
 same-length c = search needs
 
--- src/lib.rt:233:1
 returns : tie.Need-returns
 returns c =
     let the-Start = c .before .before .before .before .before .before .before .before .before in
@@ -31,11 +22,9 @@ returns c =
     let the-length = c .before .length in
     frames-put (the-Start .args .message .now) (the-Start .args .frames .now) (the-Start .pre .0) (the-Start .pre .1) _ _ (the-write-message .ensures) _ (the-length .given .1)
 
--- src/lib.rt:233:1
 same-length-2 : tie.Need-same-length-2
 same-length-2 c = search needs
 
--- src/lib.rt:233:1
 returns-2 : tie.Need-returns-2
 returns-2 c =
     let the-Start = c .before .before .before .before .before .before .before .before in

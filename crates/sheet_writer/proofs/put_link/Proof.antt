@@ -3,84 +3,60 @@ use Rattle.sheet_writer.proofs.Laws.{wrote-end, part-short, link-put}
 use borrow.Author.Needs.{needs}
 use Rattle.sheet_writer.proofs.put_link.Statement.{statement}
 use Rattle.sheet_writer.proofs.put_link.Tie as tie
-use Rattle.sheet_writer.proofs.put_link.Reads as reads
-use Rattle.sheet_writer.proofs.put_link.Lts as lts
-use Rattle.sheet_writer.proofs.link_row.Reads as link-row-reads
-use Rattle.sheet_writer.proofs.list_cell.Reads as list-cell-reads
-use Rattle.sheet_writer.proofs.put_sources.Reads as put-sources-reads
-use Rattle.sheet_writer.proofs.wide.Reads as wide-reads
 
--- src/lib.rt:174:16
 mul-from : tie.Need-mul-from
 mul-from c = search needs
 
--- src/lib.rt:175:14
 add-to : tie.Need-add-to
 add-to c = search needs
 
--- src/lib.rt:176:28
 sub-put-sources : tie.Need-sub-put-sources
 sub-put-sources c = search needs
 
--- src/lib.rt:176:28
 part-put-sources-start : tie.Need-part-put-sources-start
 part-put-sources-start c = search needs
 
--- src/lib.rt:176:28
 part-put-sources-end : tie.Need-part-put-sources-end
 part-put-sources-end c = search needs
 
--- src/lib.rt:176:9
 put-sources-requires : tie.Need-put-sources-requires
 put-sources-requires c κs = search needs
 
--- src/lib.rt:177:28
 wide-requires : tie.Need-wide-requires
 wide-requires c κs = search needs
 
--- src/lib.rt:177:47
 wide-requires-2 : tie.Need-wide-requires-2
 wide-requires-2 c κs = search needs
 
--- src/lib.rt:177:62
 sub-wide : tie.Need-sub-wide
 sub-wide c =
     let the-put-sources = c .before .before .before .before .put-sources in
     wrote-end _ _ _ (the-put-sources .ensures .0)
 
--- src/lib.rt:177:57
 wide-requires-3 : tie.Need-wide-requires-3
 wide-requires-3 c κs = search needs
 
--- src/lib.rt:177:37
 list-cell-requires : tie.Need-list-cell-requires
 list-cell-requires c κs = search needs
 
--- src/lib.rt:177:19
 link-row-requires : tie.Need-link-row-requires
 link-row-requires c κs = search needs
 
--- src/lib.rt:177:10
 add-t20 : tie.Need-add-t20
 add-t20 c = search needs
 
--- src/lib.rt:177:5
 mul-t21 : tie.Need-mul-t21
 mul-t21 c = search needs
 
--- src/lib.rt:177:5
 slice-set-from-rows : tie.Need-slice-set-from-rows
 slice-set-from-rows c = search needs
 
--- src/lib.rt:168:1
 same-length : tie.Need-same-length
 same-length c = search needs
 
--- src/lib.rt:168:1
 same-length-2 : tie.Need-same-length-2
 same-length-2 c = search needs
 
--- src/lib.rt:168:1
 returns : tie.Need-returns
 returns c =
     let the-link-row = c .link-row in

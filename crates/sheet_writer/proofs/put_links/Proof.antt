@@ -7,9 +7,6 @@ use Rattle.sheet_writer.specs.Steps.{filled, withLinks}
 use Rattle.sheet_writer.proofs.Laws.{links-begin, links-more, links-end}
 use Rattle.sheet_writer.proofs.put_links.Statement.{statement}
 use Rattle.sheet_writer.proofs.put_links.Tie as tie
-use Rattle.sheet_writer.proofs.put_links.Reads as reads
-use Rattle.sheet_writer.proofs.put_links.Lts as lts
-use Rattle.sheet_writer.proofs.put_link.Reads as put-link-reads
 
 abbrev Inv-loop : tie.InvT-loop
 Inv-loop cells targets rows₀ octets₀ at next₀ t₀ rows octets next t =
@@ -22,23 +19,18 @@ Inv-loop cells targets rows₀ octets₀ at next₀ t₀ rows octets next t =
 abbrev μ-loop : tie.MeasureT-loop
 μ-loop cells targets rows₀ octets₀ at next₀ t₀ rows octets next t = targets - t
 
--- src/lib.rt:189:5
 loop-holds : tie.Need-loop-holds Inv-loop μ-loop
 loop-holds c = (omega arith, (omega arith, (refl, (refl, links-begin _ _ _ 0 _))))
 
--- src/lib.rt:190:9
 put-link-requires : tie.Need-put-link-requires Inv-loop μ-loop
 put-link-requires c κs = omega arith
 
--- src/lib.rt:191:9
 add-t : tie.Need-add-t Inv-loop μ-loop
 add-t c = omega arith
 
--- src/lib.rt:189:5
 loop-less : tie.Need-loop-less Inv-loop μ-loop
 loop-less c = omega arith
 
--- src/lib.rt:189:5
 loop-again : tie.Need-loop-again Inv-loop μ-loop
 loop-again c =
     let l = c .before .before .before .before .before .before .before .loop in
@@ -54,15 +46,12 @@ loop-again c =
       ),
     )
 
--- src/lib.rt:182:1
 same-length : tie.Need-same-length Inv-loop μ-loop
 same-length c = c .before .loop .inv .1 .1 .0
 
--- src/lib.rt:182:1
 same-length-2 : tie.Need-same-length-2 Inv-loop μ-loop
 same-length-2 c = c .before .loop .inv .1 .1 .1 .0
 
--- src/lib.rt:182:1
 returns : tie.Need-returns Inv-loop μ-loop
 returns c = let l = c .before .loop in l .inv .1 .1 .1 .1 ∙ links-end _ _ _ _ (c .loop-test .left) _
 

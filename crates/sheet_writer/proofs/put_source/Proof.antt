@@ -3,30 +3,21 @@ use native.Mathlib.Omega.{arith}
 use borrow.Author.Needs.{needs}
 use Rattle.sheet_writer.proofs.put_source.Statement.{statement}
 use Rattle.sheet_writer.proofs.put_source.Tie as tie
-use Rattle.sheet_writer.proofs.put_source.Reads as reads
-use Rattle.sheet_writer.proofs.put_source.Lts as lts
-use Rattle.sheet_writer.proofs.emit.Reads as emit-reads
-use Rattle.sheet_writer.proofs.octet.Reads as octet-reads
 
--- src/lib.rt:69:9
 returns : tie.Need-returns
 returns c =
     let the-if1 = c .if1 in
     (source-none _ _ _ _ (the-if1 .taken), omega arith)
 
--- src/lib.rt:71:22
 octet-requires : tie.Need-octet-requires
 octet-requires c κs = search needs
 
--- src/lib.rt:71:5
 emit-requires : tie.Need-emit-requires
 emit-requires c κs = search needs
 
--- src/lib.rt:63:1
 same-length : tie.Need-same-length
 same-length c = search needs
 
--- src/lib.rt:63:1
 returns-2 : tie.Need-returns-2
 returns-2 c =
     let the-if1 = c .before .before .before .before .before .if1 in

@@ -1,4 +1,3 @@
-use borrow.Author.Needs.{needs}
 use Rattle.sheet_writer.proofs.Laws.{sources-more, sources-end}
 use Rattle.framing_writer.proofs.Laws.{wrote-none, wrote-then}
 use Rattle.framing_writer.specs.Stores.{wrote}
@@ -9,9 +8,6 @@ use mathlib.Core.Path.{_≡_, refl, _∙_}
 use Prim.Native.Nat.{_≤_, _+_, _-_}
 use Rattle.sheet_writer.proofs.put_sources.Statement.{statement}
 use Rattle.sheet_writer.proofs.put_sources.Tie as tie
-use Rattle.sheet_writer.proofs.put_sources.Reads as reads
-use Rattle.sheet_writer.proofs.put_sources.Lts as lts
-use Rattle.sheet_writer.proofs.put_source.Reads as put-source-reads
 
 abbrev Inv-loop : tie.InvT-loop
 Inv-loop cells octets₀ at next₀ s₀ octets next s =
@@ -20,27 +16,21 @@ Inv-loop cells octets₀ at next₀ s₀ octets next s =
 abbrev μ-loop : tie.MeasureT-loop
 μ-loop cells octets₀ at next₀ s₀ octets next s = length cells - s
 
--- src/lib.rt:72:5
 loop-holds : tie.Need-loop-holds Inv-loop μ-loop
 loop-holds c = (omega arith, (omega arith, (refl, refl)))
 
--- src/lib.rt:73:44
 shared-slice-read-put-source : tie.Need-shared-slice-read-put-source Inv-loop μ-loop
 shared-slice-read-put-source c = omega arith
 
--- src/lib.rt:73:9
 put-source-requires : tie.Need-put-source-requires Inv-loop μ-loop
 put-source-requires c κs = omega arith
 
--- src/lib.rt:74:9
 add-s : tie.Need-add-s Inv-loop μ-loop
 add-s c = omega arith
 
--- src/lib.rt:72:5
 loop-less : tie.Need-loop-less Inv-loop μ-loop
 loop-less c = omega arith
 
--- src/lib.rt:72:5
 loop-again : tie.Need-loop-again Inv-loop μ-loop
 loop-again c =
     let the-Start = c .before .before .before .before .before .before .before .before .before in
@@ -49,13 +39,11 @@ loop-again c =
     let the-put-source = c .before .before .put-source in
     (omega arith, (omega arith, (the-put-source .kept .0 ∙ the-loop .inv .1 .1 .0, the-loop .inv .1 .1 .1 ∙ rw (sources-more (the-Start .args .cells .now) (the-loop .s) (the-loop-test .taken)) (wrote-then _ _ _ _ (the-put-source .ensures .0)))))
 
--- src/lib.rt:65:1
 same-length : tie.Need-same-length Inv-loop μ-loop
 same-length c =
     let the-loop = c .before .loop in
     the-loop .inv .1 .1 .0
 
--- src/lib.rt:65:1
 returns : tie.Need-returns Inv-loop μ-loop
 returns c =
     let the-loop = c .before .loop in

@@ -3,24 +3,18 @@ use mathlib.Core.Path.{ap}
 use borrow.Author.Needs.{needs}
 use Rattle.sheet_writer.proofs.tell.Statement.{statement}
 use Rattle.sheet_writer.proofs.tell.Tie as tie
-use Rattle.sheet_writer.proofs.tell.Reads as reads
-use Rattle.sheet_writer.proofs.tell.Lts as lts
 
--- src/lib.rt:248:25
 enum-known-w : tie.Need-enum-known-w
 enum-known-w c = search needs
 
--- src/lib.rt:249:25
 enum-told : tie.Need-enum-told
 enum-told c = search needs
 
--- src/lib.rt:244:1
 returns : tie.Need-returns
 returns c =
     let the-w = c .before .w in
     ap said (the-w .given .1)
 
--- src/lib.rt:244:1
 returns-2 : tie.Need-returns-2
 returns-2 c = search needs
 

@@ -7,50 +7,35 @@ use Rattle.sheet_writer.proofs.Answers.{sheet-setup, sheet-put}
 use borrow.Author.Needs.{needs}
 use Rattle.sheet_writer.proofs.write.Statement.{statement}
 use Rattle.sheet_writer.proofs.write.Tie as tie
-use Rattle.sheet_writer.proofs.write.Reads as reads
-use Rattle.sheet_writer.proofs.write.Lts as lts
-use Rattle.desk_calls.proofs.is_legal.Reads as is-legal-reads
-use Rattle.sheet_writer.proofs.put_frames.Reads as put-frames-reads
-use Rattle.sheet_writer.proofs.put_message.Reads as put-message-reads
-use Rattle.sheet_writer.proofs.tell.Reads as tell-reads
-use Rattle.sheets.proofs.write_lines.Reads as write-lines-reads
 
--- src/lib.rt:257:9
 is-legal-requires : tie.Need-is-legal-requires
 is-legal-requires c κs = search needs
 
--- src/lib.rt:258:9
 returns : tie.Need-returns
 returns c =
     let the-is-legal = c .before .is-legal in
     sheet-setup 64 _ _ _ _ (the-is-legal .ensures ∙ not-true _ (c .if1 .taken))
 
--- src/lib.rt:261:47
 slice-aggregate-put-message : tie.Need-slice-aggregate-put-message
 slice-aggregate-put-message c = search needs
 
--- src/lib.rt:261:9
 put-message-requires : tie.Need-put-message-requires
 put-message-requires c κs =
     let the-is-legal = c .before .before .is-legal in
     (the-is-legal .ensures ∙ not-false _ (c .before .if1 .left), refl)
 
--- src/lib.rt:263:24
 array-share-prefix-message : tie.Need-array-share-prefix-message
 array-share-prefix-message c = search needs
 
--- src/lib.rt:263:24
 slice-aggregate-put-frames : tie.Need-slice-aggregate-put-frames
 slice-aggregate-put-frames c =
     let the-put-message = c .before .before .put-message in
     let l : length (the-put-message .last .1 .1 .1 .0) ≡ 6144 = the-put-message .kept .1 .1 .1 .0 in
     sym (length-take-le _ (the-put-message .last .1 .1 .1 .0) (omega (arith, the-put-message .ensures .1, l)))
 
--- src/lib.rt:263:39
 slice-aggregate-put-frames-2 : tie.Need-slice-aggregate-put-frames-2
 slice-aggregate-put-frames-2 c = search needs
 
--- src/lib.rt:263:9
 put-frames-requires : tie.Need-put-frames-requires
 put-frames-requires c κs =
     let the-put-message = c .before .before .before .put-message in
@@ -58,30 +43,24 @@ put-frames-requires c κs =
     let t = length-take-le (the-put-message .result) (the-put-message .last .1 .1 .1 .0) (omega (arith, the-put-message .ensures .1, l)) in
     (omega (arith, t, the-put-message .ensures .1), refl)
 
--- src/lib.rt:264:30
 array-share-prefix-frames : tie.Need-array-share-prefix-frames
 array-share-prefix-frames c = search needs
 
--- src/lib.rt:264:30
 slice-aggregate-write-lines : tie.Need-slice-aggregate-write-lines
 slice-aggregate-write-lines c =
     let the-put-frames = c .before .before .put-frames in
     let l : length (the-put-frames .last .1 .0) ≡ 16384 = the-put-frames .kept .1 .0 in
     sym (length-take-le _ (the-put-frames .last .1 .0) (omega (arith, the-put-frames .ensures .1, l)))
 
--- src/lib.rt:264:10
 write-lines-requires : tie.Need-write-lines-requires
 write-lines-requires c κs = search needs
 
--- src/lib.rt:264:5
 tell-requires : tie.Need-tell-requires
 tell-requires c κs = search needs
 
--- src/lib.rt:254:1
 same-length : tie.Need-same-length
 same-length c = search needs
 
--- src/lib.rt:254:1
 returns-2 : tie.Need-returns-2
 returns-2 c =
     let the-is-legal = c .before .before .before .before .before .before .before .before .before .before .before .before .before .before .is-legal in
