@@ -3,7 +3,7 @@
 #[cfg(glow_rows)]
 mod library;
 
-use reference::{compare, compare_rows, gen, listing, programs, store, tree_text};
+use reference::{compare, compare_rows, desk_text, gen, listing, programs, store, tree_text};
 use std::io::{Read, Write};
 use std::process::exit;
 
@@ -29,7 +29,7 @@ fn main() {
         ["tree"] => print(tree_text::trees(&input(), tree_text::WRITES).as_bytes()),
         ["tree", "--write"] => print(tree_text::trees(&input(), true).as_bytes()),
         ["rewrite"] => print(programs::trees(&input()).as_bytes()),
-        ["desk"] => print(programs::desks(&input()).as_bytes()),
+        ["desk"] => print(desk_text::desks(&input()).as_bytes()),
         ["sheet"] => print(programs::sheets(&input()).as_bytes()),
         ["generate", "tree", seed, count, "--write"] => {
             let number = |word: &str| word.parse().unwrap_or_else(|_| usage());
