@@ -261,8 +261,7 @@ mod tests {
     fn chunks_of_a_byte_and_pieces() {
         let message = hex_line(MESSAGE.as_bytes()).0;
         let (first, last) = message.split_at(9);
-        let stream =
-            [write_frame(&packet(0x80, 0x14, first)).unwrap(), write_frame(&packet(0x40, 0x00, last)).unwrap()].concat();
+        let stream = [write_frame(&packet(0x80, 0x14, first)).unwrap(), write_frame(&packet(0x40, 0x00, last)).unwrap()].concat();
         let mut script = "open 2 0 2 3 - - 01\n".to_string();
         for byte in stream {
             script += &format!("bytes {byte:02x}\n");

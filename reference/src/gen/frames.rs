@@ -212,7 +212,7 @@ pub const KINDS: [&str; 14] = [
 ];
 
 /// One piece of a stream of the given kind.
-fn part(random: &mut Random, kind: usize) -> Vec<u8> {
+pub fn part(random: &mut Random, kind: usize) -> Vec<u8> {
     match kind {
         0 => write_keep_alive(random.one_in(2)),
         1 => good_message(random),
