@@ -22,6 +22,9 @@ const SCRIPTS: usize = 100;
 /// The longest that one run of a program may take.
 const RUN_LIMIT: Duration = Duration::from_secs(20);
 
+/// A pipe holds that much, and more, before anybody reads.
+const PIPE: usize = 32_768;
+
 struct Plan {
     seed: u64,
     count: u64,
@@ -298,11 +301,17 @@ fn run(path: &Path, input: &[u8]) -> Result<Vec<u8>, String> {
         .map_err(|error| format!("cannot be started: {error}"))?;
     let mut stdin = child.stdin.take().unwrap();
     let mut stdout = child.stdout.take().unwrap();
-    let input = input.to_vec();
     // A program that stops at a bad line need not read the rest.
-    let writer = std::thread::spawn(move || {
-        let _ = stdin.write_all(&input);
-    });
+    let writer = if input.len() <= PIPE {
+        let _ = stdin.write_all(input);
+        drop(stdin);
+        None
+    } else {
+        let input = input.to_vec();
+        Some(std::thread::spawn(move || {
+            let _ = stdin.write_all(&input);
+        }))
+    };
     let (send, receive) = mpsc::channel();
     std::thread::spawn(move || {
         let mut output = Vec::new();
@@ -314,7 +323,7 @@ fn run(path: &Path, input: &[u8]) -> Result<Vec<u8>, String> {
         let _ = child.kill();
     }
     let status = child.wait().map_err(|error| error.to_string())?;
-    let _ = writer.join();
+    let _ = writer.map(|writer| writer.join());
     match output {
         Err(_) => Err(format!("no end after {} s", RUN_LIMIT.as_secs())),
         Ok(Err(error)) => Err(error.to_string()),

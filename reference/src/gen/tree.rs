@@ -752,6 +752,9 @@ pub fn listing_input(seed: u64, count: usize) -> (Vec<u8>, [usize; KINDS.len()])
         if random.one_in(10) {
             stream.push(random.byte());
         }
+        if random.one_in(6) {
+            stream.extend(frames::fault(random, 20));
+        }
     }
     let mut text = chunked(random, &stream).into_bytes();
     if random.one_in(10) {

@@ -1,14 +1,15 @@
 //! Scripts of the program `desk`: drawn ones, and the stored one.
 
-use super::{ask, asked, figures, requests, sheets, Asked};
+use super::{ask, asked, figures, requests, Asked};
 use crate::desk::{Figures, SIDE_MAX};
 use crate::desk_text::{Program, Said, LINE_MAX, LIST_MAX};
 use crate::framing::{packet, write_frame, write_keep_alive, MESSAGE_MAX, PAYLOAD_MAX};
 use crate::gen::tree::{self, rules, spell, spell_changed, Style};
-use crate::gen::{bad_hex_line, frames, mutate_bytes, Random};
+use crate::gen::{bad_hex_line, frames, mutate_bytes, rows, Random};
 use crate::lines::{digits, lines};
 use crate::tree::{Body, Entry, Key, MatrixContents, RootKind, Tree};
 use crate::tree_writer;
+use crate::values::least_real;
 use std::collections::BTreeMap;
 
 /// How often each kind of line and each number came.
@@ -331,13 +332,21 @@ impl Script {
                 let message = tree::message(&mut self.random).0;
                 self.send(&message);
             }
+            1 if self.random.one_in(30) => {
+                // Entries whose shortest message is about as long as a message may be.
+                let tree = rows::long(&mut self.random, least_real);
+                let message = tree_writer::spelt(&tree, least_real).unwrap_or_default();
+                if message.len() <= MESSAGE_MAX {
+                    self.send(&message);
+                }
+            }
             1 => {
                 let number = self.random.range(30, 37) as u8;
                 let message = rules::refused(&mut self.random, number);
                 self.send(&message);
             }
             2 => {
-                let fault = sheets::fault(&mut self.random, 40);
+                let fault = frames::fault(&mut self.random, 40);
                 self.stream.extend(fault);
             }
             3 => self.stream.extend(write_keep_alive(self.random.one_in(2))),
