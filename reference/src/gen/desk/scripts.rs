@@ -528,6 +528,7 @@ impl Script {
             }
             self.push("grid");
             self.push("sheet");
+            self.push("request 9 9 3");
         }
     }
 
@@ -801,7 +802,7 @@ mod tests {
         for number in [0, 40, 41, 42, 43, 44] {
             assert!(script.counts.contains_key(&format!("desk {number:02}")), "no desk's {number}");
         }
-        for what in ["open 00", "open 45", "request 00", "request 41", "request 42", "request 43", "request 44", "no event"] {
+        for what in ["open 00", "open 45", "request 00", "request 01", "request 41", "request 42", "request 43", "request 44", "no event"] {
             assert!(script.counts.contains_key(what), "no {what}");
         }
         for what in ["show", "grid", "sheet", "bad line"] {
