@@ -240,7 +240,7 @@ pub fn trees(input: &[u8]) -> String {
 }
 
 /// The longest input that the program `sheet` reads.
-pub const SHEET_MAX: usize = 1_048_576;
+pub const SHEET_MAX: usize = 262_144;
 
 /// Program `sheet`: the input is one route sheet. Printed: its number and, after 0, the sheet as we write it.
 pub fn sheets(input: &[u8]) -> String {
