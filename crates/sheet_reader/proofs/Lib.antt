@@ -1,0 +1,7 @@
+pub mod Members
+pub mod Numbers
+pub mod Desks
+pub mod Messages
+pub mod Bounds
+pub mod Whole
+pub mod Theorems
