@@ -168,7 +168,13 @@ fn ask_words(
     };
     match words::number(operation) {
         Word::Absent => ask(f, target, list, n, 0, cells),
-        Word::Number(o) => ask(f, target, list, n, o, cells),
+        Word::Number(o) => {
+            if 2 < o {
+                print::bad_line();
+                return;
+            }
+            ask(f, target, list, n, o, cells)
+        }
         Word::Bad => print::bad_line(),
     }
 }
