@@ -1,6 +1,6 @@
 //! The stored inputs and expected outputs of the programs and of the C examples.
 
-use crate::{gateway, gen, listing, programs, router, tree_text};
+use crate::{desk_text, gateway, gen, listing, programs, router, tree_text};
 use std::path::{Path, PathBuf};
 
 /// Every stored file, from the repository's root, with what it must hold.
@@ -15,6 +15,8 @@ fn files(writes: bool) -> Vec<(&'static str, Vec<u8>)> {
     let (offered, request, said) = router::plugin();
     let packets = gen::packets::stored();
     let stored_listing = gen::tree::stored_listing();
+    let desk = gen::desk::scripts::stored();
+    let sheet = gen::desk::sheets::stored();
     vec![
         ("crates/frames/stdout", programs::frames(&frames).into_bytes()),
         ("crates/frames/stdin", frames),
@@ -35,6 +37,10 @@ fn files(writes: bool) -> Vec<(&'static str, Vec<u8>)> {
         ("crates/packets/stdin", packets),
         ("crates/listing/stdout", listing::listing(&stored_listing).into_bytes()),
         ("crates/listing/stdin", stored_listing),
+        ("crates/desk/stdout", desk_text::desks(&desk).into_bytes()),
+        ("crates/desk/stdin", desk),
+        ("crates/sheet/stdout", programs::sheets(&sheet).into_bytes()),
+        ("crates/sheet/stdin", sheet),
     ]
 }
 

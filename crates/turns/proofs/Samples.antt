@@ -1,5 +1,7 @@
 -- P1 to P12, one statement, by computation.
 use mathlib.Core.Path.{refl}
+use mathlib.Core.List.{List}
+use Prim.Native.Nat.{ℕ}
 use Rattle.integers.specs.Digits.{horner, digits}
 use Rattle.integers.specs.Integer.{signed, nineFree, twos, integer, integerAt, sizeBy, octets, shortest}
 use Rattle.framing.specs.Checksum.{table, crcStep, crcFrom, checksum}
@@ -11,16 +13,14 @@ use Rattle.identifiers.specs.Identifier.{arcIs, arcFrom, arcAt, arcsFrom}
 use Rattle.values.specs.Value.{boolean, boolAt, isListed, kindAt, contentAt}
 use Rattle.containers.specs.Ends.{zeroAt, closingAt, standingAt, deep, enterAt, firstAt, lastAt, isTag}
 use Rattle.containers.specs.Passing.{skipped, crossAt, throughBy, passedAt}
-use Rattle.entries.specs.Entry.{blanks, withCell, putCell}
+use Rattle.entries.specs.Entry.{blanks, withCell, putCell, words, overlay}
 use Rattle.grammar.specs.Grammar.{members, ruleOf, requirements, required, isSet, contentsRows, contentsOf, applications, holds, kindAmong, kindIn}
 use Rattle.grammar.specs.Grammar.{innerClass, innerNumber, collectionOf, rootOf}
 use Rattle.grammar.specs.Leaf.{expects, least, most, inRange, isLetter, noSlash, isName, allPositive, isPath, numberLeaf, textLeaf, numbersAt, leafAt}
 use Rattle.glow.specs.Members.{marked, mark, due, inOrder, again, afterListed, afterOther, column}
 use Rattle.glow.specs.Members.{plainAt, innerAt, listedAt, ruledAt, memberAt, kindOf, itemAt}
 use Rattle.glow.specs.Tree.{closed, membersBy, itemsBy}
-use Rattle.glow.specs.Message.{rootKind, topAt, finished, walk, setup}
-use Rattle.forest.specs.Content.{contentOf, contentsOf as contentsIn, itemsOf}
-use Rattle.turns.specs.Rules.{treeOf}
+use Rattle.glow.specs.Message.{rootKind, topAt, finished, walk, setup, readAt}
 use Rattle.turns.specs.Samples.{All, p1-to-p12}
 
 pub samples : All p1-to-p12
@@ -29,9 +29,9 @@ unfolding horner digits signed nineFree twos integer integerAt sizeBy octets sho
     headAt tagNumber longNumber stop cut lengthAt sized boolean boolAt isListed kindAt contentAt
     arcIs arcFrom arcAt arcsFrom zeroAt closingAt standingAt deep enterAt firstAt lastAt isTag skipped crossAt throughBy passedAt
     members ruleOf requirements required isSet contentsRows contentsOf applications holds kindAmong kindIn innerClass innerNumber collectionOf rootOf
-    expects least most inRange isLetter noSlash isName allPositive isPath numberLeaf textLeaf numbersAt leafAt blanks withCell putCell
+    expects least most inRange isLetter noSlash isName allPositive isPath numberLeaf textLeaf numbersAt leafAt blanks withCell putCell words overlay
     marked mark due inOrder again afterListed afterOther column plainAt innerAt listedAt ruledAt memberAt kindOf itemAt closed membersBy itemsBy
-    rootKind topAt finished walk setup contentOf contentsIn itemsOf treeOf
+    rootKind topAt finished walk setup readAt
 samples = (
   (refl, refl),
   (
@@ -46,7 +46,7 @@ samples = (
             (refl, refl),
             (
               (refl, refl),
-              (refl, (refl, (refl, (refl, (refl, tt))))),
+              (refl, (refl, (refl, (refl, ((λ (r q : List ℕ). refl), tt))))),
             ),
           ),
         ),

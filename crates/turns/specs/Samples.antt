@@ -1,5 +1,5 @@
 -- Document 01, "Samples": "P marks cases to be proved"; "P1 to P12 form one table, proved by one statement" (`samples`, proofs/Samples.antt).
-use Prim.Native.Nat.{ℕ, zero, suc}
+use Prim.Native.Nat.{ℕ}
 use mathlib.Core.Path.{_≡_}
 use mathlib.Core.List.{List, [], _∷_, map}
 use lib.IntN.{ℤ, pos, negsuc}
@@ -9,9 +9,9 @@ use Rattle.integers.specs.Integer.{integer, shortest}
 use Rattle.framing.specs.Rules.{Happening, begin, happens}
 use Rattle.framing_writer.specs.Written.{frame}
 use Rattle.glow.specs.declared.Answer.the-variants.{Read}
-use Rattle.glow.specs.Message.{saidBy}
-use Rattle.forest.specs.Content.{Content, nothing, word, Item, item}
-use Rattle.turns.specs.Rules.{entries, treeOf}
+use Rattle.glow.specs.Message.{result, readAt}
+use Rattle.entries.specs.Cell.{cell}
+use Rattle.entries.specs.Entry.{Entry, Entries, blank, withCell, overlay}
 
 pub data Sample : Type 0 where
   -- an integer, and its content octets
@@ -20,31 +20,27 @@ pub data Sample : Type 0 where
   framed : List ℕ → List ℕ → Sample
   -- a stream, and the numbers of its events
   gives : List ℕ → List ℕ → Sample
-  -- a message, and its elements
-  tree : List ℕ → List Item → Sample
+  -- a message, and its entries
+  tree : List ℕ → Entries → Sample
 
 abbrev numberOf : Happening → ℕ
 numberOf h = h .said .number
 
--- What a sample says, in the words of the functions' own contracts. An integer is written so and read from it; a stream gives these events and no other.
+-- What a sample says, in the words of the functions' own contracts. An integer is written so and read from it; a stream gives these events and no other; a
+-- message is read into a table of two rows, whatever they hold, as these entries, and a row past them is as it was.
 abbrev pub Holds : Sample → Type 0
 Holds (content z bs) = (shortest z ≡ bs) × (integer bs ≡ Int z)
 Holds (framed xs bs) = frame xs ≡ bs
 Holds (gives bs ns) = map numberOf (happens begin 0 bs) ≡ ns
-Holds (tree m es) = treeOf m 256 ≡ entries (saidBy (Read 0 (length es))) es
+Holds (tree m es) = (r q : List ℕ) → readAt m (r ∷ q ∷ []) ≡ result (Read 0 (length es)) (overlay es (r ∷ q ∷ []))
 
 abbrev pub All : List Sample → Type 0
 All [] = Unit {0}
 All (p ∷ ps) = Holds p × All ps
 
--- members left out
-abbrev pub absent : ℕ → List Content
-absent zero = []
-absent (suc n) = nothing ∷ absent n
-
--- a command (kind 2) in Root, its number the first of sixteen members
-abbrev pub command : ℕ → Item
-command n = item 2 0 (word 2 n ∷ absent 15)
+-- a command (kind 2) in Root: its number, an integer (universal 2), is its first member
+abbrev pub command : ℕ → Entry
+command n = withCell (blank 2 0) 0 (cell 2 n 0)
 
 abbrev pub p1-to-p12 : List Sample
 p1-to-p12 =
