@@ -625,6 +625,68 @@ static void turn(void)
     stream_went(number, 0, 1, number == EMBER_SETUP ? 0 : answer[EMBER_CONSUMED], chunk);
 }
 
+/* ---- route sheets */
+
+static uint8_t sheet[EMBER_SHEET_MAX];
+static size_t sheet_bytes;
+
+static void write_sheet(void)
+{
+    size_t words, numbers, cells, m = one_in(3) ? below(3000) : EMBER_SHEET_MAX, k = about(EMBER_SHEET_WORDS, 3);
+    uint64_t *answer, number;
+    lend_desk(0, 1, 2, &words, &numbers, &cells);
+    lend_bytes(3, m);
+    answer = lend_words(4, k);
+    remember();
+    number = ember_sheet_write((uint64_t *)lent[0].bytes, words, (uint64_t *)lent[1].bytes, numbers, lent[2].bytes, cells, lent[3].bytes, m, answer, k);
+    count("ember_sheet_write", number);
+    if (number == EMBER_OUT && !same(3))
+        wrong("46 changed the output");
+    if (number == EMBER_DONE && (answer[0] > m || !same_from(3, answer[0])))
+        wrong("bytes past the sheet");
+    if (number == EMBER_DONE) {
+        memcpy(sheet, lent[3].bytes, answer[0]);
+        sheet_bytes = answer[0];
+    }
+}
+
+/* One or two of its characters other ones: hexadecimal digits, line ends or anything. */
+static void damage_text(uint8_t *text, size_t length)
+{
+    static const char characters[] = "0123456789abcdefABCDEF\n\n\r gG";
+    for (int i = one_in(2) ? 0 : (int)below(3); i > 0 && length > 0; i--) {
+        size_t at = below(length);
+        text[at] = one_in(8) ? (uint8_t)draw() : (uint8_t)characters[below(sizeof characters - 1)];
+    }
+}
+
+static void read_sheet(void)
+{
+    size_t n = about(sheet_bytes, EMBER_SHEET_MAX), rows = one_in(40) ? 255 + below(3) : 256, bytes = one_in(60) ? EMBER_STORE_BYTES - 1 + below(3) : EMBER_STORE_BYTES;
+    size_t words = about(EMBER_FIGURES_WORDS, 9), numbers = about(EMBER_PATH_MAX, 18), cells = one_in(60) ? EMBER_CROSSPOINTS - 1 + below(3) : EMBER_CROSSPOINTS;
+    size_t k = about(EMBER_SHEET_WORDS, 3);
+    uint8_t *text = lend(0, n);
+    uint64_t *answer, number;
+    memcpy(text, sheet, n);
+    damage_text(text, n);
+    lend_bytes(1, bytes);
+    lend_table(2, rows);
+    lend_words(3, words);
+    lend_words(4, numbers);
+    lend_bytes(5, cells);
+    answer = lend_words(6, k);
+    remember();
+    number = ember_sheet_read(text, n, lent[1].bytes, bytes, (ember_row *)lent[2].bytes, rows, (uint64_t *)lent[3].bytes, words, (uint64_t *)lent[4].bytes, numbers, lent[5].bytes, cells,
+                              answer, k);
+    count("ember_sheet_read", number);
+    if (number != EMBER_DONE && (!same(3) || !same(4) || !same(5)))
+        wrong("a refusal changed figures, path or crosspoints");
+    if (number == EMBER_DONE && (answer[0] < 1 || answer[0] > EMBER_PATH_MAX || !same_from(4, 8 * answer[0])))
+        wrong("another path");
+    if (number == EMBER_DONE && ember_desk_is_legal((uint64_t *)lent[3].bytes, words, (uint64_t *)lent[4].bytes, answer[0], lent[5].bytes, cells) != 1)
+        wrong("read, and not legal");
+}
+
 static void start(void)
 {
     size_t n = about(EMBER_SESSION_WORDS, 6);
@@ -644,7 +706,7 @@ int main(int words, char **word_of)
     } all[] = {
         {"ember_feed", feed},           {"ember_turn", turn},           {"ember_turn", turn},     {"ember_read", read_tree},         {"ember_write", write_tree},
         {"ember_write_", write_frames}, {"ember_desk_open", desk_open}, {"ember_start", start},   {"ember_desk_call", desk_call},    {"ember_desk_request", desk_request},
-        {"ember_desk_is_legal", desk_is_legal},
+        {"ember_desk_is_legal", desk_is_legal}, {"ember_sheet_write", write_sheet}, {"ember_sheet_read", read_sheet},
     };
     uint64_t wanted = words > 1 ? strtoull(word_of[1], NULL, 10) : 1000000;
     state = words > 2 ? strtoull(word_of[2], NULL, 10) : 20250101;

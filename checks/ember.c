@@ -570,6 +570,56 @@ static void turns(void)
     expect("no session", turn(frames, count, EMBER_ROWS_MAX, EMBER_ROWS_MAX, 2, EMBER_CROSSPOINTS, EMBER_TURN_WORDS), EMBER_SETUP);
 }
 
+/* ---- route sheets */
+
+static uint8_t sheet[EMBER_SHEET_MAX];
+
+static uint64_t read_sheet(size_t bytes, size_t rows, size_t words, size_t numbers, size_t cells, size_t told)
+{
+    return ember_sheet_read(sheet, bytes, store, EMBER_STORE_BYTES, table, rows, figures, words, path, numbers, crosspoints, cells, answer, told);
+}
+
+static void sheets(void)
+{
+    uint64_t length[EMBER_SHEET_WORDS + 1], was[EMBER_FIGURES_WORDS];
+    uint8_t all[EMBER_CROSSPOINTS];
+    for (size_t i = 0; i < EMBER_PATH_MAX; i++)
+        path[i] = 2147483647u;
+    make_figures(EMBER_N_TO_N, EMBER_SIDE_MAX, EMBER_SIDE_MAX);
+    limit(EMBER_FIGURES_HAS_TOTAL, EMBER_FIGURES_TOTAL, 2147483647u);
+    limit(EMBER_FIGURES_HAS_EACH, EMBER_FIGURES_EACH, 2147483647u);
+    memset(crosspoints, 1, EMBER_CROSSPOINTS);
+    memcpy(was, figures, sizeof was);
+    memcpy(all, crosspoints, sizeof all);
+    for (int more = -1; more <= 1; more++)
+        expect("words of the answer", ember_sheet_write(figures, EMBER_FIGURES_WORDS, path, EMBER_PATH_MAX, crosspoints, EMBER_CROSSPOINTS, sheet, sizeof sheet, length, EMBER_SHEET_WORDS + more),
+               more == 0 ? EMBER_DONE : EMBER_SETUP);
+    expect("the longest sheet fits", length[0] <= EMBER_SHEET_MAX, 1);
+    expect("and is long", length[0] > EMBER_SHEET_MAX / 2, 1);
+    expect("one byte less", ember_sheet_write(figures, EMBER_FIGURES_WORDS, path, EMBER_PATH_MAX, crosspoints, EMBER_CROSSPOINTS, sheet, length[0] - 1, length, EMBER_SHEET_WORDS), EMBER_OUT);
+    expect("no length", length[0], 0);
+    expect("written", ember_sheet_write(figures, EMBER_FIGURES_WORDS, path, EMBER_PATH_MAX, crosspoints, EMBER_CROSSPOINTS, sheet, sizeof sheet, length, EMBER_SHEET_WORDS), EMBER_DONE);
+    memset(figures, 0, sizeof figures);
+    memset(crosspoints, 0, EMBER_CROSSPOINTS);
+    path[0] = 5;
+    for (int more = -1; more <= 1; more += 2) {
+        expect("rows", read_sheet(length[0], EMBER_ROWS_MAX + more, EMBER_FIGURES_WORDS, EMBER_PATH_MAX, EMBER_CROSSPOINTS, EMBER_SHEET_WORDS), EMBER_SETUP);
+        expect("words of figures", read_sheet(length[0], EMBER_ROWS_MAX, EMBER_FIGURES_WORDS + more, EMBER_PATH_MAX, EMBER_CROSSPOINTS, EMBER_SHEET_WORDS), EMBER_SETUP);
+        expect("numbers", read_sheet(length[0], EMBER_ROWS_MAX, EMBER_FIGURES_WORDS, EMBER_PATH_MAX + more, EMBER_CROSSPOINTS, EMBER_SHEET_WORDS), EMBER_SETUP);
+        expect("crosspoints", read_sheet(length[0], EMBER_ROWS_MAX, EMBER_FIGURES_WORDS, EMBER_PATH_MAX, EMBER_CROSSPOINTS + more, EMBER_SHEET_WORDS), EMBER_SETUP);
+        expect("words", read_sheet(length[0], EMBER_ROWS_MAX, EMBER_FIGURES_WORDS, EMBER_PATH_MAX, EMBER_CROSSPOINTS, EMBER_SHEET_WORDS + more), EMBER_SETUP);
+    }
+    expect("cut off", read_sheet(length[0] - 2, EMBER_ROWS_MAX, EMBER_FIGURES_WORDS, EMBER_PATH_MAX, EMBER_CROSSPOINTS, EMBER_SHEET_WORDS), EMBER_BYTE);
+    expect("as they were", path[0] + figures[1] + crosspoints[0], 5);
+    expect("nothing", read_sheet(0, EMBER_ROWS_MAX, EMBER_FIGURES_WORDS, EMBER_PATH_MAX, EMBER_CROSSPOINTS, EMBER_SHEET_WORDS), EMBER_GLOW);
+    expect("no numbers", answer[0], 0);
+    expect("read", read_sheet(length[0], EMBER_ROWS_MAX, EMBER_FIGURES_WORDS, EMBER_PATH_MAX, EMBER_CROSSPOINTS, EMBER_SHEET_WORDS), EMBER_DONE);
+    expect("numbers", answer[0], EMBER_PATH_MAX);
+    expect("the first", path[0], 2147483647u);
+    expect("figures", (uint64_t)memcmp(figures, was, sizeof was), 0);
+    expect("all connected", (uint64_t)memcmp(crosspoints, all, sizeof all), 0);
+}
+
 /* ---- ember_entries.h: a row with every member, written and read again */
 
 static const char text[] = "gain";
@@ -730,6 +780,7 @@ int main(void)
     desk();
     desk_calls();
     turns();
+    sheets();
     members();
     return wrong;
 }

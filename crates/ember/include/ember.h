@@ -1,5 +1,5 @@
 /* Ember+ for C and C++: the session that reads a stream in chunks, the writer of frames, the reader and the writer of
- * the Glow tree, the routing desk, and a whole turn of all of them.
+ * the Glow tree, the routing desk, a whole turn of all of them, and route sheets.
  *
  * Link libember.a, which `rt staticlib ember` proves and builds (x86-64 Linux; `make install` puts it where a compiler
  * finds it). Each call is proved for every content of what is lent to it: it always ends, never traps, and answers a
@@ -323,6 +323,32 @@ uint64_t ember_turn(uint64_t *session, size_t session_words, uint8_t *store, siz
                     size_t figures_words, const uint64_t *path, size_t path_words, uint8_t *crosspoints,
                     size_t crosspoint_bytes, uint64_t *answers, size_t answers_words, uint64_t *answer,
                     size_t answer_words);
+
+/* ---- Route sheets: a desk as text, hexadecimal lines, a frame each */
+
+/* Bytes that always hold a sheet. */
+#define EMBER_SHEET_MAX 25000
+
+/* The answer of ember_sheet_write, one word: the length of the sheet; 0 after EMBER_OUT. Of ember_sheet_read, one word: how many numbers
+ * the desk's path has; 0 after a refusal. */
+#define EMBER_SHEET_WORDS 1
+
+/* Writes a legal desk's sheet: one message with the qualified matrix, its figures and every target's sources. EMBER_OUT if out is too
+ * short; EMBER_SETUP if the figures are none, the desk is not legal or answer_words is not 1.
+ * Never writes a part of a sheet. */
+uint64_t ember_sheet_write(const uint64_t *figures, size_t figures_words, const uint64_t *path, size_t path_words,
+                           const uint8_t *crosspoints, size_t crosspoint_bytes, uint8_t *out, size_t out_bytes,
+                           uint64_t *answer, size_t answer_words);
+
+/* Reads a sheet of any length: EMBER_DONE, and figures, path and crosspoints are those of its desk, which is legal; or the first refusal:
+ * EMBER_BYTE for a bad line, 10 to 24, EMBER_GLOW unless it is one message of one qualified matrix and its connections, 30 to 38,
+ * 41 to 45. EMBER_SETUP if store_bytes is not 17,408, table_rows not 256, figures_words not 7, path_words not 16, crosspoint_bytes not
+ * 4,096 or answer_words not 1. Store and table are scratch: they may hold anything after it.
+ * Never changes figures, path or crosspoints unless it answers EMBER_DONE. */
+uint64_t ember_sheet_read(const uint8_t *text, size_t text_bytes, uint8_t *store, size_t store_bytes,
+                          uint64_t (*table)[EMBER_ROW_WORDS], size_t table_rows, uint64_t *figures, size_t figures_words,
+                          uint64_t *path, size_t path_words, uint8_t *crosspoints, size_t crosspoint_bytes,
+                          uint64_t *answer, size_t answer_words);
 
 #ifdef __cplusplus
 }

@@ -27,10 +27,18 @@ use Rattle.turns.specs.declared.After.the-variants as after
 use Rattle.turns.specs.Rules.{Desk}
 use Rattle.turns.specs.Turns.{none}
 use Rattle.turns.specs.Whole.{deskAt, Left, left, readTo, laterOf, gave}
+use Rattle.framing_writer.specs.Written.{Outcome as Wrote}
+use Rattle.sheet_writer.specs.declared.Answer as written
+use Rattle.sheet_writer.specs.declared.Answer.the-variants as writtens
+use Rattle.sheet_writer.specs.Calls.{writesSheet, told as wroteAs}
+use Rattle.sheet_reader.specs.declared.Sheet.{Sheet}
+use Rattle.sheet_reader.specs.declared.Sheet.the-variants as sheets
+use Rattle.sheet_reader.specs.Calls.{sheetRead, kept, told as readAs}
 use Rattle.ember.specs.declared.after.Six.{Six}
 use Rattle.ember.specs.Words.{wordsOf, givenWord, limitWord, limitAt, figuresAt, isLimit, isFigures}
 use Rattle.ember.specs.Calls.{opens, legals, requests, DeskCall, deskCall, counted, deskCalls, lengthsFit, laterWords, treeWords, deskWords, next}
 use Rattle.ember.specs.Calls.{Turn, turned, turns}
+use Rattle.ember.specs.Calls.{SheetPut, sheetPut, measured, sheetWrites, SheetCall, sheetCall, given, sheetReads, sheetLent, Holds}
 use Rattle.ember.specs.Steps.{wordsIn, Words}
 
 -- ---- figures and words
@@ -304,3 +312,93 @@ fit-words rows answers cells path words h = by (eqb words 9) refl h
         → both t (both (leb rows 256) (both (leb rows answers) (both (eqb cells 4096) (both (leb 1 path) (leb path 16))))) ≡ true → words ≡ 9
     by true e g = eqb-true _ _ e
     by false e g = absurd (never g)
+
+-- ---- route sheets
+
+pub set-seven : (xs : List ℕ) (a b c d e f g : ℕ) → length xs ≡ 7
+    → set (set (set (set (set (set (set xs 0 a) 1 b) 2 c) 3 d) 4 e) 5 f) 6 g ≡ a ∷ b ∷ c ∷ d ∷ e ∷ f ∷ g ∷ []
+set-seven (x1 ∷ x2 ∷ x3 ∷ x4 ∷ x5 ∷ x6 ∷ x7 ∷ []) a b c d e f g k = refl
+set-seven (x1 ∷ x2 ∷ x3 ∷ x4 ∷ x5 ∷ x6 ∷ x7 ∷ x8 ∷ xs) a b c d e f g k = absurd (omega arith)
+set-seven (x1 ∷ x2 ∷ x3 ∷ x4 ∷ x5 ∷ x6 ∷ []) a b c d e f g k = absurd (omega arith)
+set-seven (x1 ∷ x2 ∷ x3 ∷ x4 ∷ x5 ∷ []) a b c d e f g k = absurd (omega arith)
+set-seven (x1 ∷ x2 ∷ x3 ∷ x4 ∷ []) a b c d e f g k = absurd (omega arith)
+set-seven (x1 ∷ x2 ∷ x3 ∷ []) a b c d e f g k = absurd (omega arith)
+set-seven (x1 ∷ x2 ∷ []) a b c d e f g k = absurd (omega arith)
+set-seven (x1 ∷ []) a b c d e f g k = absurd (omega arith)
+set-seven [] a b c d e f g k = absurd (omega arith)
+
+pub put-limits : (ws : List ℕ) (total each : Limit) {a b c d : ℕ} → a ≡ givenWord total → b ≡ limitWord total → c ≡ givenWord each → d ≡ limitWord each
+    → set (set (set (set ws 3 a) 4 b) 5 c) 6 d ≡ set (set (set (set ws 3 (givenWord total)) 4 (limitWord total)) 5 (givenWord each)) 6 (limitWord each)
+put-limits ws total each i j k l = rw (i, j, k, l) refl
+
+pub put-figures : (ws : List ℕ) (f : Figures) {ws′ ws″ : List ℕ} → length ws ≡ 7 → ws′ ≡ set (set (set ws 0 (f .kind)) 1 (f .targets)) 2 (f .sources)
+    → ws″ ≡ set (set (set (set ws′ 3 (givenWord (f .total))) 4 (limitWord (f .total))) 5 (givenWord (f .each))) 6 (limitWord (f .each))
+    → ws″ ≡ wordsOf f
+put-figures ws f h i j = j ∙ rw i (set-seven ws _ _ _ _ _ _ _ h)
+
+module _ (a : List ℕ) {x : written.Answer} (out : List ℕ) where
+  pub wrote-setup : x ≡ writtens.Setup → measured (wroteAs x out) a ≡ sheetPut 1 out a
+  unfolding measured
+  wrote-setup e = rw e refl
+
+  pub wrote-out : length a ≡ 1 → x ≡ writtens.Out → measured (wroteAs x out) a ≡ sheetPut 46 out (set a 0 0)
+  unfolding measured
+  wrote-out h e = rw (e, set-one a 0 h) refl
+
+  pub wrote-done : {n w : ℕ} → length a ≡ 1 → x ≡ writtens.Done n → w ≡ n → measured (wroteAs x out) a ≡ sheetPut 0 out (set a 0 w)
+  unfolding measured
+  wrote-done {n} h e p = rw (e, p, set-one a n h) refl
+
+module _ (fs a : List ℕ) {x : Sheet} (store : List ℕ) (table : Rows) (path : List ℕ) (cells : Cells) where
+  pub read-setup : x ≡ sheets.Setup → given (readAs x store table path cells) fs a ≡ sheetCall 1 fs path cells a
+  unfolding given
+  read-setup e = rw e refl
+
+  pub read-refused : {n : ℕ} → length a ≡ 1 → x ≡ sheets.Refused n → given (readAs x store table path cells) fs a ≡ sheetCall n fs path cells (set a 0 0)
+  unfolding given
+  read-refused h e = rw (e, set-one a 0 h) refl
+
+  pub read-desk : {f : Figures} {n w : ℕ} {fs′ : List ℕ} → length a ≡ 1 → x ≡ sheets.Read f n → fs′ ≡ wordsOf f → w ≡ n
+      → given (readAs x store table path cells) fs a ≡ sheetCall 0 fs′ path cells (set a 0 w)
+  unfolding given
+  read-desk {f} {n} h e i p = rw (e, i, p, set-one a n h) refl
+
+module _ (fs path cells out words : List ℕ) where
+  pub sheet-words : (length words ≡ 1 → ⊥) → sheetWrites fs path cells out words ≡ sheetPut 1 out words
+  unfolding sheetWrites
+  sheet-words h = rw (ne-eqb _ _ h, both-no (isFigures fs)) refl
+
+  pub sheet-figures : {b : Bool} → b ≡ isFigures fs → b ≡ false → sheetWrites fs path cells out words ≡ sheetPut 1 out words
+  unfolding sheetWrites
+  sheet-figures i m = rw (sym i ∙ m) refl
+
+  pub sheet-wrote : {b : Bool} {f : Figures} {o : Wrote} {x : SheetPut} → length words ≡ 1 → b ≡ isFigures fs → b ≡ true → f ≡ figuresAt fs
+      → writesSheet side f path cells out ≡ o → measured o words ≡ x → sheetWrites fs path cells out words ≡ x
+  unfolding sheetWrites
+  sheet-wrote w i y e h g = rw (sym i ∙ y, eq-eqb _ _ w, ← e, h) g
+
+holds-told : (x : Sheet) (store : List ℕ) (table : Rows) (path : List ℕ) (cells : Cells) → Holds (readAs x store table path cells .lent) store table
+holds-told sheets.Setup store table path cells = (refl, refl)
+holds-told (sheets.Refused n) store table path cells = tt
+holds-told (sheets.Read f n) store table path cells = tt
+
+module _ (text store : List ℕ) (table : Rows) (fs path : List ℕ) (cells : Cells) (words : List ℕ) where
+  abbrev Told : ℕ → List ℕ → List ℕ → Cells → List ℕ → List ℕ → Rows → Type 0
+  Told r fs′ path′ cells′ words′ store′ table′ =
+      (sheetReads text store table fs path cells words ≡ sheetCall r fs′ path′ cells′ words′)
+      × Holds (sheetLent text store table fs path cells words) store′ table′
+
+  pub sheet-no-figures : (length fs ≡ 7 → ⊥) → Told 1 fs path cells words store table
+  unfolding sheetReads sheetLent
+  sheet-no-figures h = rw (ne-eqb _ _ h) (refl, (refl, refl))
+
+  pub sheet-no-words : (length words ≡ 1 → ⊥) → Told 1 fs path cells words store table
+  unfolding sheetReads sheetLent
+  sheet-no-words h = rw (ne-eqb _ _ h, both-no (eqb (length fs) 7)) (refl, (refl, refl))
+
+  pub sheet-read : (x : Sheet) (store′ : List ℕ) (table′ : Rows) (path′ : List ℕ) (cells′ : Cells) {r : ℕ} {fs′ words′ : List ℕ} → length fs ≡ 7 → length words ≡ 1
+      → sheetRead side text store table path cells ≡ readAs x store′ table′ path′ cells′
+      → given (readAs x store′ table′ path′ cells′) fs words ≡ sheetCall r fs′ path′ cells′ words′
+      → Told r fs′ path′ cells′ words′ store′ table′
+  unfolding sheetReads sheetLent
+  sheet-read x store′ table′ path′ cells′ h k e g = rw (eq-eqb _ _ h, eq-eqb _ _ k, e) (g, holds-told x store′ table′ path′ cells′)

@@ -2,6 +2,7 @@
 -- desk, a whole turn and route sheets.
 use Prim.Native.Nat.{ℕ}
 use mathlib.Core.Bool.{Bool}
+use mathlib.Core.Path.{_≡_}
 use mathlib.Core.List.{List, [], _∷_, _++_}
 use lib.Dec.{leb, eqb}
 use lib.ListN.{length, getD, take}
@@ -16,7 +17,11 @@ use Rattle.desk_calls.specs.Calls.{deskLegal, deskOpened, Outcome, called}
 use Rattle.turns.specs.Rules.{Desk}
 use Rattle.turns.specs.Turns.{Later, none, read, desk}
 use Rattle.turns.specs.Whole.{deskAt, Left, left, readTo}
-use Rattle.ember.specs.Words.{figuresAt, isFigures}
+use Rattle.framing_writer.specs.Written.{Outcome as Wrote}
+use Rattle.sheet_writer.specs.Calls.{writesSheet}
+use Rattle.sheet_reader.specs.Calls as sheet
+use Rattle.sheet_reader.specs.Calls.{sheetRead, scratch, kept}
+use Rattle.ember.specs.Words.{wordsOf, figuresAt, isFigures}
 
 -- ---- the desk; words that are no figures are 1, with everything as it was
 
@@ -120,3 +125,65 @@ turns ws t bytes table fs path cells lent a =
     pick (both (isFigures fs) (lengthsFit (length table) (length lent) (length cells) (length path) (length a)))
     (turned ws t bytes (deskAt (figuresAt fs) path cells) table lent a)
     (record { number = 1; session = ws; store = t; table = table; crosspoints = cells; answers = lent; answer = a })
+
+-- ---- route sheets
+
+-- Writing: a number, the output, and one word for the length.
+pub record SheetPut : Type 0 where
+  pub number : ℕ
+  pub output : List ℕ
+  pub answer : List ℕ
+
+abbrev pub sheetPut : ℕ → List ℕ → List ℕ → SheetPut
+sheetPut number out words = record { number = number; output = out; answer = words }
+
+-- "1 leaves everything as it was"; after 46 the length is 0
+unfoldable pub measured : Wrote → List ℕ → SheetPut
+measured o words = sheetPut (o .number) (o .output) (pick (eqb (o .number) 1) words (o .count ∷ []))
+
+-- words that are no figures are 1, and so is an answer of other than one word
+unfoldable pub sheetWrites : List ℕ → List ℕ → Cells → List ℕ → List ℕ → SheetPut
+sheetWrites fs path cells out words =
+    pick (both (isFigures fs) (eqb (length words) 1)) (measured (writesSheet side (figuresAt fs) path cells out) words) (sheetPut 1 out words)
+
+-- Reading: a number, the figures' words, the path, the crosspoints, and one word for how many numbers the path has.
+pub record SheetCall : Type 0 where
+  pub number : ℕ
+  pub figures : List ℕ
+  pub path : List ℕ
+  pub cells : Cells
+  pub answer : List ℕ
+
+abbrev pub sheetCall : ℕ → List ℕ → List ℕ → Cells → List ℕ → SheetCall
+sheetCall number fs path cells words = record { number = number; figures = fs; path = path; cells = cells; answer = words }
+
+abbrev pub figuresOf : sheet.Given → List ℕ → List ℕ
+figuresOf sheet.none fs = fs
+figuresOf (sheet.desk f n) fs = wordsOf f
+
+abbrev pub lengthOf : sheet.Given → ℕ
+lengthOf sheet.none = 0
+lengthOf (sheet.desk f n) = n
+
+-- after SETUP, which keeps store and table, the answer's word stays too
+abbrev pub answerOf : sheet.Lent → List ℕ → ℕ → List ℕ
+answerOf scratch words n = n ∷ []
+answerOf (kept s t) words n = words
+
+unfoldable pub given : sheet.Outcome → List ℕ → List ℕ → SheetCall
+given o fs words = sheetCall (o .number) (figuresOf (o .given) fs) (o .path) (o .cells) (answerOf (o .lent) words (lengthOf (o .given)))
+
+-- figures that have not seven words are 1, and so is an answer of other than one word
+unfoldable pub sheetReads : List ℕ → List ℕ → Rows → List ℕ → List ℕ → Cells → List ℕ → SheetCall
+sheetReads text store table fs path cells words =
+    pick (both (eqb (length fs) 7) (eqb (length words) 1)) (given (sheetRead side text store table path cells) fs words)
+    (sheetCall 1 fs path cells words)
+
+-- What store and table hold after it: after SETUP as they were, else anything.
+unfoldable pub sheetLent : List ℕ → List ℕ → Rows → List ℕ → List ℕ → Cells → List ℕ → sheet.Lent
+sheetLent text store table fs path cells words =
+    pick (both (eqb (length fs) 7) (eqb (length words) 1)) (sheetRead side text store table path cells .lent) (kept store table)
+
+abbrev pub Holds : sheet.Lent → List ℕ → Rows → Type 0
+Holds scratch store table = ⊤
+Holds (kept s t) store table = (s ≡ store) × (t ≡ table)

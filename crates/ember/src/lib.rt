@@ -1,5 +1,6 @@
-// The C library: session, writer of frames, tree reader, tree writer, desk, whole turns; numbers and lent slices (include/ember.h).
+// The C library: session, writer of frames, tree reader, tree writer, desk, whole turns, route sheets; numbers and lent slices (include/ember.h).
 mod after;
+mod sheet;
 mod words;
 
 use after::Six;
@@ -17,6 +18,7 @@ ghost use Rattle.routing.specs.Crosspoints.{Cells, answer as answered};
 ghost use Rattle.desk_calls.specs.Calls.{told};
 ghost use Rattle.turns.specs.Whole.{deskAt, gave};
 ghost use Rattle.ember.specs.Calls.{opens, legals, requests, counted, deskCall, deskCalls, lengthsFit, next, turned, turns};
+ghost use Rattle.ember.specs.Calls.{sheetPut, sheetWrites, sheetCall, sheetReads, sheetLent, Holds};
 ghost use Rattle.ember.specs.Steps.{wordsIn};
 
 // ---- the session and the writer of frames
@@ -349,4 +351,53 @@ pub extern "C" fn ember_turn(
         return 1;
     }
     1
+}
+
+// ---- route sheets
+
+// Writes a desk's sheet: 0, and its length in the answer's one word; 46 or 1, and the output as it was.
+#[no_mangle]
+pub extern "C" fn ember_sheet_write(
+    figures: &[u64],
+    path: &[u64],
+    crosspoints: &[u8],
+    out: &mut [u8],
+    answer: &mut [u64],
+) -> u64
+    ensures { λ r. ⌜ sheetWrites (now (figures .entry)) (now (path .entry)) (now (crosspoints .entry)) (now (out .entry)) (now (answer .entry)) ≡ sheetPut r (now (out .exit)) (now (answer .exit)) ⌝ }
+{
+    if answer.len() != 1 {
+        return 1;
+    }
+    if words::is_figures(figures) {
+        let a = sheet_writer::write(words::figures_at(figures), path, crosspoints, out);
+        return sheet::wrote(a, answer);
+    }
+    1
+}
+
+// Reads a sheet: 0 and a desk, its figures, path and crosspoints, with the path's length in the answer's one word; or the first refusal, and they stay as they were.
+#[no_mangle]
+pub extern "C" fn ember_sheet_read(
+    text: &[u8],
+    store: &mut [u8],
+    table: &mut [[u64; 50]],
+    figures: &mut [u64],
+    path: &mut [u64],
+    crosspoints: &mut [u8],
+    answer: &mut [u64],
+) -> u64
+    ensures { λ r. ⌜ sheetReads (now (text .entry)) (now (store .entry)) (now (table .entry)) (now (figures .entry)) (now (path .entry)) (now (crosspoints .entry)) (now (answer .entry))
+        ≡ sheetCall r (now (figures .exit)) (now (path .exit)) (now (crosspoints .exit)) (now (answer .exit)) ⌝ }
+    ensures { λ _. ⌜ Holds (sheetLent (now (text .entry)) (now (store .entry)) (now (table .entry)) (now (figures .entry)) (now (path .entry)) (now (crosspoints .entry)) (now (answer .entry)))
+        (now (store .exit)) (now (table .exit)) ⌝ }
+{
+    if figures.len() != 7 {
+        return 1;
+    }
+    if answer.len() != 1 {
+        return 1;
+    }
+    let x = sheet_reader::read(text, store, table, path, crosspoints);
+    sheet::read(x, figures, answer)
 }

@@ -1,7 +1,7 @@
 //! The desk, and whole turns.
 
 use crate::frames::event;
-use crate::{ffi, number, Event, Read, Root, Row, Session, PATH_MAX, SIDE_MAX};
+use crate::{ffi, number, Event, Read, Root, Row, Session, PATH_MAX, ROWS_MAX, SIDE_MAX, STORE_BYTES};
 
 /// The type of a matrix.
 #[derive(Clone, Copy, PartialEq, Eq, Debug)]
@@ -177,6 +177,89 @@ impl Desk {
     }
 }
 
+/// What reading a route sheet needs beside it, some 120 KB; put it into a `Box` where the stack is small.
+pub struct Scratch {
+    store: [u8; STORE_BYTES],
+    table: [Row; ROWS_MAX],
+}
+
+impl Default for Scratch {
+    fn default() -> Scratch {
+        Scratch { store: [0; STORE_BYTES], table: [Row::default(); ROWS_MAX] }
+    }
+}
+
+/// Route sheets.
+impl Desk {
+    /// Writes the desk's sheet: how many bytes it has, at most [`crate::SHEET_MAX`]; 46 and the output as it was if it has no room.
+    /// Never writes a part of a sheet.
+    pub fn write_sheet(&self, out: &mut [u8]) -> Result<usize, u64> {
+        let words = self.figures.words();
+        let mut answer = [0; 1];
+        // SAFETY: each pointer and its count name a slice that is borrowed here, those written to mutably.
+        let number = unsafe {
+            ffi::ember_sheet_write(
+                words.as_ptr(),
+                words.len(),
+                self.path.as_ptr(),
+                self.numbers,
+                self.crosspoints.as_ptr(),
+                self.crosspoints.len(),
+                out.as_mut_ptr(),
+                out.len(),
+                answer.as_mut_ptr(),
+                answer.len(),
+            )
+        };
+        if number == number::DONE {
+            Ok(answer[0] as usize)
+        } else {
+            Err(number)
+        }
+    }
+
+    /// Reads a sheet: its desk, or the number of the first refusal.
+    /// Never gives a desk that is not legal.
+    pub fn read_sheet(text: &[u8], scratch: &mut Scratch) -> Result<Desk, u64> {
+        let mut words = [0; 7];
+        let mut path = [0; PATH_MAX];
+        let mut crosspoints = [0; SIDE_MAX * SIDE_MAX];
+        let mut answer = [0; 1];
+        // SAFETY: each pointer and its count name a slice that is borrowed here, those written to mutably.
+        let number = unsafe {
+            ffi::ember_sheet_read(
+                text.as_ptr(),
+                text.len(),
+                scratch.store.as_mut_ptr(),
+                scratch.store.len(),
+                scratch.table.as_mut_ptr(),
+                scratch.table.len(),
+                words.as_mut_ptr(),
+                words.len(),
+                path.as_mut_ptr(),
+                path.len(),
+                crosspoints.as_mut_ptr(),
+                crosspoints.len(),
+                answer.as_mut_ptr(),
+                answer.len(),
+            )
+        };
+        let kind = match words[0] {
+            0 => Type::OneToN,
+            1 => Type::OneToOne,
+            _ => Type::NToN,
+        };
+        let given = |flag: u64, value: u64| (flag == 1).then_some(value);
+        let figures =
+            Figures { kind, targets: words[1], sources: words[2], total: given(words[3], words[4]), each: given(words[5], words[6]) };
+        if number == number::DONE {
+            Ok(Desk { figures, path, numbers: answer[0] as usize, crosspoints })
+        } else {
+            Err(number)
+        }
+    }
+}
+
 /// A stream and a desk behind it: N is the most entries of a message, at most 256. Some 430 bytes an entry and 22 KB; put it into a `Box` where the stack is small.
 pub struct Line<const N: usize> {
     session: Session,
@@ -205,7 +288,7 @@ pub struct Turn<'a> {
 impl<const N: usize> Line<N> {
     /// A fresh stream before a desk.
     pub fn new(desk: Desk) -> Line<N> {
-        const { assert!(N <= crate::ROWS_MAX) };
+        const { assert!(N <= ROWS_MAX) };
         Line { session: Session::new(), desk, table: [Row::default(); N], answers: [0; N] }
     }
 

@@ -104,4 +104,32 @@ extern "C" {
         answer: *mut u64,
         answer_words: usize,
     ) -> u64;
+    pub fn ember_sheet_write(
+        figures: *const u64,
+        words: usize,
+        path: *const u64,
+        path_words: usize,
+        crosspoints: *const u8,
+        crosspoint_bytes: usize,
+        out: *mut u8,
+        out_bytes: usize,
+        answer: *mut u64,
+        answer_words: usize,
+    ) -> u64;
+    pub fn ember_sheet_read(
+        text: *const u8,
+        bytes: usize,
+        store: *mut u8,
+        store_bytes: usize,
+        table: *mut Row,
+        rows: usize,
+        figures: *mut u64,
+        figures_words: usize,
+        path: *mut u64,
+        path_words: usize,
+        crosspoints: *mut u8,
+        crosspoint_bytes: usize,
+        answer: *mut u64,
+        answer_words: usize,
+    ) -> u64;
 }

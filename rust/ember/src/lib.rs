@@ -1,5 +1,5 @@
 //! Verified Ember+ for Rust plugins: the session that reads a stream in chunks, the writer of frames, the reader and the writer of
-//! the Glow tree, the routing desk, and a whole turn of all of them, over libember.a.
+//! the Glow tree, the routing desk, a whole turn of all of them, and route sheets, over libember.a.
 //!
 //! No caller needs `unsafe`: the calls into the library are in this crate, each with slices that it was lent by reference. What the
 //! library does is proved (crates/ember of the repository); this wrapper is plain Rust, tested and not proved. Nothing here allocates, and
@@ -15,7 +15,7 @@ mod ffi;
 mod frames;
 mod tree;
 
-pub use desk::{Desk, Figures, Line, Operation, Turn, Type};
+pub use desk::{Desk, Figures, Line, Operation, Scratch, Turn, Type};
 pub use entries::{encode, full_path, Kind, Numbers, Row, Value};
 pub use frames::{write_frame, write_message, write_request, write_response, Event, Fed, Session};
 pub use tree::{accepts, read, write, Read, Root};
@@ -122,3 +122,5 @@ pub const ROWS_MAX: usize = 256;
 pub const PATH_MAX: usize = 16;
 /// The most targets and the most sources of a desk.
 pub const SIDE_MAX: usize = 64;
+/// Bytes that always hold a route sheet.
+pub const SHEET_MAX: usize = 25_000;

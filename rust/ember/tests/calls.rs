@@ -116,3 +116,20 @@ fn desks() {
     assert_eq!(answers, [0, 0, 9]);
     assert!(desk.is_connected(1, 2));
 }
+
+#[test]
+fn sheets() {
+    let figures = Figures { kind: Type::NToN, targets: 64, sources: 64, total: Some(5000), each: None };
+    let mut desk = Desk::open(figures, &[1, 2, 300]).unwrap();
+    for target in 0..64 {
+        desk.request(target, &(0..=target).collect::<Vec<_>>(), Operation::Absolute).unwrap();
+    }
+    let mut sheet = [0; SHEET_MAX];
+    let length = desk.write_sheet(&mut sheet).unwrap();
+    assert_eq!(desk.write_sheet(&mut sheet[..length - 1]), Err(number::OUT));
+    let mut scratch = Box::new(Scratch::default());
+    assert_eq!(Desk::read_sheet(&sheet[..length], &mut scratch), Ok(desk));
+    assert_eq!(Desk::read_sheet(&sheet[..length - 2], &mut scratch), Err(12));
+    assert_eq!(Desk::read_sheet(b"", &mut scratch), Err(33));
+    assert_eq!(Desk::read_sheet(b"FE000E010194E4FF\n", &mut scratch), Err(33));
+}
