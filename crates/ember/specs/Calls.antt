@@ -185,5 +185,5 @@ sheetLent text store table fs path cells words =
     pick (both (eqb (length fs) 7) (eqb (length words) 1)) (sheetRead side text store table path cells .lent) (kept store table)
 
 abbrev pub Holds : sheet.Lent → List ℕ → Rows → Type 0
-Holds scratch store table = ⊤
+Holds scratch store table = Unit {0}
 Holds (kept s t) store table = (s ≡ store) × (t ≡ table)

@@ -304,15 +304,7 @@ fn go(
         return 1;
     }
     let n = front(store, fed[2]);
-    let x = follow(
-        number,
-        &store[..n],
-        table,
-        f,
-        path,
-        crosspoints,
-        answers,
-    );
+    let x = follow(number, &store[..n], table, f, path, crosspoints, answers);
     let six = after::later(x);
     put_answer(answer, fed[0], fed[1], fed[2], six);
     number
@@ -335,7 +327,13 @@ pub extern "C" fn ember_turn(
         ≡ record { number = r; session = now (session .exit); store = now (store .exit); table = now (table .exit); crosspoints = now (crosspoints .exit); answers = now (answers .exit); answer = now (answer .exit) } ⌝ }
 {
     if words::is_figures(figures) {
-        if lengths_fit(table.len(), answers.len(), crosspoints.len(), path.len(), answer.len()) {
+        if lengths_fit(
+            table.len(),
+            answers.len(),
+            crosspoints.len(),
+            path.len(),
+            answer.len(),
+        ) {
             return go(
                 session,
                 store,
