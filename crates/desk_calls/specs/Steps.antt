@@ -55,8 +55,8 @@ unfoldable pub laidAt : ℕ → Served → List ℕ → Outcome
 laidAt k z lent = outcome 0 (k + length (z .answers)) (take k lent ++ (z .answers ++ drop (k + length (z .answers)) lent)) (z .cells)
 
 -- the entry at place i takes the call from k answers to m
-abbrev pub Turns : Figures → List ℕ → Rows → ℕ → List ℕ → ℕ → ℕ → List ℕ → Cells → ℕ → List ℕ → Cells → Type 0
-Turns f path rows n s i k lent cells m lent′ cells′ =
+abbrev pub Takes : Figures → List ℕ → Rows → ℕ → List ℕ → ℕ → ℕ → List ℕ → Cells → ℕ → List ℕ → Cells → Type 0
+Takes f path rows n s i k lent cells m lent′ cells′ =
     laidAt k (leftFrom f path rows n s i cells) lent ≡ laidAt m (leftFrom f path rows n s (i + 1) cells′) lent′
 
 -- all of them

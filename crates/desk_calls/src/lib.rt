@@ -14,7 +14,7 @@ ghost use Rattle.routing.specs.Figures.{side};
 ghost use Rattle.routing.specs.Crosspoints.{clear, answer};
 ghost use Rattle.desk_calls.specs.Connections.{cellIn, numberOf, octetsOf, numbersIn, Left, Goes, isQualified, fullPath};
 ghost use Rattle.desk_calls.specs.Calls.{pathFits, deskLegal, deskOpened, same, called, outcome, told};
-ghost use Rattle.desk_calls.specs.Steps.{once, Kept, Handed, askedOf, answeredAt, servedIn, Turns};
+ghost use Rattle.desk_calls.specs.Steps.{once, Kept, Handed, askedOf, answeredAt, servedIn, Takes};
 
 // 1 SETUP, or how many connections were answered.
 pub enum Called {
@@ -343,7 +343,7 @@ fn answer_to(
 }
 
 // The entry at place i: a connection is answered at place n of the answers. The place for the next answer.
-fn turn(
+fn take_entry(
     f: Figures,
     path: &[u64],
     rows: &[[u64; 50]],
@@ -356,7 +356,7 @@ fn turn(
 ) -> usize
     requires { ⌜ (f .sources ≤ 64) × ((length (now path) ≤ 16) × ((count ≤ length (now rows)) × (i < count))) ⌝ }
     requires { ⌜ n < length (now answers) ⌝ }
-    ensures { λ r. ⌜ Turns f (now (path .entry)) (now (rows .entry)) count (now (s .entry)) i n (now (answers .entry)) (now (cells .entry))
+    ensures { λ r. ⌜ Takes f (now (path .entry)) (now (rows .entry)) count (now (s .entry)) i n (now (answers .entry)) (now (cells .entry))
         r (now (answers .exit)) (now (cells .exit)) ⌝ }
     ensures { λ r. ⌜ r ≤ n + 1 ⌝ }
 {
@@ -384,7 +384,7 @@ fn serve(
     let mut i: usize = 0;
     let mut n: usize = 0;
     while i < count {
-        n = turn(f, path, rows, count, i, s, cells, answers, n);
+        n = take_entry(f, path, rows, count, i, s, cells, answers, n);
         i += 1;
     }
     n
