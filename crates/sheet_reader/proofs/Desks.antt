@@ -12,7 +12,7 @@ use Rattle.integers.specs.Digits.{pick}
 use Rattle.entries.specs.Entry.{Rows}
 use Rattle.entries.specs.declared.Cell.{Cell}
 use Rattle.forest.specs.Content.{Item, contentOf}
-use Rattle.forest.specs.Rows.{cellAt, itemsIn}
+use Rattle.forest.specs.Rows.{itemsIn}
 use Rattle.glow_writer.specs.Accepted.{accepted}
 use Rattle.routing.specs.declared.Figures.{Figures}
 use Rattle.routing.specs.Figures.{both, figuresFit}
@@ -20,7 +20,7 @@ use Rattle.routing.specs.Crosspoints.{Cells, clear, Answer, answer, opened}
 use Rattle.routing.proofs.Rows.{clear-length}
 use Rattle.desk_calls.specs.declared.Called.{Called}
 use Rattle.desk_calls.specs.declared.Called.the-variants.{Setup as Unready, Done}
-use Rattle.desk_calls.specs.Connections.{octetsOf, numbersIn, nobody}
+use Rattle.desk_calls.specs.Connections.{cellIn, octetsOf, numbersIn, nobody}
 use Rattle.desk_calls.specs.Calls.{pathFits, deskLegal, deskOpened, Served, handled, Outcome, laid, called, told as answered}
 use Rattle.desk_calls.proofs.Items.{in-at}
 use Rattle.desk_calls.proofs.Setup.{ready-from, path-short, opened-not}
@@ -159,7 +159,7 @@ module _ (w : ℕ) (s : List ℕ) (rows : Rows) (n : ℕ) (h : n ≤ length rows
       entries-are w (itemsIn s rows n) sheet
       ∙ ap (λ (e : Item). opens w (figuresIn e) (pathIn e) (modeIn e) (itemsIn s rows n)) (in-at s rows n h 0 (sheet-some s rows n h sheet))
 
-  module _ (v : Cell) (e : v ≡ cellAt (getD rows 0 []) 0) (r : ℕ) (list : List ℕ) (t : Taken (numbersIn (octetsOf (contentOf s v))) r list) where
+  module _ (v : Cell) (e : v ≡ cellIn rows 0 0) (r : ℕ) (list : List ℕ) (t : Taken (numbersIn (octetsOf (contentOf s v))) r list) where
     path-first : pathIn first ≡ numbersIn (octetsOf (contentOf s v))
     path-first =
         ap (λ (c : Rattle.forest.specs.Content.Content). numbersIn (octetsOf c)) (first-member s rows)

@@ -114,7 +114,3 @@ module _ (w : ℕ) (text store : List ℕ) (table : Rows) (path cells : List ℕ
             pub message-told : (x : Sheet) (path′ cells′ : List ℕ) → Tells (ofMessage w (take k store′)) path cells x path′ cells′
                 → (s : List ℕ) (rows : Rows) → whole ≡ told x s rows path′ cells′
             message-told x path′ cells′ t s rows = holds-message .1 ∙ t s rows
-
--- a message is a part of the store
-pub front-all : (t : List ℕ) (n : ℕ) → length t ≤ n → take (length t) t ≡ take n t
-front-all t n h = lib.Seq.take-length t ∙ sym (lib.Seq.take-all n t h)

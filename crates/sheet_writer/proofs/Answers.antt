@@ -15,7 +15,7 @@ use Rattle.routing.specs.declared.Figures.{Figures}
 use Rattle.routing.specs.Crosspoints.{Cells}
 use Rattle.desk_calls.specs.Calls.{deskLegal}
 use Rattle.sheets.specs.Sheet.{desk, sheetMessage, sheetOf}
-use Rattle.sheets.specs.Steps.{breaksInto}
+use Rattle.sheets.specs.Sheet.{breaksInto}
 use Rattle.sheets.proofs.Suited.{sheet-legal}
 use Rattle.sheets.proofs.Theorems.{bytes-of}
 use Rattle.sheets.proofs.Sizes.{sheet-octets, sheet-size}
