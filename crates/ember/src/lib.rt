@@ -236,16 +236,12 @@ fn lengths_fit(rows: usize, answers: usize, cells: usize, path: usize, words: us
     path <= 16
 }
 
-// A message of n bytes is a part of the store.
+// The message's end in the store.
 fn front(store: &[u8], n: u64) -> usize
     ensures { λ r. ⌜ take r (now (store .entry)) ≡ take n (now (store .entry)) ⌝ }
     ensures { λ r. ⌜ r ≤ length (now (store .entry)) ⌝ }
 {
-    let k = n as usize;
-    if k < store.len() {
-        return k;
-    }
-    store.len()
+    turns::front(store, n as usize)
 }
 
 // What comes after the session's call: nothing, unless it gave 3.
