@@ -1,0 +1,4 @@
+pub mod Rules
+pub mod Supervisor
+pub mod Events
+pub mod Promise
