@@ -48,27 +48,65 @@ pub request-unfinished : (xs : List ℕ) (m : Message) → contentOf xs ≡ cont
 unfolding byte inPlace ends
 request-unfinished xs m e = (rw e, rw e)
 
+-- ---- "an event shown then counts first"
+
+-- At any time after asking an event begins a new silence, and nothing is due at that showing.
+pub event-first : (t now : ℕ) → step (asked t) now Event ≡ record { answer = say.Nothing; next = silent now }
+event-first t now = refl
+
+-- ---- "dead, for good, asking no more"
+
+-- A dead link is answered with dead, and a request with its response.
+abbrev pub deadAnswer : Happened → Answer
+deadAnswer Nothing = say.Dead
+deadAnswer Event = say.Dead
+deadAnswer Request = say.Respond
+
+pub dead-step : (now : ℕ) (k : Happened) → step dead now k ≡ record { answer = deadAnswer k; next = dead }
+dead-step now Nothing = refl
+dead-step now Event = refl
+dead-step now Request = refl
+
+pub dead-for-good : (xs : List Showing) → (answers dead xs ≡ map (λ (x : Showing). deadAnswer (x .happened)) xs) × (after dead xs ≡ dead)
+dead-for-good [] = (refl, refl)
+dead-for-good (x ∷ xs) = let more = dead-for-good xs in (rw (dead-step (x .time) (x .happened), more .0), rw (dead-step (x .time) (x .happened)) (more .1))
+
 -- ---- "it asks, once a silence"
 
-pub Quiet : List Showing → Type 0
+-- showings without an event
+abbrev pub Quiet : List Showing → Type 0
 Quiet [] = Unit {0}
 Quiet (x ∷ xs) = (isEvent (x .happened) ≡ false) × Quiet xs
 
-pub isAsk : Answer → Bool
-isAsk say.Nothing = false
-isAsk say.Ask = true
-isAsk say.Respond = false
-isAsk say.Dead = false
+-- how often a request is asked for
+abbrev pub counted : Answer → ℕ → ℕ
+counted say.Nothing n = n
+counted say.Ask n = n + 1
+counted say.Respond n = n
+counted say.Dead n = n
 
-pub asks : List Answer → ℕ
+abbrev pub asks : List Answer → ℕ
 asks [] = 0
-asks (r ∷ rs) = pick (isAsk r) 1 0 + asks rs
+asks (r ∷ rs) = counted r (asks rs)
 
 not-event : (k : Happened) → isEvent k ≡ false → k ≡ Nothing
 not-event Nothing h = refl
 not-event Event h = let z : _≡_ {A = ℕ} 0 1 = cc in absurd (omega arith)
 not-event Request h = let z : _≡_ {A = ℕ} 0 1 = cc in absurd (omega arith)
 
-asks-none-dead : (xs : List Showing) → asks (answers dead xs) ≡ 0
-asks-none-dead [] = refl
-asks-none-dead (x ∷ xs) = ?
+none-dead : (xs : List Showing) → Quiet xs → asks (answers dead xs) ≡ 0
+none-dead [] q = refl
+none-dead (x ∷ xs) q = rw (not-event (x .happened) (q .0)) (none-dead xs (q .1))
+
+none-asked : (t : ℕ) (xs : List Showing) → Quiet xs → asks (answers (asked t) xs) ≡ 0
+none-asked t [] q = refl
+none-asked t (x ∷ xs) q =
+    rw (not-event (x .happened) (q .0))
+    (pick-by (λ (w : Step). counted (w .answer) (asks (answers (w .next) xs)) ≡ 0) (due t (x .time)) (λ d. none-dead xs (q .1)) (λ d. none-asked t xs (q .1)))
+
+pub asks-once : (t : ℕ) (xs : List Showing) → Quiet xs → asks (answers (silent t) xs) ≤ 1
+asks-once t [] q = omega arith
+asks-once t (x ∷ xs) q =
+    rw (not-event (x .happened) (q .0))
+    (pick-by (λ (w : Step). counted (w .answer) (asks (answers (w .next) xs)) ≤ 1) (due t (x .time))
+    (λ d. omega (arith, none-asked (x .time) xs (q .1))) (λ d. asks-once t xs (q .1)))
