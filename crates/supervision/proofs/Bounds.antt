@@ -4,7 +4,7 @@ use mathlib.Core.Bool.{Bool, true, false}
 use mathlib.Core.List.{List, [], _∷_}
 use mathlib.Core.Path.{_≡_, refl}
 use native.Mathlib.Omega.{arith}
-use borrow.Author.Tests.{leb-true, leb-false}
+use borrow.Author.Tests.{leb-true, leb-false, lt-leb}
 use Rattle.framing.specs.Numbers.{pick}
 use Rattle.framing.proofs.Laws.{pick-by}
 use Rattle.supervision.specs.declared.Answer.{Answer}
@@ -33,6 +33,10 @@ event-to e t Nothing h = h
 event-to e t Event h = omega arith
 event-to e t Request h = omega arith
 
+-- with an event nothing is due
+pub not-due : (t : ℕ) → due t t ≡ false
+not-due t = lt-leb (t + 5000) t (omega arith)
+
 -- the last event of all is no earlier than the last one so far
 last-after : (e : ℕ) {a z : ℕ} {xs : List Showing} → e ≤ a → Often a xs z → e ≤ lastEvent e xs
 last-after e h (last m n) = omega arith
@@ -58,8 +62,8 @@ module _ (e a z t : ℕ) (xs : List Showing) (m : a ≤ t) (n : t ≤ a + 1000) 
       pick-by (λ (w : Step). DeadBy (lastEvent e xs + 12000) (at t Nothing ∷ xs) (w .answer ∷ answers (w .next) xs)) (due u t)
       (λ d. here (omega (arith, last-after e j more)))
       (λ d. later (rest _ (called u (omega arith) g (omega (arith, leb-false (u + 5000) t d))) h))
-  dies-on Event rest (quiet f g) h = later (rest _ (quiet (omega arith) (omega arith)) h)
-  dies-on Event rest (called u f g i) h = later (rest _ (quiet (omega arith) (omega arith)) h)
+  dies-on Event rest (quiet f g) h = rw (not-due t) (later (rest _ (quiet (omega arith) (omega arith)) h))
+  dies-on Event rest (called u f g i) h = rw (not-due t) (later (rest _ (quiet (omega arith) (omega arith)) h))
   dies-on Request rest (quiet f g) h = later (rest _ (quiet (omega arith) (omega arith)) h)
   dies-on Request rest (called u f g i) h = later (rest _ (quiet (omega arith) (omega arith)) h)
 
@@ -78,7 +82,7 @@ module _ (e t : ℕ) (xs : List Showing) (soon : t ≤ e + 4000) where
   lives-on Nothing rest =
       pick-by (λ (w : Step). NeverDead (w .answer ∷ answers (w .next) xs)) (due e t)
       (λ d. absurd (omega (arith, leb-true (e + 5000) t d))) (λ d. (refl, rest))
-  lives-on Event rest = (refl, rest)
+  lives-on Event rest = rw (not-due t) (refl, rest)
   lives-on Request rest = (refl, rest)
 
 -- A link with an event in every 4,000 ms is never declared dead.

@@ -21,6 +21,7 @@ use Rattle.supervision.specs.Events.{happenedBy}
 use Rattle.supervision.specs.Rules.{Showing, State, silent, asked, dead, Step, due, hears, step, answers, after}
 use Rattle.supervision.specs.Supervisor.{shows}
 use Rattle.supervision.specs.Promise.{isEvent}
+use Rattle.supervision.proofs.Bounds.{not-due}
 
 -- ---- "An incoming request always gets its response, also on a link with an unfinished message."
 
@@ -52,7 +53,7 @@ request-unfinished xs m e = (rw e, rw e)
 
 -- At any time after asking an event begins a new silence, and nothing is due at that showing.
 pub event-first : (t now : ℕ) → step (asked t) now Event ≡ record { answer = say.Nothing; next = silent now }
-event-first t now = refl
+event-first t now = rw (not-due now)
 
 -- ---- "dead, for good, asking no more"
 

@@ -13,9 +13,9 @@ use Rattle.supervision.specs.declared.Link.{Link}
 use Rattle.supervision.specs.declared.Link.the-variants.{Silent, Asked, Dead}
 use Rattle.supervision.specs.declared.Shown.{Shown}
 use Rattle.supervision.specs.Events.{happenedBy}
-use Rattle.supervision.specs.Supervisor.{elapsed, waited, told, shows}
+use Rattle.supervision.specs.Supervisor.{elapsed, gone, waited, heard, shows}
 
--- ---- nothing happened
+-- ---- what is due
 
 module _ {l : Link} (since tick : ℕ) {g : ℕ} (gap : g ≡ elapsed since tick) where
   pub asks : l ≡ Silent since → 5000 ≤ g → waited l tick ≡ record { answer = say.Ask; link = Asked tick }
@@ -26,7 +26,7 @@ module _ {l : Link} (since tick : ℕ) {g : ℕ} (gap : g ≡ elapsed since tick
   unfolding waited
   rests e h = rw (e, ← gap, lt-leb _ _ h)
 
-  pub dies : l ≡ Asked since → 5000 ≤ g → waited l tick ≡ record { answer = say.Dead; link = Dead }
+  pub dies : l ≡ Asked since → 5000 ≤ g → waited l tick ≡ gone
   unfolding waited
   dies e h = rw (e, ← gap, le-leb _ _ h)
 
@@ -34,23 +34,9 @@ module _ {l : Link} (since tick : ℕ) {g : ℕ} (gap : g ≡ elapsed since tick
   unfolding waited
   hopes e h = rw (e, ← gap, lt-leb _ _ h)
 
-pub stays-dead : {l : Link} (tick : ℕ) → l ≡ Dead → waited l tick ≡ record { answer = say.Dead; link = Dead }
+pub stays-dead : {l : Link} (tick : ℕ) → l ≡ Dead → waited l tick ≡ gone
 unfolding waited
 stays-dead tick e = rw e
-
--- ---- an event
-
-pub new-silence : {l : Link} {since : ℕ} (tick : ℕ) → l ≡ Silent since → told l tick ≡ record { answer = say.Nothing; link = Silent tick }
-unfolding told
-new-silence tick e = rw e
-
-pub new-silence-asked : {l : Link} {since : ℕ} (tick : ℕ) → l ≡ Asked since → told l tick ≡ record { answer = say.Nothing; link = Silent tick }
-unfolding told
-new-silence-asked tick e = rw e
-
-pub told-dead : {l : Link} (tick : ℕ) → l ≡ Dead → told l tick ≡ record { answer = say.Dead; link = Dead }
-unfolding told
-told-dead tick e = rw e
 
 -- ---- any showing
 
@@ -59,11 +45,11 @@ module _ (l : Link) (tick : ℕ) {h : Happened} where
   unfolding shows
   shows-nothing e = rw e
 
-  pub shows-event : h ≡ happened.Event → shows l tick h ≡ told l tick
+  pub shows-event : {m : Link} → h ≡ happened.Event → m ≡ heard l tick → shows l tick h ≡ waited m tick
   unfolding shows
-  shows-event e = rw e
+  shows-event e f = rw (e, f)
 
-  pub shows-request : {s : Shown} → h ≡ happened.Request → s ≡ told l tick → shows l tick h ≡ record { answer = say.Respond; link = s .link }
+  pub shows-request : {m : Link} → h ≡ happened.Request → m ≡ heard l tick → shows l tick h ≡ record { answer = say.Respond; link = m }
   unfolding shows
   shows-request e f = rw (e, f)
 

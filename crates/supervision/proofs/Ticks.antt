@@ -14,7 +14,7 @@ use Rattle.supervision.specs.declared.Link.{Link}
 use Rattle.supervision.specs.declared.Link.the-variants.{Silent, Asked, Dead}
 use Rattle.supervision.specs.declared.Shown.{Shown}
 use Rattle.supervision.specs.Rules.{Showing, State, silent, asked, dead, Step, begins, due, waits, hears, step, answers, after}
-use Rattle.supervision.specs.Supervisor.{wrap, elapsed, begun, isDue, waited, told, shows}
+use Rattle.supervision.specs.Supervisor.{wrap, elapsed, begun, isDue, waited, heard, shows}
 use Rattle.supervision.specs.Promise.{tickAt, Often, last, next, Calls, none, call}
 
 -- "shown equal to the true gap under the shown-often premise" (document 01, "Forms"): of two times less than 2^32 ms apart the ticks' wrapping difference is the gap.
@@ -58,15 +58,15 @@ module _ (o : ℕ) {a : ℕ} (b : ℕ) (h : a ≤ b) (k : b ≤ a + 1000) where
       (λ e. record { answer = refl; holds = waiting {t = t} (omega arith) (omega (arith, leb-false (t + 5000) b e)) }))
   same-waits gone = record { answer = refl; holds = gone }
 
-  same-hears : {l : Link} {s : State} → Holds o a l s → Same o b (told l (tickAt o b)) (hears s b)
-  unfolding told
-  same-hears (still m n) = record { answer = refl; holds = still {t = b} (omega arith) (omega arith) }
-  same-hears (waiting m n) = record { answer = refl; holds = still {t = b} (omega arith) (omega arith) }
-  same-hears gone = record { answer = refl; holds = gone }
+  holds-hears : {l : Link} {s : State} → Holds o a l s → Holds o b (heard l (tickAt o b)) (hears s b)
+  holds-hears (still m n) = still {t = b} (omega arith) (omega arith)
+  holds-hears (waiting m n) = still {t = b} (omega arith) (omega arith)
+  holds-hears gone = gone
 
+module _ (o : ℕ) {a : ℕ} (b : ℕ) (h : a ≤ b) (k : b ≤ a + 1000) where
   -- a showing
   pub same-step : {l : Link} {s : State} (x : Happened) → Holds o a l s → Same o b (shows l (tickAt o b) x) (step s b x)
   unfolding shows
-  same-step Nothing q = same-waits q
-  same-step Event q = same-hears q
-  same-step Request q = record { answer = refl; holds = same-hears q .holds }
+  same-step Nothing q = same-waits o b h k q
+  same-step Event q = same-waits o b (omega arith) (omega arith) (holds-hears o b h k q)
+  same-step Request q = record { answer = refl; holds = holds-hears o b h k q }

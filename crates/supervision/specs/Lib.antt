@@ -2,3 +2,4 @@ pub mod Rules
 pub mod Supervisor
 pub mod Events
 pub mod Promise
+pub mod Vectors

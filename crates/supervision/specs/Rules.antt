@@ -33,7 +33,7 @@ begins t = silent t
 abbrev pub due : ℕ → ℕ → Bool
 due since now = leb (since + 5000) now
 
--- Nothing happened.
+-- What is due at a time.
 abbrev pub waits : State → ℕ → Step
 -- "At 5,000 ms or more without any event it asks, once a silence, for a keep-alive request to be written."
 waits (silent t) now =
@@ -46,17 +46,18 @@ waits (asked t) now =
 -- ".. for good, asking no more"
 waits dead now = record { answer = say.Dead; next = dead }
 
--- An event. "an event shown then counts first": with it a new silence begins, in which nothing is due yet. A dead link is dead "for good".
-abbrev pub hears : State → ℕ → Step
-hears (silent t) now = record { answer = say.Nothing; next = silent now }
-hears (asked t) now = record { answer = say.Nothing; next = silent now }
-hears dead now = record { answer = say.Dead; next = dead }
+-- An event begins a new silence. A dead link is dead "for good".
+abbrev pub hears : State → ℕ → State
+hears (silent t) now = silent now
+hears (asked t) now = silent now
+hears dead now = dead
 
--- "An incoming request always gets its response": also on a dead link, which stays dead.
 abbrev pub step : State → ℕ → Happened → Step
 step s now Nothing = waits s now
-step s now Event = hears s now
-step s now Request = record { answer = say.Respond; next = hears s now .next }
+-- "an event shown then counts first"
+step s now Event = waits (hears s now) now
+-- "An incoming request always gets its response": also on a dead link, which stays dead.
+step s now Request = record { answer = say.Respond; next = hears s now }
 
 -- The answers to showings one after another, and the link after them.
 abbrev pub answers : State → List Showing → List Answer

@@ -27,24 +27,25 @@ begun tick = Silent tick
 abbrev pub isDue : ℕ → ℕ → Bool
 isDue since tick = leb 5000 (elapsed since tick)
 
--- nothing happened
+abbrev pub gone : Shown
+gone = record { answer = say.Dead; link = Dead }
+
+-- what is due at a tick
 unfoldable pub waited : Link → ℕ → Shown
 waited (Silent t) tick =
     pick (isDue t tick) (record { answer = say.Ask; link = Asked tick })
     (record { answer = say.Nothing; link = Silent t })
-waited (Asked t) tick =
-    pick (isDue t tick) (record { answer = say.Dead; link = Dead })
-    (record { answer = say.Nothing; link = Asked t })
-waited Dead tick = record { answer = say.Dead; link = Dead }
+waited (Asked t) tick = pick (isDue t tick) gone (record { answer = say.Nothing; link = Asked t })
+waited Dead tick = gone
 
--- an event
-unfoldable pub told : Link → ℕ → Shown
-told (Silent t) tick = record { answer = say.Nothing; link = Silent tick }
-told (Asked t) tick = record { answer = say.Nothing; link = Silent tick }
-told Dead tick = record { answer = say.Dead; link = Dead }
+-- after an event
+abbrev pub heard : Link → ℕ → Link
+heard (Silent t) tick = Silent tick
+heard (Asked t) tick = Silent tick
+heard Dead tick = Dead
 
--- What a showing gives.
+-- What a showing gives. "an event shown then counts first"; "An incoming request always gets its response".
 unfoldable pub shows : Link → ℕ → Happened → Shown
 shows l tick Nothing = waited l tick
-shows l tick Event = told l tick
-shows l tick Request = record { answer = say.Respond; link = told l tick .link }
+shows l tick Event = waited (heard l tick) tick
+shows l tick Request = record { answer = say.Respond; link = heard l tick }

@@ -5,7 +5,7 @@ ghost use mathlib.Core.Path.{_≡_};
 ghost use mathlib.Core.List.{[]};
 ghost use Rattle.framing.specs.Session.{saidBy};
 ghost use Rattle.supervision.specs.Events.{happenedBy};
-ghost use Rattle.supervision.specs.Supervisor.{begun, elapsed, waited, told, shows};
+ghost use Rattle.supervision.specs.Supervisor.{begun, elapsed, gone, waited, heard, shows};
 
 // A silence is due at this many milliseconds: for a request to be asked for, and after asking for the link to be dead.
 const SILENCE: u32 = 5000;
@@ -59,7 +59,14 @@ fn gives(answer: Answer, link: Link) -> Shown
     Shown { answer, link }
 }
 
-// Nothing happened.
+// A dead link is dead for good.
+fn dead() -> Shown
+    ensures { λ r. ⌜ r ≡ gone ⌝ }
+{
+    gives(Answer::Dead, Link::Dead)
+}
+
+// What is due, after what happened has counted.
 fn wait(link: Link, tick: u32) -> Shown
     ensures { λ r. ⌜ r ≡ waited link tick ⌝ }
 {
@@ -72,35 +79,37 @@ fn wait(link: Link, tick: u32) -> Shown
         }
         Link::Asked { since } => {
             if SILENCE <= gap(since, tick) {
-                return gives(Answer::Dead, Link::Dead);
+                return dead();
             }
             gives(Answer::Nothing, Link::Asked { since })
         }
-        Link::Dead => gives(Answer::Dead, Link::Dead),
+        Link::Dead => dead(),
     }
 }
 
 // An event begins a new silence, save on a dead link.
-fn tell(link: Link, tick: u32) -> Shown
-    ensures { λ r. ⌜ r ≡ told link tick ⌝ }
+fn hear(link: Link, tick: u32) -> Link
+    ensures { λ r. ⌜ r ≡ heard link tick ⌝ }
 {
     match link {
-        Link::Silent { since: _ } => gives(Answer::Nothing, Link::Silent { since: tick }),
-        Link::Asked { since: _ } => gives(Answer::Nothing, Link::Silent { since: tick }),
-        Link::Dead => gives(Answer::Dead, Link::Dead),
+        Link::Silent { since: _ } => Link::Silent { since: tick },
+        Link::Asked { since: _ } => Link::Silent { since: tick },
+        Link::Dead => Link::Dead,
     }
 }
 
-// Shows the supervisor a tick and what happened at it.
+// Shows the supervisor a tick and what happened at it. An event counts first.
 pub fn show(link: Link, tick: u32, happened: Happened) -> Shown
     ensures { λ r. ⌜ r ≡ shows link tick happened ⌝ }
 {
     match happened {
         Happened::Nothing => wait(link, tick),
-        Happened::Event => tell(link, tick),
+        Happened::Event => {
+            let next = hear(link, tick);
+            wait(next, tick)
+        }
         Happened::Request => {
-            let s = tell(link, tick);
-            let next = s.link;
+            let next = hear(link, tick);
             gives(Answer::Respond, next)
         }
     }

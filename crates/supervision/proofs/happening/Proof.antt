@@ -3,74 +3,58 @@ use Rattle.supervision.proofs.Laws.{refused-counts}
 use borrow.Author.Needs.{needs}
 use Rattle.supervision.proofs.happening.Statement.{statement}
 use Rattle.supervision.proofs.happening.Tie as tie
-use Rattle.supervision.proofs.happening.Reads as reads
-use Rattle.supervision.proofs.happening.Lts as lts
 
--- src/lib.rt:114:24
 enum-told : tie.Need-enum-told
 enum-told c = search needs
 
--- src/lib.rt:115:25
 enum-told-2 : tie.Need-enum-told-2
 enum-told-2 c = search needs
 
--- src/lib.rt:116:42
 enum-told-3 : tie.Need-enum-told-3
 enum-told-3 c = search needs
 
--- src/lib.rt:120:14
 enum-told-4 : tie.Need-enum-told-4
 enum-told-4 c = search needs
 
--- src/lib.rt:121:27
 enum-told-5 : tie.Need-enum-told-5
 enum-told-5 c = search needs
 
--- src/lib.rt:122:28
 enum-told-6 : tie.Need-enum-told-6
 enum-told-6 c = search needs
 
--- src/lib.rt:126:14
 enum-told-7 : tie.Need-enum-told-7
 enum-told-7 c = search needs
 
--- src/lib.rt:110:1
 returns : tie.Need-returns
 returns c =
     let the-enum-told = c .enum-told in
     rw (the-enum-told .given .1)
 
--- src/lib.rt:110:1
 returns-2 : tie.Need-returns-2
 returns-2 c =
     let the-enum-told2 = c .enum-told2 in
     rw (the-enum-told2 .given .1)
 
--- src/lib.rt:110:1
 returns-3 : tie.Need-returns-3
 returns-3 c =
     let the-enum-told3 = c .enum-told3 in
     rw (the-enum-told3 .given .1)
 
--- src/lib.rt:110:1
 returns-4 : tie.Need-returns-4
 returns-4 c =
     let the-enum-told4 = c .enum-told4 in
     rw (the-enum-told4 .given .1)
 
--- src/lib.rt:110:1
 returns-5 : tie.Need-returns-5
 returns-5 c =
     let the-enum-told5 = c .enum-told5 in
     rw (the-enum-told5 .given .1)
 
--- src/lib.rt:110:1
 returns-6 : tie.Need-returns-6
 returns-6 c =
     let the-enum-told6 = c .enum-told6 in
     rw (the-enum-told6 .given .1)
 
--- src/lib.rt:110:1
 returns-7 : tie.Need-returns-7
 returns-7 c =
     let the-enum-told7 = c .enum-told7 in
