@@ -73,7 +73,7 @@ pub in-time : {e a z : ℕ} {s : State} {xs : List Showing} → Often a xs z →
 in-time (last m n) (quiet f g) h = absurd (omega arith)
 in-time (last m n) (called u f g i) h = absurd (omega arith)
 in-time {e} {a} {z} (next {xs = xs} x m n more) q h =
-    dies-on e a z (x .time) xs m n more (x .happened) (λ s′ q′ h′. in-time more q′ h′) q h
+    dies-on e a z (x .time) xs m (omega arith) more (x .happened) (λ s′ q′ h′. in-time more q′ h′) q h
 
 -- ---- never dead
 

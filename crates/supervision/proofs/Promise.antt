@@ -31,7 +31,7 @@ pub as-rules : {o a z : ℕ} {l l′ : Link} {s : State} {xs : List Showing} {rs
     → rs ≡ answers s xs
 as-rules none (last m n) q = refl
 as-rules {o} {s = s} (call {rs = rs} x r e more) (next _ m n often) q =
-    let f = same-step o (x .time) m n (x .happened) q in
+    let f = same-step o (x .time) m (omega arith) (x .happened) q in
     let w = step s (x .time) (x .happened) in
     let h : Holds o (x .time) (r .link) (w .next) = subst (λ (g : Shown). Holds o (x .time) (g .link) (w .next)) (sym e) (f .holds) in
     ap (λ (g : Answer). g ∷ rs) (ap (λ (g : Shown). g .answer) e ∙ f .answer) ∙ ap (λ (gs : List Answer). w .answer ∷ gs) (as-rules more often h)
