@@ -154,6 +154,10 @@ pub fn input(seed: u64, count: usize) -> (Vec<u8>, [usize; 5]) {
     out += &format!("start {}\n", time as u32);
     kinds[0] += 1;
     for _ in 0..count {
+        // Of a dead link a few showings tell all.
+        if supervisor.dead && random.one_in(6) {
+            break;
+        }
         if random.one_in(60) {
             malformed(&mut random, &mut out, &mut kinds);
         }
