@@ -248,11 +248,13 @@ pub fn stored() -> Vec<u8> {
     // As late as can be: asked at 5,999, and dead at 11,998; then for good.
     time += 1;
     out += &line(time, Event);
-    time += 999;
-    out += &line(time, Nothing);
-    for _ in 0..11 {
-        time += 1_000;
+    for _ in 0..2 {
+        time += 999;
         out += &line(time, Nothing);
+        for _ in 0..5 {
+            time += 1_000;
+            out += &line(time, Nothing);
+        }
     }
     for _ in 0..3 {
         for (ahead, happened) in
