@@ -21,4 +21,13 @@ fn main() {
             println!("cargo:rustc-cfg=glow_write");
         }
     }
+    // Whole turns, where a library has them: the name of the library and of the function, `LIBRARY` and `TURN`.
+    const LIBRARY: &str = "ember";
+    const TURN: &[u8] = b"ember_turn\0";
+    let path = folder.join(format!("lib{LIBRARY}.a"));
+    println!("cargo:rerun-if-changed={}", path.display());
+    if std::fs::read(path).is_ok_and(|octets| octets.windows(TURN.len()).any(|window| window == TURN)) {
+        println!("cargo:rustc-cfg=ember");
+        println!("cargo:rustc-link-lib=static={LIBRARY}");
+    }
 }

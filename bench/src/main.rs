@@ -1,7 +1,7 @@
 //! The proved session (the static library) beside two in safe Rust, a plain one and one with the proved one's strides, on
 //! three streams: megabytes a second of each, and the ratios. `bench [MEGABYTES [CHUNK]]`, 16 and 65,536 if not given;
 //! `bench tree [ROUNDS]`, `bench growth [ROUNDS]` and `bench stack` measure the tree readers, `bench write [ROUNDS]` the tree
-//! writers.
+//! writers, `bench turns [REQUESTS]` whole turns.
 mod glow;
 mod inputs;
 mod plain;
@@ -9,6 +9,7 @@ mod proved;
 mod strided;
 #[cfg(test)]
 mod tests;
+mod turns;
 
 use std::hint::black_box;
 use std::time::Instant;
@@ -80,6 +81,10 @@ fn main() {
     if words.next_if(|word| word == "write").is_some() {
         let rounds = words.next().map_or(100, |word| word.parse().expect("a number"));
         return glow::write::main(rounds);
+    }
+    if words.next_if(|word| word == "turns").is_some() {
+        let requests = words.next().map_or(16_384, |word| word.parse().expect("a number"));
+        return turns::main(requests);
     }
     if words.next_if(|word| word == "stack").is_some() {
         return glow::stack::main(words.map(|word| word.parse().expect("a number")).collect());

@@ -1,5 +1,6 @@
 //! The proved programs beside this decoder, on fresh cases.
 
+use crate::desk_text::{Program, Said};
 use crate::gen::{self, case_seed};
 use crate::{lines, listing, programs, tree_text, watch};
 use std::collections::BTreeMap;
@@ -10,14 +11,19 @@ use std::sync::mpsc;
 use std::time::{Duration, Instant};
 
 const USAGE: &str = "usage: reference compare ROOT NAME... [--seed S] [--count N] [--seconds T] [--program PATH] [--write]
-NAME is frames, octets, packets, tree, listing or watch; the program is ROOT/target/bin/NAME unless --program names it
+NAME is frames, octets, packets, tree, listing, desk, sheet or watch; the program is ROOT/target/bin/NAME unless --program names it
 --write: the program tree is also asked to write
 ";
 
 /// Requests in one run of `octets`, `packets` or `tree`.
 const BATCH: usize = 1_000;
+/// Scripts in one run of `desk`.
+const SCRIPTS: usize = 100;
 /// The longest that one run of a program may take.
 const RUN_LIMIT: Duration = Duration::from_secs(20);
+
+/// A pipe holds that much, and more, before anybody reads.
+const PIPE: usize = 32_768;
 
 struct Plan {
     seed: u64,
@@ -32,6 +38,8 @@ struct Case {
     input: Vec<u8>,
     expected: String,
     kinds: Vec<(String, usize)>,
+    /// The answers by kind, where the generator knows them.
+    answers: Option<Vec<(String, usize)>>,
     /// How many cases it counts for.
     cases: u64,
     /// The command that prints the input.
@@ -84,6 +92,7 @@ fn case(name: &str, seed: u64, left: u64, writes: bool) -> Option<Case> {
         input,
         expected,
         kinds: kinds.into_iter().map(|(kind, count)| (kind.to_string(), count)).collect(),
+        answers: None,
         cases,
         again: format!("reference generate {name} {seed} {size}"),
     };
@@ -121,6 +130,22 @@ fn case(name: &str, seed: u64, left: u64, writes: bool) -> Option<Case> {
             let expected = listing::listing(&input);
             with(input, expected, gen::tree::KINDS.into_iter().zip(kinds).collect(), 1, size)
         }
+        "desk" => {
+            let size = SCRIPTS.min(left as usize);
+            let script = gen::desk::scripts::input(seed, size);
+            let mut case = with(script.text, script.output, vec![("script", size)], size as u64, size);
+            case.answers = Some(script.counts.into_iter().collect());
+            case
+        }
+        "sheet" => {
+            let (input, kind) = gen::desk::sheets::input(seed);
+            let expected = programs::sheets(&input);
+            let mut case = with(input, expected, vec![(gen::desk::sheets::KINDS[kind], 1)], 1, 0);
+            let number = case.expected.lines().next().unwrap_or_default();
+            case.answers = Some(vec![(format!("{number:0>2}"), 1)]);
+            case.again = format!("reference generate sheet {seed}");
+            case
+        }
         "watch" => {
             let size = 1 + (seed % 80) as usize;
             let (input, kinds) = gen::watch::input(seed, size);
@@ -155,8 +180,17 @@ fn one(name: &str, path: &Path, plan: &Plan) -> i32 {
         for (kind, count) in &case.kinds {
             *kinds.entry(kind.clone()).or_default() += count;
         }
-        for line in case.expected.lines() {
-            *answers.entry(answer_kind(name, line)).or_default() += 1;
+        match &case.answers {
+            Some(known) => {
+                for (answer, count) in known {
+                    *answers.entry(answer.clone()).or_default() += count;
+                }
+            }
+            None => {
+                for line in case.expected.lines() {
+                    *answers.entry(answer_kind(name, line)).or_default() += 1;
+                }
+            }
         }
         if actual != case.expected.as_bytes() {
             show_difference(name, &case, &actual, plan.writes);
@@ -228,12 +262,40 @@ fn show_difference(name: &str, case: &Case, actual: &[u8], writes: bool) {
             }
         }
     }
+    if name == "desk" {
+        return show_script(&case.input, at);
+    }
     println!("--- input");
     println!("{}", String::from_utf8_lossy(&case.input));
     println!("--- decoder");
     print!("{}", case.expected);
     println!("--- program");
     print!("{}", String::from_utf8_lossy(actual));
+    println!("---");
+}
+
+/// The script up to the line that printed line `at` of the output, from the `open` that its desk comes from, each with what the
+/// decoder prints.
+fn show_script(input: &[u8], at: usize) {
+    let mut program = Program::start();
+    let mut before = 0;
+    let mut since: Vec<(String, String)> = Vec::new();
+    for line in lines::lines(input) {
+        let said = program.line(line);
+        if matches!(said, Said::Opened(_)) {
+            since.clear();
+        }
+        let text = said.text();
+        before += text.lines().count();
+        since.push((String::from_utf8_lossy(line).into_owned(), text));
+        if before > at {
+            break;
+        }
+    }
+    println!("--- script, and after each line what the decoder prints");
+    for (line, said) in since {
+        print!("{line}\n{}", said.lines().map(|line| format!("  > {line}\n")).collect::<String>());
+    }
     println!("---");
 }
 
@@ -246,11 +308,17 @@ fn run(path: &Path, input: &[u8]) -> Result<Vec<u8>, String> {
         .map_err(|error| format!("cannot be started: {error}"))?;
     let mut stdin = child.stdin.take().unwrap();
     let mut stdout = child.stdout.take().unwrap();
-    let input = input.to_vec();
     // A program that stops at a bad line need not read the rest.
-    let writer = std::thread::spawn(move || {
-        let _ = stdin.write_all(&input);
-    });
+    let writer = if input.len() <= PIPE {
+        let _ = stdin.write_all(input);
+        drop(stdin);
+        None
+    } else {
+        let input = input.to_vec();
+        Some(std::thread::spawn(move || {
+            let _ = stdin.write_all(&input);
+        }))
+    };
     let (send, receive) = mpsc::channel();
     std::thread::spawn(move || {
         let mut output = Vec::new();
@@ -262,7 +330,7 @@ fn run(path: &Path, input: &[u8]) -> Result<Vec<u8>, String> {
         let _ = child.kill();
     }
     let status = child.wait().map_err(|error| error.to_string())?;
-    let _ = writer.join();
+    let _ = writer.map(|writer| writer.join());
     match output {
         Err(_) => Err(format!("no end after {} s", RUN_LIMIT.as_secs())),
         Ok(Err(error)) => Err(error.to_string()),

@@ -184,9 +184,9 @@ impl Desk {
     }
 
     /// The desk's call on the entries of a message, as read: an answer for each connection, in order. Err is 1:
-    /// "desk not legal, entries handed in ... that make no tree the reader accepts".
+    /// "desk not legal, entries handed in ... that make no tree the reader accepts", in their shortest form (H1).
     pub fn call(&mut self, tree: &Tree) -> Result<Vec<u8>, u8> {
-        if !self.legal() || tree_writer::write(tree).is_err() {
+        if !self.legal() || tree_writer::least(tree).is_err() {
             return Err(SETUP);
         }
         let mut answers = Vec::new();

@@ -3,6 +3,7 @@
 pub mod compare;
 pub mod compare_rows;
 pub mod desk;
+pub mod desk_text;
 pub mod framing;
 pub mod gateway;
 pub mod gen;

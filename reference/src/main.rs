@@ -3,7 +3,7 @@
 #[cfg(glow_rows)]
 mod library;
 
-use reference::{compare, compare_rows, gen, listing, programs, store, tree_text, watch};
+use reference::{compare, compare_rows, desk_text, gen, listing, programs, store, tree_text, watch};
 use std::io::{Read, Write};
 use std::process::exit;
 
@@ -12,7 +12,7 @@ const USAGE: &str = "usage:
   reference tree --write < input
   reference generate frames|octets|packets|tree|listing|messages|rows|desk|watch SEED COUNT
   reference generate tree SEED COUNT --write
-  reference generate sheet SEED DAMAGES
+  reference generate sheet SEED
   reference store [--check] [--write] [ROOT]
   reference compare ROOT NAME... [--seed S] [--count N] [--seconds T] [--program PATH] [--write]
   reference compare rows N SEED
@@ -29,13 +29,14 @@ fn main() {
         ["tree"] => print(tree_text::trees(&input(), tree_text::WRITES).as_bytes()),
         ["tree", "--write"] => print(tree_text::trees(&input(), true).as_bytes()),
         ["rewrite"] => print(programs::trees(&input()).as_bytes()),
-        ["desk"] => print(programs::desks(&input()).as_bytes()),
+        ["desk"] => print(desk_text::desks(&input()).as_bytes()),
         ["sheet"] => print(programs::sheets(&input()).as_bytes()),
         ["watch"] => print(watch::watch(&input()).as_bytes()),
         ["generate", "tree", seed, count, "--write"] => {
             let number = |word: &str| word.parse().unwrap_or_else(|_| usage());
             print(&gen::tree::requests::input(number(seed), number(count) as usize, true).0)
         }
+        ["generate", "sheet", seed] => print(&gen::desk::sheets::input(seed.parse().unwrap_or_else(|_| usage())).0),
         ["generate", kind, seed, count] => {
             let seed = seed.parse().unwrap_or_else(|_| usage());
             let count = count.parse().unwrap_or_else(|_| usage());
@@ -47,8 +48,7 @@ fn main() {
                 "tree" => print(&gen::tree::requests::input(seed, count, tree_text::WRITES).0),
                 "messages" => print(&gen::tree::messages(seed, count)),
                 "rows" => print(gen::rows::text(seed, count).as_bytes()),
-                "desk" => print(&gen::desk::script(seed, count)),
-                "sheet" => print(&gen::desk::sheet_text(seed, count)),
+                "desk" => print(&gen::desk::scripts::input(seed, count).text),
                 "watch" => print(&gen::watch::input(seed, count).0),
                 _ => usage(),
             }

@@ -1,7 +1,6 @@
-//! The programs `frames` and `octets`, and our own `tree`, `desk` and `sheet`, from standard input's bytes to
-//! standard output's text.
+//! The programs `frames`, `octets`, `packets` and `sheet`, and our own `rewrite`, from standard input's bytes to standard
+//! output's text.
 
-use crate::desk::{self, Desk, Figures};
 use crate::framing::{self, Session, STORE_LENGTH};
 use crate::lines::{hex, hex_line, lines};
 use crate::tree::{self, Answer, TABLE_MAX};
@@ -240,61 +239,14 @@ pub fn trees(input: &[u8]) -> String {
     out
 }
 
-/// `open TYPE MODE TARGETS SOURCES TOTAL PER_TARGET PATH` (`-`: not given) opens a desk and prints 0 or 45, which leaves
-/// none. `message HEX` prints the tree's number and, after 0, the desk's answers and its rows.
-pub fn desks(input: &[u8]) -> String {
-    let mut out = String::new();
-    let mut desk: Option<Desk> = None;
-    for line in lines(input) {
-        out += &desk_line(&mut desk, line).unwrap_or("bad line".to_string());
-        out += "\n";
-    }
-    out
-}
+/// The longest input that the program `sheet` reads.
+pub const SHEET_MAX: usize = 262_144;
 
-fn desk_line(desk: &mut Option<Desk>, line: &[u8]) -> Option<String> {
-    let words: Vec<&[u8]> = line.split(|&byte| byte == b' ').collect();
-    match words.as_slice() {
-        [b"open", numbers @ .., path] if numbers.len() == 6 => {
-            let mut given = [None; 6];
-            for (word, number) in numbers.iter().zip(&mut given) {
-                *number = if *word == b"-" { None } else { Some(integer(word)?.unwrap_or(i64::MAX)) };
-            }
-            let [kind, mode, targets, sources, total_limit, target_limit] = given;
-            let path: Option<Vec<u64>> = path.split(|&byte| byte == b'.').map(natural).collect();
-            let figures = Figures { path: path?, kind, mode, targets, sources, total_limit, target_limit };
-            let (number, opened) = match desk::open(&figures) {
-                Ok(opened) => (0, Some(opened)),
-                Err(number) => (number, None),
-            };
-            *desk = opened;
-            Some(number.to_string())
-        }
-        [b"message", word] => {
-            let message = octets_of(word)?;
-            let desk = desk.as_mut()?;
-            let tree = match tree::read(&message, TABLE_MAX) {
-                Answer::Tree(tree) => tree,
-                other => return Some(other.number().to_string()),
-            };
-            let answers = match desk.call(&tree) {
-                Ok(answers) if answers.is_empty() => "-".to_string(),
-                Ok(answers) => joined(answers.iter(), ","),
-                Err(number) => return Some(format!("0 {number}")),
-            };
-            let rows: Vec<String> = desk.rows.iter().map(|row| joined(row.iter(), ".")).collect();
-            Some(format!("0 {answers} {}", rows.join(";")))
-        }
-        _ => None,
-    }
-}
-
-fn joined<T: ToString>(list: impl Iterator<Item = T>, between: &str) -> String {
-    list.map(|item| item.to_string()).collect::<Vec<String>>().join(between)
-}
-
-/// The input is one route sheet. Printed: its number and, after 0, the sheet as we write it.
+/// Program `sheet`: the input is one route sheet. Printed: its number and, after 0, the sheet as we write it.
 pub fn sheets(input: &[u8]) -> String {
+    if input.len() > SHEET_MAX {
+        return "too long\n".to_string();
+    }
     match sheet::read(input) {
         Ok(desk) => format!("0\n{}", sheet::write(&desk).unwrap()),
         Err(number) => format!("{number}\n"),
@@ -331,15 +283,11 @@ mod tests {
     #[test]
     fn own_formats() {
         assert_eq!(trees(b"600B6B09A0076205A003020120\n-\n60\nx"), "0 1 600B6B09A0076205A003020120\n30 0\n30 1\nbad line\n");
-        let message = "message 60176B15A0137111A0030D0101A50A3008A0067004A00202";
-        assert_eq!(
-            desks(format!("open 2 - 2 3 - - 1\n{message}\nopen 3 - 2 3 - - 1\n{message}\n").as_bytes()),
-            "0\n30\n45\nbad line\n"
-        );
-        let filled = "message 601E6B1CA01A7118A0030D0101A511300FA00D700BA003020101A1040D020002";
-        let emptied = "message 60186B16A0147112A0030D0101A50B3009A0077005A003020101";
-        assert_eq!(desks(format!("open 2 - 2 3 - - 1\n{filled}\n{emptied}").as_bytes()), "0\n0 0 ;0.2\n0 0 ;\n");
         assert_eq!(sheets(b""), "33\n");
+        let filled = |count: usize| sheets(&[b"FF".repeat(count / 2), vec![b'0'; count % 2]].concat());
+        assert_eq!(filled(SHEET_MAX - 1), "12\n");
+        assert_eq!(filled(SHEET_MAX), "10\n");
+        assert_eq!(filled(SHEET_MAX + 1), "too long\n");
     }
 
     #[test]

@@ -2,9 +2,9 @@
 //! `bench tree [ROUNDS]`: nanoseconds a message and megabytes a second, on each of the inputs. `bench growth [ROUNDS]`:
 //! nanoseconds a byte as messages grow. `bench stack`: the stack that a call needs. `bench write [ROUNDS]`: the writers.
 pub mod growth;
-mod inputs;
-mod plain;
-mod plain_writer;
+pub mod inputs;
+pub mod plain;
+pub mod plain_writer;
 #[cfg(glow)]
 mod proved;
 pub mod stack;

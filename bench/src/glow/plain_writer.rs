@@ -131,7 +131,7 @@ pub fn write(rows: &[Row], count: usize, root: u64, message: &[u8], out: &mut [u
     }
     let rows = rows.get(..count).ok_or(OUT)?;
     let mut known = [UNKNOWN; ENTRIES];
-    judge(rows, root == 3, message, &mut known).ok_or(OUT)?;
+    judge::<false>(rows, root == 3, message, &mut known).ok_or(OUT)?;
     let items = sum(rows, &mut known);
     let length = around(around(items)) as usize;
     if length > MESSAGE || length > out.len() {
@@ -146,10 +146,21 @@ pub fn write(rows: &[Row], count: usize, root: u64, message: &[u8], out: &mut [u
     Ok(writer.at)
 }
 
+/// Whether some message of at most 16,384 bytes is read as the first `count` rows, whose parts lie in the message.
+pub fn accepts(rows: &[Row], count: usize, root: u64, message: &[u8]) -> bool {
+    let (true, Some(rows)) = (count <= ENTRIES && matches!(root, 0 | 3), rows.get(..count)) else { return false };
+    let mut known = [UNKNOWN; ENTRIES];
+    if judge::<true>(rows, root == 3, message, &mut known).is_none() {
+        return false;
+    }
+    around(around(sum(rows, &mut known))) as usize <= MESSAGE
+}
+
 // ---- Judging ----
 
-/// Places, kinds, levels, paths and values of all entries; the sizes of their own members are noted.
-fn judge(rows: &[Row], streams: bool, message: &[u8], known: &mut [Known; ENTRIES]) -> Option<()> {
+/// Places, kinds, levels, paths and values of all entries; the sizes of their own members are noted, those of reals as they are
+/// written or, with LEAST, in their shortest form.
+fn judge<const LEAST: bool>(rows: &[Row], streams: bool, message: &[u8], known: &mut [Known; ENTRIES]) -> Option<()> {
     for (place, row) in rows.iter().enumerate() {
         let kind = kind_of(row)?;
         if (row[0] == STREAM) != streams {
@@ -184,7 +195,7 @@ fn judge(rows: &[Row], streams: bool, message: &[u8], known: &mut [Known; ENTRIE
                 }
                 continue;
             }
-            let length = content(tag, first, second, rule, message)?;
+            let length = content::<LEAST>(tag, first, second, rule, message)?;
             let size = around(around(length));
             if kind.element && index > 0 {
                 known_now.contents += size;
@@ -227,7 +238,7 @@ fn part(start: u64, length: u64, message: &[u8]) -> Option<&[u8]> {
 }
 
 /// The length of a value's content octets, if it is a value by the rule.
-fn content(tag: u64, first: u64, second: u64, rule: Rule, message: &[u8]) -> Option<u32> {
+fn content<const LEAST: bool>(tag: u64, first: u64, second: u64, rule: Rule, message: &[u8]) -> Option<u32> {
     let fits = match rule {
         Rule::Nothing => false,
         Rule::Int(..) => tag == 2,
@@ -252,7 +263,7 @@ fn content(tag: u64, first: u64, second: u64, rule: Rule, message: &[u8]) -> Opt
         }
         9 => {
             let real = real(first)?;
-            (second == 0).then_some(real.size())
+            (second == 0).then_some(if LEAST { real.least_size() } else { real.size() })
         }
         _ => {
             let octets = part(first, second, message)?;
@@ -304,6 +315,20 @@ impl Real {
             Real::Zero => 0,
             Real::Infinity { .. } => 1,
             Real::Finite { power, mantissa, .. } => 1 + integer_size(power) + mantissa_size(mantissa),
+        }
+    }
+}
+
+impl Real {
+    /// An exponent of two octets has only one if scale and free bits of the mantissa's first octet make it small enough.
+    fn least_size(&self) -> u32 {
+        match *self {
+            Real::Finite { power, mantissa, .. } => {
+                let free = i64::from(mantissa.leading_zeros() % 8);
+                let shorter = power > 127 && power - 3 - free <= 127;
+                self.size() - u32::from(shorter)
+            }
+            _ => self.size(),
         }
     }
 }

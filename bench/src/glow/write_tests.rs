@@ -1,16 +1,16 @@
 //! Every writer against the decoder: the same numbers and bytes, an output as it was after a refusal, and bytes past the
 //! written ones as they were.
 use super::write::{agree, all, writers, Input, Write, FAMILIES};
-use super::{plain, Answer, Row, ENTRIES, MESSAGE};
+use super::{plain, plain_writer, Answer, Row, ENTRIES, MESSAGE};
 use reference::compare_rows::{self, Library};
 use reference::rows;
 
-/// A writer in the place of the library that the decoder compares itself with. What it accepts is not asked of a writer.
+/// A writer in the place of the library that the decoder compares itself with. What is accepted is asked of plain.
 struct Compared(Write);
 
 impl Library for Compared {
     fn accepts(&self, rows: &[Row], count: usize, root: u64, message: &[u8]) -> u64 {
-        u64::from(rows::accepted(rows, count, root, message))
+        u64::from(plain_writer::accepts(rows, count, root, message))
     }
 
     fn write(&self, rows: &[Row], count: usize, root: u64, message: &[u8], out: &mut [u8], answer: &mut [u64]) -> u64 {

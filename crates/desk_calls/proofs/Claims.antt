@@ -1,19 +1,21 @@
 -- What holds of every call: a legal desk stays legal, 1 leaves everything as it was, every connection is answered, and an answer other than 0 changes nothing.
-use Prim.Native.Nat.{ℕ, suc, _+_, _≤_}
+use Prim.Native.Nat.{ℕ, suc, _+_, _*_, _≤_}
 use mathlib.Core.Path.{_≡_, refl, ap, _∙_}
 use mathlib.Core.List.{List, [], _∷_, _++_}
 use mathlib.Core.Bool.{Bool, true, false}
 use native.Mathlib.Omega.{arith}
 use lib.ListN.{length}
+use lib.Dec.{eqb}
 use Rattle.integers.specs.Digits.{pick}
 use Rattle.entries.specs.Entry.{Rows}
 use Rattle.forest.specs.Content.{Item}
 use Rattle.forest.specs.Rows.{itemsIn}
 use Rattle.routing.specs.declared.Figures.{Figures}
-use Rattle.routing.specs.Crosspoints.{Cells, legal, answer}
+use Rattle.routing.specs.Crosspoints.{Cells, legal, opened, answer}
+use Rattle.routing.proofs.Opened.{open-legal}
 use Rattle.routing.proofs.Claims.{request-legal, refused-same, request-length}
 use Rattle.desk_calls.specs.Connections.{Ask, askOf, asksIn, asksOf}
-use Rattle.desk_calls.specs.Calls.{Request, requests, deskLegal, same, answered, Served, answers, served, handled, Outcome, outcome, laid}
+use Rattle.desk_calls.specs.Calls.{Request, requests, pathFits, deskLegal, deskOpened, same, answered, Served, answers, served, handled, Outcome, outcome, laid}
 use Rattle.desk_calls.specs.Calls.{isReady, called}
 use Rattle.desk_calls.proofs.Setup.{desk-fits, desk-legal, desk-rest, called-not, called-ready}
 
@@ -54,7 +56,7 @@ served-append request path (a ∷ later) m cells =
 pub asks-few : (es l : List Item) → length (asksIn es l) ≤ length l
 unfolding asksIn
 asks-few es [] = omega arith
-asks-few es (e ∷ later) = go (lib.Dec.eqb (e .kind) 8) (asks-few es later)
+asks-few es (e ∷ later) = go (eqb (e .kind) 8) (asks-few es later)
   where
     go : (u : Bool) → length (asksIn es later) ≤ length later
         → length (pick u (askOf es e ∷ asksIn es later) (asksIn es later)) ≤ suc (length later)
@@ -87,6 +89,19 @@ module _ (w : ℕ) (f : Figures) (path : List ℕ) where
   pub handled-none : (es : List Item) (cells : Cells) → asksOf es ≡ [] → handled w f path es cells ≡ answers [] cells
   unfolding handled served
   handled-none es cells e = rw e
+
+  -- a desk that was opened is legal
+  pub desk-opened-legal : (mode : ℕ) (before : Cells) → deskOpened w f path mode before .number ≡ 0
+      → deskLegal w f path (deskOpened w f path mode before .cells) ≡ true
+  unfolding deskOpened
+  desk-opened-legal mode before n = go (pathFits path) refl (eqb (length before) (w * w)) n
+    where
+      go : (u : Bool) → pathFits path ≡ u → (v : Bool)
+          → pick u (opened w f mode before) (pick v (answer 45 before) (answer 1 before)) .number ≡ 0
+          → deskLegal w f path (pick u (opened w f mode before) (pick v (answer 45 before) (answer 1 before)) .cells) ≡ true
+      go true e v z = desk-rest w f path (opened w f mode before .cells) e ∙ open-legal w f mode before z
+      go false e true z = absurd (omega (arith, z))
+      go false e false z = absurd (omega (arith, z))
 
   module _ (root : ℕ) (rows : Rows) (n : ℕ) (s lent : List ℕ) (cells : Cells) where
     abbrev es : List Item

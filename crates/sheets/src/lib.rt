@@ -75,7 +75,7 @@ pub fn write_lines(frames: &[u8], out: &mut [u8]) -> Written
 }
 
 // The value of a digit of either case, 16 for any other byte.
-fn digit(b: u8) -> u8
+pub fn digit(b: u8) -> u8
     ensures { λ r. ⌜ digitOf b ≡ r ⌝ }
 {
     if b < 48 {

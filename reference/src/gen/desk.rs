@@ -1,222 +1,202 @@
-//! Desks with requests, and route sheets, right and damaged.
+//! Desks, their figures, and requests: as numbers, and as trees with the matrix in every place that it may have.
 
-use super::tree::{self, spell, Style};
-use super::{bad_hex_line, mutate_bytes, Random};
+pub mod scripts;
+pub mod sheets;
+
+use super::tree;
+use super::Random;
 use crate::desk::{open, Desk, Figures};
-use crate::lines::{digits, hex, hex_line};
-use crate::sheet;
-use crate::tree::{Body, Entry, Key, MatrixContents, NodeContents, RootKind, Tree};
+use crate::tree::{Body, Entry, Key, MatrixContents, NodeContents, ParameterContents, RootKind, Tree};
 
-fn limit(random: &mut Random) -> Option<i64> {
-    random.pick(&[None, None, Some(1), Some(2), Some(5), Some(64), Some(2_147_483_647)])
+const TOP: i64 = 2_147_483_647;
+
+/// The number or one beside it, at least 1.
+fn near(random: &mut Random, number: i64) -> i64 {
+    (number + random.range(0, 2) as i64 - 1).clamp(1, TOP)
 }
 
-/// Figures that can be opened.
+/// Figures that can be opened; mostly small, so that limits are met.
 pub fn figures(random: &mut Random) -> Figures {
-    let side = |random: &mut Random| Some(random.pick(&[1, 2, 3, 4, 8, 63, 64]));
-    let length = random.pick(&[1, 2, 3, 16]);
+    let side = |random: &mut Random| random.pick(&[1, 2, 2, 3, 3, 4, 4, 5, 8, 12, 33, 63, 64]);
+    let (targets, sources) = (side(random), side(random));
+    let length = random.pick(&[1, 1, 2, 2, 3, 5, 13, 14, 15, 16]);
+    let number = |random: &mut Random| match random.below(8) {
+        0 => random.range(100, 300) as u64,
+        1 => TOP as u64 - random.below(2) as u64,
+        _ => random.range(1, 4) as u64,
+    };
+    let total = random.pick(&[1, 2, 3, 5, TOP, targets * sources, targets * sources]);
+    let per_target = random.pick(&[1, 1, 2, 2, 3, TOP, sources, sources]);
     Figures {
-        path: (0..length).map(|_| random.range(1, 300) as u64).collect(),
-        kind: random.pick(&[None, Some(0), Some(1), Some(2), Some(2)]),
+        path: (0..length).map(|_| number(random)).collect(),
+        kind: random.pick(&[None, Some(0), Some(0), Some(1), Some(1), Some(1), Some(2), Some(2), Some(2), Some(2)]),
         mode: random.pick(&[None, Some(0)]),
-        targets: side(random),
-        sources: side(random),
-        total_limit: limit(random),
-        target_limit: limit(random),
+        targets: Some(targets),
+        sources: Some(sources),
+        total_limit: if random.one_in(2) { None } else { Some(near(random, total)) },
+        target_limit: if random.one_in(2) { None } else { Some(near(random, per_target)) },
     }
 }
 
-/// The same with one of them out of its range.
-fn bad_figures(random: &mut Random) -> Figures {
-    let mut figures = figures(random);
-    match random.below(7) {
-        0 => figures.path = random.pick(&[vec![0], vec![1; 17], vec![2_147_483_648]]),
-        1 => figures.kind = Some(3),
-        2 => figures.mode = Some(1),
-        3 => figures.targets = random.pick(&[None, Some(0), Some(65)]),
-        4 => figures.sources = random.pick(&[None, Some(0), Some(65)]),
-        5 => figures.total_limit = random.pick(&[Some(0), Some(2_147_483_648)]),
-        _ => figures.target_limit = random.pick(&[Some(0), Some(2_147_483_648)]),
-    }
-    figures
+/// A connection's members.
+#[derive(Clone, PartialEq, Eq, Debug)]
+pub struct Asked {
+    pub target: u64,
+    pub sources: Option<Vec<u64>>,
+    pub operation: Option<i64>,
 }
 
-/// A request that mostly fits the desk.
-fn request(random: &mut Random, desk: &Desk) -> Body {
-    let target =
-        if random.one_in(12) { desk.targets + random.below(2) as i64 } else { random.below(desk.targets as usize) as i64 };
-    let count = random.pick(&[0, 1, 1, 1, 2, 3, 6]);
-    let mut sources: Vec<u64> = (0..count).map(|_| random.below(desk.sources as usize) as u64).collect();
-    if random.one_in(12) {
-        sources.push(desk.sources as u64 + random.below(2) as u64);
+impl Asked {
+    pub fn body(self) -> Body {
+        Body::Connection { target: self.target as i64, sources: self.sources, operation: self.operation }
     }
-    let sources = if count == 0 && random.one_in(2) { None } else { Some(sources) };
-    Body::Connection { target, sources, operation: random.pick(&[None, Some(0), Some(1), Some(1), Some(2)]) }
 }
 
-/// A message of requests: a qualified matrix, or the same path as plain elements, sometimes another path.
-pub fn requests(random: &mut Random, desk: &Desk) -> Tree {
-    let mut path = desk.path.clone();
-    if random.one_in(10) {
-        let at = random.below(path.len());
-        path[at] += 1;
-    }
-    let mut entries = Vec::new();
-    let contents = if random.one_in(3) {
-        MatrixContents { kind: Some(2), mode: Some(1), targets: Some(1_000), ..Default::default() }
+pub fn ask(target: u64, sources: &[u64], operation: i64) -> Asked {
+    Asked { target, sources: Some(sources.to_vec()), operation: Some(operation) }
+}
+
+/// A request that mostly fits the desk: sources that it has elsewhere or here, counts around its limits, a source twice.
+pub fn asked(random: &mut Random, desk: &Desk) -> Asked {
+    let targets = desk.targets as usize;
+    let sources = desk.sources as usize;
+    let target = if random.one_in(14) {
+        desk.targets as u64 + random.pick(&[0, 0, 1, 190, TOP as u64 - desk.targets as u64])
     } else {
-        MatrixContents::default()
+        random.below(targets) as u64
     };
-    let parent = if path.len() <= 4 && random.one_in(2) {
-        for (index, &number) in path.iter().enumerate() {
-            let key = Key::Number(number as i64);
-            let body = if index + 1 == path.len() {
-                Body::Matrix(key, contents.clone())
+    let any = |random: &mut Random, count: usize| -> Vec<u64> { (0..count).map(|_| random.below(sources) as u64).collect() };
+    let mut list = match random.below(9) {
+        0 => Vec::new(),
+        1 | 2 => any(random, 1),
+        3 => {
+            // One that another target may have: in 1:1 it moves.
+            let held: Vec<u64> = desk.rows.concat();
+            if held.is_empty() {
+                any(random, 1)
             } else {
-                Body::Node(key, NodeContents::default())
-            };
-            entries.push(Entry { parent: index.checked_sub(1), body });
+                vec![random.pick(&held)]
+            }
         }
-        path.len() - 1
-    } else {
-        entries.push(Entry { parent: None, body: Body::Matrix(Key::Path(path), contents) });
-        0
+        4 => desk.rows.get(target as usize).cloned().unwrap_or_default(),
+        5 => {
+            // About as many as a target may have.
+            let most = desk.target_limit.unwrap_or(desk.sources).min(desk.sources) as usize;
+            let start = random.below(sources);
+            let count = (most + random.below(3)).saturating_sub(1).min(sources);
+            (0..count).map(|index| ((start + index) % sources) as u64).collect()
+        }
+        6 => (0..sources as u64).collect(),
+        _ => {
+            let count = random.range(2, 6);
+            any(random, count)
+        }
     };
-    for _ in 0..random.range(0, 5) {
-        entries.push(Entry { parent: Some(parent), body: request(random, desk) });
+    if !list.is_empty() && random.one_in(3) {
+        let again = random.pick(&list);
+        list.push(again);
+    }
+    if random.one_in(2) {
+        random.shuffle(&mut list);
+    }
+    if random.one_in(14) {
+        let at = random.below(list.len() + 1);
+        list.insert(at, desk.sources as u64 + random.pick(&[0, 0, 1, 190, TOP as u64 - desk.sources as u64]));
+    }
+    let sources = if list.is_empty() && random.one_in(2) { None } else { Some(list) };
+    Asked { target, sources, operation: random.pick(&[None, Some(0), Some(1), Some(1), Some(1), Some(2)]) }
+}
+
+/// An element on the way to a matrix: any that may hold others.
+fn holder(random: &mut Random, key: Key) -> Body {
+    match random.below(8) {
+        0 => Body::Parameter(key, ParameterContents::default()),
+        1 => Body::Matrix(key, MatrixContents::default()),
+        _ => Body::Node(key, NodeContents::default()),
+    }
+}
+
+/// What a matrix may say of itself beside a request, which no desk looks at (D9).
+fn said_of_itself(random: &mut Random) -> MatrixContents {
+    if random.one_in(3) {
+        return MatrixContents { kind: Some(2), mode: Some(1), targets: Some(1_000), total_limit: Some(0), ..Default::default() };
+    }
+    MatrixContents::default()
+}
+
+/// Adds the matrix of that path with some requests: qualified, below a qualified element, or plain all the way.
+fn add_matrix(random: &mut Random, desk: &Desk, path: &[u64], count: usize, entries: &mut Vec<Entry>) {
+    let first = match random.below(6) {
+        0 | 1 => 0, // plain
+        2 => random.range(1, path.len()),
+        _ => path.len(),
+    };
+    // Connections of a matrix on the fifteenth level pass the 64 containers.
+    let first = if path.len() - first.max(1) >= 14 && !random.one_in(4) { path.len() } else { first };
+    let start = entries.len();
+    let mut keys = Vec::new();
+    if first > 0 {
+        keys.push(Key::Path(path[..first].to_vec()));
+    }
+    keys.extend(path[first..].iter().map(|&number| Key::Number(number as i64)));
+    let levels = keys.len();
+    for (level, key) in keys.into_iter().enumerate() {
+        let body = if level + 1 == levels { Body::Matrix(key, said_of_itself(random)) } else { holder(random, key) };
+        entries.push(Entry { parent: if level == 0 { None } else { Some(start + level - 1) }, body });
+    }
+    for level in (0..levels).rev() {
+        let place = start + level;
+        let matrix = matches!(entries[place].body, Body::Matrix(..));
+        // The connections of a matrix on the way follow those of what it holds.
+        let count = if level + 1 == levels { count } else { random.pick(&[0, 1]) };
+        for _ in 0..if matrix { count } else { 0 } {
+            entries.push(Entry { parent: Some(place), body: asked(random, desk).body() });
+        }
+    }
+}
+
+/// A message of requests, sometimes with other paths and other elements.
+pub fn requests(random: &mut Random, desk: &Desk, most: usize) -> Tree {
+    let mut entries = Vec::new();
+    let parts = random.pick(&[1, 1, 1, 1, 2, 3]);
+    for _ in 0..parts {
+        if random.one_in(8) {
+            tree::add_element(random, &mut entries, None, 1, 0, 4);
+            continue;
+        }
+        let mut path = desk.path.clone();
+        match random.below(24) {
+            0 => {
+                let at = random.below(path.len());
+                path[at] = if path[at] > 1 { path[at] - 1 } else { 2 };
+            }
+            1 if path.len() > 1 => {
+                path.pop();
+            }
+            2 if path.len() < 16 => path.push(1),
+            _ => {}
+        }
+        let count = random.pick(&[0, 1, 1, 1, 2, 3, 5, most]);
+        add_matrix(random, desk, &path, count.min(most), &mut entries);
     }
     Tree { kind: RootKind::Elements, entries }
-}
-
-/// Input of `reference desk`: a desk, then messages, some of them no requests.
-pub fn script(seed: u64, count: usize) -> Vec<u8> {
-    let mut random = Random::new(seed);
-    let random = &mut random;
-    let mut text = String::new();
-    if random.one_in(4) {
-        text += &open_line(&bad_figures(random));
-    }
-    let figures = figures(random);
-    text += &open_line(&figures);
-    let desk = open(&figures).unwrap();
-    for _ in 0..count {
-        let message = if random.one_in(8) {
-            tree::message(random).0
-        } else {
-            let tree = requests(random, &desk);
-            let style = Style::draw(random);
-            spell(random, style, &tree)
-        };
-        text += &format!("message {}\n", hex(&message));
-    }
-    text.into_bytes()
-}
-
-fn open_line(figures: &Figures) -> String {
-    let word = |value: Option<i64>| value.map_or("-".to_string(), |value| value.to_string());
-    let path: Vec<String> = figures.path.iter().map(|number| number.to_string()).collect();
-    format!(
-        "open {} {} {} {} {} {} {}\n",
-        word(figures.kind),
-        word(figures.mode),
-        word(figures.targets),
-        word(figures.sources),
-        word(figures.total_limit),
-        word(figures.target_limit),
-        path.join(".")
-    )
 }
 
 /// A desk after some requests.
 pub fn used_desk(random: &mut Random) -> Desk {
     let mut desk = open(&figures(random)).unwrap();
-    for _ in 0..random.below(30) {
-        let tree = requests(random, &desk);
-        let _ = desk.call(&tree);
+    for _ in 0..random.below(80) {
+        let asked = asked(random, &desk);
+        let path = desk.path.clone();
+        desk.request(&path, asked.target as i64, &asked.sources.unwrap_or_default(), asked.operation.unwrap_or(0));
     }
     desk
-}
-
-/// A tree near that of a sheet: requests alone, other figures, or more connections.
-fn other_tree(random: &mut Random, desk: &Desk) -> Tree {
-    let mut tree = sheet::tree_of(desk);
-    match random.below(4) {
-        0 => return requests(random, desk),
-        1 => {
-            if let Body::Matrix(_, contents) = &mut tree.entries[0].body {
-                match random.below(6) {
-                    0 => contents.kind = random.pick(&[None, Some(0), Some(1), Some(2)]),
-                    1 => contents.mode = random.pick(&[Some(0), Some(1)]),
-                    2 => contents.targets = random.pick(&[None, Some(0), Some(1), Some(64), Some(65)]),
-                    3 => contents.sources = random.pick(&[None, Some(0), Some(1), Some(64), Some(65)]),
-                    4 => contents.total_limit = random.pick(&[None, Some(0), Some(1), Some(3)]),
-                    _ => contents.target_limit = random.pick(&[None, Some(0), Some(1), Some(3)]),
-                }
-            }
-        }
-        2 => {
-            for _ in 0..random.range(1, 4) {
-                tree.entries.push(Entry { parent: Some(0), body: request(random, desk) });
-            }
-        }
-        _ => {}
-    }
-    tree
-}
-
-/// A route sheet with that many damages.
-pub fn sheet_text(seed: u64, damages: usize) -> Vec<u8> {
-    let mut random = Random::new(seed);
-    let random = &mut random;
-    let desk = used_desk(random);
-    let mut lines: Vec<Vec<u8>> = sheet::write(&desk).unwrap().lines().map(|line| line.as_bytes().to_vec()).collect();
-    for _ in 0..damages {
-        let at = random.below(lines.len());
-        match random.below(9) {
-            0 => lines[at] = bad_hex_line(random),
-            1 => {
-                let line = lines[at].clone();
-                lines.insert(at, line);
-            }
-            2 if lines.len() > 1 => {
-                lines.remove(at);
-            }
-            3 => lines.insert(at, b"FE000E010194E4FF".to_vec()),
-            4 => random.shuffle(&mut lines),
-            5 => lines[at].push(b'\r'),
-            6 => lines.push(b"FE".to_vec()),
-            _ => {
-                // Other bytes in the message, in right frames.
-                let tree = other_tree(random, &desk);
-                let style = Style::draw(random);
-                let mut message = spell(random, style, &tree);
-                if random.one_in(2) {
-                    mutate_bytes(random, &mut message);
-                }
-                if let Ok(frames) = crate::framing::write_message(&message) {
-                    lines = frames.iter().map(|frame| digits(frame).into_bytes()).collect();
-                }
-            }
-        }
-    }
-    if damages > 0 && random.one_in(4) {
-        // One bit of one frame.
-        let at = random.below(lines.len());
-        let (mut bytes, bad) = hex_line(&lines[at]);
-        if !bad {
-            let index = random.below(bytes.len());
-            bytes[index] ^= 1 << random.below(8);
-            lines[at] = digits(&bytes).into_bytes();
-        }
-    }
-    let mut text = lines.join(&b'\n');
-    text.push(b'\n');
-    text
 }
 
 #[cfg(test)]
 mod tests {
     use super::*;
+    use crate::sheet;
 
     #[test]
     fn requests_keep_a_desk_legal() {
@@ -225,9 +205,10 @@ mod tests {
         for _ in 0..300 {
             let mut desk = open(&figures(&mut random)).unwrap();
             for _ in 0..20 {
-                let tree = requests(&mut random, &desk);
+                let tree = requests(&mut random, &desk, 8);
                 let before = desk.clone();
-                let answers = desk.call(&tree).unwrap();
+                // Some are too deep to be read.
+                let Ok(answers) = desk.call(&tree) else { continue };
                 assert!(desk.legal());
                 if answers.iter().all(|&answer| answer != 0) {
                     assert_eq!(desk, before);
@@ -238,7 +219,7 @@ mod tests {
             }
         }
         for number in [0, 40, 41, 42, 43, 44] {
-            assert!(seen[number] > 20, "{number}: {}", seen[number]);
+            assert!(seen[number] > 100, "{number}: {}", seen[number]);
         }
     }
 
@@ -249,20 +230,6 @@ mod tests {
             let desk = used_desk(&mut random);
             let text = sheet::write(&desk).unwrap();
             assert_eq!(sheet::read(text.as_bytes()), Ok(desk));
-        }
-    }
-
-    #[test]
-    fn damaged_sheets() {
-        let mut seen = [0usize; 64];
-        for seed in 0..2_000 {
-            match sheet::read(&sheet_text(seed, 1)) {
-                Ok(_) => seen[0] += 1,
-                Err(number) => seen[usize::from(number)] += 1,
-            }
-        }
-        for number in [0, 12, 16, 30, 33, 41, 42, 43, 44, 45] {
-            assert!(seen[number] > 0, "{number}");
         }
     }
 }

@@ -212,7 +212,7 @@ pub const KINDS: [&str; 14] = [
 ];
 
 /// One piece of a stream of the given kind.
-fn part(random: &mut Random, kind: usize) -> Vec<u8> {
+pub fn part(random: &mut Random, kind: usize) -> Vec<u8> {
     match kind {
         0 => write_keep_alive(random.one_in(2)),
         1 => good_message(random),
@@ -254,6 +254,42 @@ fn part(random: &mut Random, kind: usize) -> Vec<u8> {
             let mut out = big_message(random, total, marks, tail);
             out.extend(good_piece(random, 0x40, 1));
             out
+        }
+    }
+}
+
+/// Something with a fault, by the number of its event; the long ones once in `long` times.
+pub fn fault(random: &mut Random, long: usize) -> Vec<u8> {
+    let frame = |flags: u8, at: usize, byte: u8, payload: &[u8]| {
+        let mut data = packet(flags, 0x14, payload);
+        data[at] = byte;
+        framed(&data)
+    };
+    match random.pick(&[10, 11, 12, 13, 14, 15, 16, 20, 20, 21, 22, 23, 24, 0, 0]) {
+        10 => vec![random.pick(&[0x00, 0x41, 0xF8, 0xFD, 0xFF])],
+        11 => random.pick(&[vec![0xFE, 0x00, 0xFE], vec![0xFE, 0xFD, 0xFE]]),
+        12 => random.pick(&[vec![0xFE, 0xF8, 0xFF], vec![0xFE, 0x00, 0xFC, 0xFE], vec![0xFE, 0xFD, 0x00, 0xFF]]),
+        13 if random.one_in(long) => [vec![0xFE], vec![0x11; 1_025], vec![0xFF]].concat(),
+        14 => vec![0xFE, 0x11, 0xFD, 0xFF],
+        15 => [vec![0xFE], vec![0x11; random.below(6)], vec![0xFF]].concat(),
+        16 => vec![0xFE, 0x00, 0x0E, 0x01, 0x01, 0x94, 0xE5, 0xFF],
+        20 => match random.below(5) {
+            0 => frame(0xC0, 0, 1, &[1]),
+            1 => frame(0xC0, 1, 0x0D, &[1]),
+            2 => frame(0xC0, 2, random.range(1, 9) as u8, &[1]),
+            3 => frame(0xC0, 3, 2, &[1]),
+            _ => framed(&packet(0xE0, 0x14, &[])[..random.range(4, 8)]),
+        },
+        21 => random.pick(&[frame(0xC0, 4, 0xC1, &[1]), frame(0xC0, 4, 0xE0, &[1]), frame(0xC0, 4, 0xC0, &[])]),
+        22 => random.pick(&[frame(0xC0, 5, 2, &[1]), frame(0xC0, 6, 3, &[1]), frame(0xC0, 8, 1, &[1])]),
+        23 => framed(&packet(random.pick(&[0x00, 0x40]), 0x14, &[1])),
+        24 if random.one_in(long) => {
+            let full = |flags| framed(&packet(flags, 0x14, &[0x55; PAYLOAD_MAX]));
+            [full(0x80), full(0).repeat(16)].concat()
+        }
+        _ => {
+            let kind = random.pick(&[4, 5, 6, 8, 9, 10, 11, 12]);
+            part(random, kind)
         }
     }
 }

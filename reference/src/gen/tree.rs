@@ -135,7 +135,14 @@ pub fn connection(random: &mut Random) -> Body {
 
 /// Adds an element with its children and connections. `level` counts its steps from the root, `steps` those of
 /// its parent's full path.
-fn add_element(random: &mut Random, entries: &mut Vec<Entry>, parent: Option<usize>, level: usize, steps: usize, most: usize) {
+pub fn add_element(
+    random: &mut Random,
+    entries: &mut Vec<Entry>,
+    parent: Option<usize>,
+    level: usize,
+    steps: usize,
+    most: usize,
+) {
     let place = entries.len();
     let mut body = body(random, parent.is_none());
     let steps = match &body {
@@ -215,6 +222,9 @@ pub struct Style {
 }
 
 impl Style {
+    /// As the writer writes.
+    pub const PLAIN: Style = Style { indefinite: 0, long_tag: 0, long_length: 0, unlisted: 0, shuffle: false };
+
     pub fn draw(random: &mut Random) -> Style {
         let often = [0, 0, 1, 4, 8];
         Style {
@@ -480,6 +490,15 @@ pub fn spell(random: &mut Random, style: Style, tree: &Tree) -> Vec<u8> {
     spelt(random, style, &root, None)
 }
 
+/// A message of a tree with some of its tags changed.
+pub fn spell_changed(random: &mut Random, style: Style, tree: &Tree) -> Vec<u8> {
+    let mut root = root(random, style, tree);
+    for _ in 0..random.range(1, 2) {
+        change_nodes(random, &mut root);
+    }
+    spelt(random, style, &root, None)
+}
+
 // ---- Changes ----
 
 fn count_nodes(node: &Node) -> usize {
@@ -646,13 +665,7 @@ fn of_kind(random: &mut Random, kind: usize) -> Vec<u8> {
     let tree = tree(random, most);
     match kind {
         0 => spell(random, style, &tree),
-        1 => {
-            let mut root = root(random, style, &tree);
-            for _ in 0..random.range(1, 2) {
-                change_nodes(random, &mut root);
-            }
-            spelt(random, style, &root, None)
-        }
+        1 => spell_changed(random, style, &tree),
         2 | 6 => {
             let mut message = spell(random, style, &tree);
             if kind == 6 {
@@ -738,6 +751,9 @@ pub fn listing_input(seed: u64, count: usize) -> (Vec<u8>, [usize; KINDS.len()])
         }
         if random.one_in(10) {
             stream.push(random.byte());
+        }
+        if random.one_in(6) {
+            stream.extend(frames::fault(random, 20));
         }
     }
     let mut text = chunked(random, &stream).into_bytes();

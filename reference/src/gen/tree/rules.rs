@@ -2,14 +2,38 @@
 //! place, with the answer that the rule gives. Quotations are document 01's; O, G, V and R name settled open points.
 
 use crate::framing::MESSAGE_MAX;
-use crate::lines::digits;
+use crate::gen::Random;
+use crate::lines::{digits, hex_line};
+use crate::tree::{read, TABLE_MAX};
 use crate::values::write_int;
+use std::sync::OnceLock;
 
 /// A request by its rule, with the first line (or the whole) of its answer.
 pub struct Case {
     pub rule: String,
     pub line: String,
     pub expected: String,
+}
+
+/// The short messages of the rules that the reader refuses, by number from 30 to 37.
+fn refusals() -> &'static [Vec<Vec<u8>>] {
+    static REFUSALS: OnceLock<Vec<Vec<Vec<u8>>>> = OnceLock::new();
+    REFUSALS.get_or_init(|| {
+        let mut refusals = vec![Vec::new(); 8];
+        for case in cases() {
+            let Some((message, false)) = case.line.strip_prefix("read ").map(|word| hex_line(word.as_bytes())) else { continue };
+            let number = read(&message, TABLE_MAX).number();
+            if (30..=37).contains(&number) && message.len() < 200 {
+                refusals[usize::from(number) - 30].push(message);
+            }
+        }
+        refusals
+    })
+}
+
+/// A message that the reader refuses with that number, 30 to 37.
+pub fn refused(random: &mut Random, number: u8) -> Vec<u8> {
+    random.pick(&refusals()[usize::from(number) - 30])
 }
 
 /// A message in the notation: pairs of hexadecimal digits; `{..}` puts the shortest length before what it holds, `{2:..}`

@@ -1,0 +1,104 @@
+//! The proved turn, through a C interface over numbers and lent slices. Compiled only where build.rs finds a library with
+//! `ember_turn`. Until there is one, this is what the benchmark asks of it; if it comes with another signature, `ember_turn` and
+//! `turn` below are all that changes.
+use super::{Figures, Host, Turn, CELLS, SIDE};
+use crate::glow::{Row, ENTRIES};
+use crate::STORE;
+
+extern "C" {
+    /// One turn. Lent: the session's four words (as `framing_feed` has them), the store, the chunk, the table, the desk (seven
+    /// words: type, targets, sources, whether there is a total limit and which, whether there is one per target and which), its
+    /// path's numbers, its 4,096 cells, a word for each answer of the desk's call, and five words that say what the calls
+    /// answered. Returned is the session's number; the five words are: whether a message was thrown away, the bytes consumed,
+    /// the tree reader's number (0 if it was not called), the desk call's number, and the count of its answers.
+    fn ember_turn(
+        session: *mut u64,
+        session_words: usize,
+        store: *mut u8,
+        store_bytes: usize,
+        chunk: *const u8,
+        chunk_bytes: usize,
+        table: *mut Row,
+        rows: usize,
+        desk: *const u64,
+        desk_words: usize,
+        path: *const u64,
+        path_numbers: usize,
+        cells: *mut u8,
+        cell_count: usize,
+        answers: *mut u64,
+        answer_count: usize,
+        said: *mut u64,
+        said_words: usize,
+    ) -> u64;
+}
+
+pub struct Proved {
+    session: [u64; 4],
+    store: Vec<u8>,
+    table: Vec<Row>,
+    desk: [u64; 7],
+    path: Vec<u64>,
+    cells: Vec<u8>,
+    answers: Vec<u64>,
+}
+
+impl Proved {
+    pub fn open(figures: &Figures) -> Proved {
+        let limit = |limit: Option<u64>| [u64::from(limit.is_some()), limit.unwrap_or(0)];
+        let ([has_total, total], [has_per_target, per_target]) = (limit(figures.total), limit(figures.per_target));
+        let mut session = [0; 4];
+        assert_eq!(crate::proved::start(&mut session), 0);
+        Proved {
+            session,
+            store: vec![0; STORE],
+            table: vec![[0; 50]; ENTRIES],
+            desk: [figures.kind, figures.targets, figures.sources, has_total, total, has_per_target, per_target],
+            path: figures.path.clone(),
+            cells: vec![0; CELLS],
+            answers: vec![0; ENTRIES],
+        }
+    }
+}
+
+impl Host for Proved {
+    /// The library reads and writes only within the slices, whatever they hold and however long they are.
+    fn turn(&mut self, chunk: &[u8]) -> Turn {
+        let mut said = [0; 5];
+        let event = unsafe {
+            ember_turn(
+                self.session.as_mut_ptr(),
+                self.session.len(),
+                self.store.as_mut_ptr(),
+                self.store.len(),
+                chunk.as_ptr(),
+                chunk.len(),
+                self.table.as_mut_ptr(),
+                self.table.len(),
+                self.desk.as_ptr(),
+                self.desk.len(),
+                self.path.as_ptr(),
+                self.path.len(),
+                self.cells.as_mut_ptr(),
+                self.cells.len(),
+                self.answers.as_mut_ptr(),
+                self.answers.len(),
+                said.as_mut_ptr(),
+                said.len(),
+            )
+        };
+        let [_, consumed, tree, desk, answers] = said;
+        assert!(event != 1 && desk == 0);
+        let tree = (event == 3).then_some(tree);
+        let answers = (tree == Some(0)).then_some(answers as usize);
+        Turn { consumed: consumed as usize, event, tree, answers }
+    }
+
+    fn answers(&self) -> &[u64] {
+        &self.answers
+    }
+
+    fn holds(&self, target: usize, source: usize) -> bool {
+        self.cells[SIDE * target + source] == 1
+    }
+}

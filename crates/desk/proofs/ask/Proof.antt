@@ -1,0 +1,45 @@
+use lib.Seq.{length-take-le}
+use mathlib.Core.Path.{sym}
+use native.Mathlib.Omega.{arith}
+use borrow.Author.Needs.{needs}
+use Rattle.desk.proofs.ask.Statement.{statement}
+use Rattle.desk.proofs.ask.Tie as tie
+use Rattle.desk.proofs.ask.Reads as reads
+use Rattle.desk.proofs.ask.Lts as lts
+use Rattle.desk.proofs.number_line.Reads as number-line-reads
+use Rattle.routing.proofs.request.Reads as request-reads
+
+-- src/main.rt:143:49
+slice-aggregate-request : tie.Need-slice-aggregate-request
+slice-aggregate-request c = sym (length-take-le _ _ (omega arith))
+
+-- src/main.rt:143:21
+request-requires : tie.Need-request-requires
+request-requires c κs = search needs
+
+-- src/main.rt:143:9
+number-line-requires : tie.Need-number-line-requires
+number-line-requires c κs = search needs
+
+-- src/main.rt:141:1
+same-length : tie.Need-same-length
+same-length c = search needs
+
+-- src/main.rt:141:1
+returns : tie.Need-returns
+returns c = search needs
+
+-- src/main.rt:141:1
+returns-2 : tie.Need-returns-2
+returns-2 c = search needs
+
+pub ask-spec : {M : Type 1} → statement M
+ask-spec =
+    tie.close
+    (tie.spec
+    slice-aggregate-request
+    request-requires
+    number-line-requires
+    same-length
+    returns
+    returns-2)

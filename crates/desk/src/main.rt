@@ -1,0 +1,416 @@
+// desk: a router on the desk of an operator, a script on standard input, one line at a time.
+//
+//   open TYPE MODE TARGETS SOURCES TOTAL PER_TARGET PATH    opens a desk: 0, or 45 and no desk; `-`: not given
+//   bytes HEX                                               a chunk of the stream to the desk: a line for each event
+//   request TARGET SOURCES OPERATION                        one request on plain numbers: its number
+//   show                                                    the sources of each target, a line
+//   grid                                                    the crosspoints as a picture
+//   sheet                                                   the route sheet
+//
+// A path and sources are numbers with dots between, `-` for none. HEX is pairs of digits of either case. Any other line, and one that needs a desk
+// while there is none, prints `bad line`.
+//
+// An event's line is its number, for 3 the tree's number too, and after tree number 0 the desk's answers with commas between, `-` for none.
+mod figures;
+mod route;
+mod show;
+mod stream;
+mod words;
+
+use framing::Session;
+use requests::input;
+use requests::input::Input;
+use requests::print;
+use requests::text;
+use requests::text::Hex;
+use routing::Figures;
+use routing::Limit;
+use words::Listed;
+use words::Word;
+
+// The desk that is there, if one is: its figures, how many numbers its path has, and its stream's session.
+pub struct Desk {
+    pub there: bool,
+    pub figures: Figures,
+    pub path: usize,
+    pub session: Session,
+}
+
+fn no_desk() -> Desk {
+    Desk {
+        there: false,
+        figures: Figures {
+            kind: 0,
+            targets: 0,
+            sources: 0,
+            total: Limit::Absent,
+            each: Limit::Absent,
+        },
+        path: 0,
+        session: framing::start(),
+    }
+}
+
+fn number_line(n: u64) {
+    print::decimal(n);
+    print::end();
+}
+
+fn refuse(desk: Desk) -> Desk {
+    print::bad_line();
+    desk
+}
+
+fn put(to: &mut [u64], at: usize, n: u64) {
+    if at < to.len() {
+        to[at] = n;
+    }
+}
+
+fn copy(to: &mut [u64], from: &[u64]) {
+    let mut i: usize = 0;
+    while i < from.len() {
+        put(to, i, from[i]);
+        i = i + 1;
+    }
+}
+
+// Opens a desk with a fresh session, its path kept.
+fn open_with(f: Figures, mode: u64, given: &[u64], path: &mut [u64], cells: &mut [u8]) -> Desk {
+    let n = desk_calls::open(f, mode, given, cells);
+    number_line(n);
+    if n != 0 {
+        return no_desk();
+    }
+    copy(path, given);
+    Desk {
+        there: true,
+        figures: f,
+        path: given.len(),
+        session: framing::start(),
+    }
+}
+
+// .. with the first n numbers of a list as its path.
+fn open_path(
+    f: Figures,
+    mode: u64,
+    list: &[u64],
+    n: usize,
+    path: &mut [u64],
+    cells: &mut [u8],
+) -> Desk {
+    if n <= list.len() {
+        return open_with(f, mode, &list[..n], path, cells);
+    }
+    no_desk()
+}
+
+// .. with the path that a word is. A bad line leaves the desk that is there.
+fn open_word(
+    desk: Desk,
+    f: Figures,
+    mode: u64,
+    word: &[u8],
+    list: &mut [u64],
+    path: &mut [u64],
+    cells: &mut [u8],
+) -> Desk {
+    match words::list(word, list) {
+        Listed::Numbers(n) => open_path(f, mode, list, n, path, cells),
+        Listed::Bad => refuse(desk),
+    }
+}
+
+fn open(desk: Desk, line: &[u8], list: &mut [u64], path: &mut [u64], cells: &mut [u8]) -> Desk {
+    let mut room = [0u64; 6];
+    let numbers: &mut [u64] = &mut room;
+    let mut marks = [0u64; 6];
+    let given: &mut [u64] = &mut marks;
+    let from = figures::read(line, 5, numbers, given);
+    if from == 0 {
+        return refuse(desk);
+    }
+    if line.len() < from {
+        return refuse(desk);
+    }
+    let f = figures::figures(numbers, given);
+    open_word(
+        desk,
+        f,
+        figures::mode(numbers),
+        &line[from..],
+        list,
+        path,
+        cells,
+    )
+}
+
+// A request with the first n numbers of a list as its sources.
+fn ask(f: Figures, target: u64, list: &[u64], n: usize, operation: u64, cells: &mut [u8]) {
+    if n <= list.len() {
+        number_line(routing::request(f, target, &list[..n], operation, cells));
+    }
+}
+
+// .. with the sources and the operation that words are.
+fn ask_words(
+    f: Figures,
+    target: u64,
+    sources: &[u8],
+    operation: &[u8],
+    list: &mut [u64],
+    cells: &mut [u8],
+) {
+    let Listed::Numbers(n) = words::list(sources, list) else {
+        print::bad_line();
+        return;
+    };
+    match words::number(operation) {
+        Word::Absent => ask(f, target, list, n, 0, cells),
+        Word::Number(o) => {
+            if 2 < o {
+                print::bad_line();
+                return;
+            }
+            ask(f, target, list, n, o, cells)
+        }
+        Word::Bad => print::bad_line(),
+    }
+}
+
+// .. with the target that a word is.
+fn ask_target(
+    f: Figures,
+    target: &[u8],
+    sources: &[u8],
+    operation: &[u8],
+    list: &mut [u64],
+    cells: &mut [u8],
+) {
+    match words::number(target) {
+        Word::Number(t) => ask_words(f, t, sources, operation, list, cells),
+        Word::Absent => print::bad_line(),
+        Word::Bad => print::bad_line(),
+    }
+}
+
+// A line's three words with its two spaces between.
+fn request(f: Figures, line: &[u8], list: &mut [u64], cells: &mut [u8]) {
+    if line.len() < 8 {
+        print::bad_line();
+        return;
+    }
+    let first = text::find(line, 8, b' ');
+    if line.len() <= first {
+        print::bad_line();
+        return;
+    }
+    let from = first + 1;
+    let second = text::find(line, from, b' ');
+    if line.len() <= second {
+        print::bad_line();
+        return;
+    }
+    let last = second + 1;
+    ask_target(
+        f,
+        &line[8..first],
+        &line[from..second],
+        &line[last..],
+        list,
+        cells,
+    );
+}
+
+// The chunk's turns with the desk's own path.
+fn offer(
+    desk: Desk,
+    chunk: &[u8],
+    store: &mut [u8],
+    table: &mut [[u64; 50]],
+    path: &[u64],
+    cells: &mut [u8],
+    answers: &mut [u64],
+) -> Desk {
+    let n = desk.path;
+    if path.len() < n {
+        return desk;
+    }
+    let figures = desk.figures;
+    let session = stream::offer(
+        desk.session,
+        chunk,
+        store,
+        table,
+        figures,
+        &path[..n],
+        cells,
+        answers,
+    );
+    Desk {
+        there: true,
+        figures,
+        path: n,
+        session,
+    }
+}
+
+// The chunk whose bytes a line has from a position on: one at least.
+fn bytes(
+    desk: Desk,
+    line: &[u8],
+    work: &mut [u8],
+    store: &mut [u8],
+    table: &mut [[u64; 50]],
+    path: &[u64],
+    cells: &mut [u8],
+    answers: &mut [u64],
+) -> Desk {
+    let Hex::Octets(n) = text::octets(line, 6, work) else {
+        return refuse(desk);
+    };
+    if n == 0 {
+        return refuse(desk);
+    }
+    if work.len() < n {
+        return desk;
+    }
+    offer(desk, &work[..n], store, table, path, cells, answers)
+}
+
+fn is(line: &[u8], word: &[u8]) -> bool {
+    if line.len() != word.len() {
+        return false;
+    }
+    text::starts(line, word)
+}
+
+// A line that leaves the stream alone, on a desk that is there.
+fn look(f: Figures, line: &[u8], list: &mut [u64], cells: &mut [u8]) {
+    if text::starts(line, b"request ") {
+        request(f, line, list, cells);
+        return;
+    }
+    if is(line, b"show") {
+        show::show(f, cells);
+        return;
+    }
+    if is(line, b"grid") {
+        show::grid(f, cells);
+        return;
+    }
+    print::bad_line();
+}
+
+// The route sheet, with the desk's own path.
+fn sheet(f: Figures, path: &[u64], n: usize, cells: &[u8]) {
+    if n <= path.len() {
+        route::sheet(f, &path[..n], cells);
+    }
+}
+
+fn answer(
+    desk: Desk,
+    line: &[u8],
+    work: &mut [u8],
+    store: &mut [u8],
+    table: &mut [[u64; 50]],
+    list: &mut [u64],
+    path: &mut [u64],
+    cells: &mut [u8],
+    answers: &mut [u64],
+) -> Desk {
+    if text::starts(line, b"open ") {
+        return open(desk, line, list, path, cells);
+    }
+    if !desk.there {
+        return refuse(desk);
+    }
+    if text::starts(line, b"bytes ") {
+        return bytes(desk, line, work, store, table, path, cells, answers);
+    }
+    if is(line, b"sheet") {
+        sheet(desk.figures, path, desk.path, cells);
+        return desk;
+    }
+    look(desk.figures, line, list, cells);
+    desk
+}
+
+// Answers the line that was found.
+fn finish(
+    desk: Desk,
+    found: Input,
+    line: &[u8],
+    work: &mut [u8],
+    store: &mut [u8],
+    table: &mut [[u64; 50]],
+    list: &mut [u64],
+    path: &mut [u64],
+    cells: &mut [u8],
+    answers: &mut [u64],
+) -> Desk {
+    let n = found.len;
+    if found.long {
+        return refuse(desk);
+    }
+    if line.len() < n {
+        return desk;
+    }
+    answer(
+        desk,
+        &line[..n],
+        work,
+        store,
+        table,
+        list,
+        path,
+        cells,
+        answers,
+    )
+}
+
+fn main() {
+    let mut space = [0u8; 65536];
+    let line: &mut [u8] = &mut space;
+    let mut octets = [0u8; 32768];
+    let work: &mut [u8] = &mut octets;
+    let mut bytes = [0u8; 17408];
+    let store: &mut [u8] = &mut bytes;
+    let mut rows = [[0u64; 50]; 256];
+    let table: &mut [[u64; 50]] = &mut rows;
+    let mut numbers = [0u64; 1024];
+    let list: &mut [u64] = &mut numbers;
+    let mut steps = [0u64; 16];
+    let path: &mut [u64] = &mut steps;
+    let mut points = [0u8; 4096];
+    let cells: &mut [u8] = &mut points;
+    let mut given = [0u64; 256];
+    let answers: &mut [u64] = &mut given;
+    let mut buffer = io::large_buffer();
+    let block: &mut [u8] = &mut buffer;
+    let mut found = input::start();
+    let mut desk = no_desk();
+    // A proved loop has to end: it counts down from a number that no run uses up.
+    let mut turns = u64::MAX;
+    while turns > 0 {
+        turns = turns - 1;
+        found = input::next(found, block, line);
+        if found.ended {
+            break;
+        }
+        desk = finish(
+            desk,
+            found,
+            line,
+            work,
+            store,
+            table,
+            list,
+            path,
+            cells,
+            answers,
+        );
+    }
+}

@@ -1,0 +1,137 @@
+// A chunk of the stream: whole turns of session, tree reader and desk, and a line for each event.
+use desk_calls::Called;
+use framing::Event;
+use framing::Session;
+use glow::Answer;
+use requests::print;
+use routing::Figures;
+use turns::After;
+ghost use Prim.Native.Nat.{_≤_};
+
+fn space() {
+    print::say(b" ");
+}
+
+// An answer, after a comma where one stands before it.
+fn one(n: u64, i: usize) {
+    if 0 < i {
+        print::say(b",");
+    }
+    print::decimal(n);
+}
+
+// The desk's answers with commas between.
+fn list(answers: &[u64]) {
+    let mut i: usize = 0;
+    while i < answers.len() {
+        one(answers[i], i);
+        i = i + 1;
+    }
+}
+
+fn first(answers: &[u64], n: usize) {
+    if n == 0 {
+        print::say(b"-");
+        return;
+    }
+    if n <= answers.len() {
+        list(&answers[..n]);
+    }
+}
+
+// What the desk's call gave. 1 does not come here: the desk is legal, and the entries are as read.
+fn called(c: Called, answers: &[u64]) {
+    match c {
+        Called::Setup => print::say(b"1"),
+        Called::Done(n) => first(answers, n),
+    }
+}
+
+// The tree's number.
+fn number(answer: Answer) -> u64 {
+    match answer {
+        Answer::Setup => 1,
+        Answer::Refused { number, place: _ } => number,
+        Answer::Room { count: _ } => 38,
+        Answer::Read { root: _, count: _ } => 0,
+    }
+}
+
+// What came after the session's call.
+fn after(a: After, answers: &[u64]) {
+    match a {
+        After::Nothing => (),
+        After::Refused { answer } => {
+            space();
+            print::decimal(number(answer));
+        }
+        After::Served {
+            root: _,
+            count: _,
+            called: c,
+        } => {
+            print::say(b" 0 ");
+            called(c, answers);
+        }
+    }
+}
+
+// An event's line. A call that used up its chunk without an event has none.
+fn report(event: Event, a: After, answers: &[u64]) {
+    if let Event::More = event {
+        return;
+    }
+    print::decimal(events::number(event));
+    after(a, answers);
+    print::end();
+}
+
+// The place after the bytes that a call consumed of those from a place on: it consumes no more than it is offered.
+fn onward(from: usize, consumed: usize, end: usize) -> usize
+    requires { ⌜ from ≤ end ⌝ }
+    ensures { λ r. ⌜ r ≤ end ⌝ }
+{
+    if end - from < consumed {
+        return end;
+    }
+    from + consumed
+}
+
+// Offers a chunk until it is consumed.
+pub(crate) fn offer(
+    start: Session,
+    chunk: &[u8],
+    store: &mut [u8],
+    table: &mut [[u64; 50]],
+    f: Figures,
+    path: &[u64],
+    cells: &mut [u8],
+    answers: &mut [u64],
+) -> Session {
+    let mut session = start;
+    let mut from = 0;
+    while from < chunk.len() {
+        let t = turns::turn(
+            session,
+            store,
+            &chunk[from..],
+            table,
+            f,
+            path,
+            cells,
+            answers,
+        );
+        let fed = t.fed;
+        let a = t.after;
+        let event = fed.event;
+        let next = onward(from, fed.consumed, chunk.len());
+        // Only 1 SETUP consumes nothing. It does not come here, and would end the chunk.
+        if next <= from {
+            return session;
+        }
+        from = next;
+        session = fed.session;
+        report(event, a, answers);
+    }
+    session
+}

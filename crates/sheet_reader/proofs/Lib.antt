@@ -1,0 +1,6 @@
+pub mod Members
+pub mod Numbers
+pub mod Desks
+pub mod Messages
+pub mod Whole
+pub mod Theorems

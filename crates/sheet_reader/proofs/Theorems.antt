@@ -1,0 +1,183 @@
+-- The theorems of the route sheet reader, over the equation of its contract (`sheetRead side text store table path cells ≡ told r ..`): the sheet of every
+-- legal desk is read back as that desk, a desk that was read is legal, and a refusal leaves path and crosspoints as they were.
+use Prim.Native.Nat.{ℕ, _*_}
+use mathlib.Core.Path.{_≡_, refl, sym, ap, _∙_}
+use mathlib.Core.List.{List, [], _∷_, _++_}
+use mathlib.Core.Bool.{true}
+use native.Mathlib.Omega.{arith}
+use borrow.Author.Tests.{eq-eqb, eqb-true}
+use lib.Dec.{ltb, eqb}
+use lib.ListN.{length, take, drop}
+use lib.Seq.{take-at, drop-at}
+use Rattle.containers.specs.declared.Onto.{Onto}
+use Rattle.containers.specs.declared.Onto.the-variants.{Next, Refused as Stopped}
+use Rattle.containers.proofs.Heads.{pick-by}
+use Rattle.entries.specs.Entry.{Entries, Rows}
+use Rattle.forest.specs.Content.{Item, itemsOf}
+use Rattle.glow.specs.Message.{walk}
+use Rattle.routing.specs.declared.Figures.{Figures}
+use Rattle.routing.specs.Figures.{side, both}
+use Rattle.routing.specs.Crosspoints.{Cells, clear}
+use Rattle.desk_calls.specs.Calls.{deskLegal, deskOpened, handled}
+use Rattle.desk_calls.proofs.Setup.{desk-fits, desk-legal, desk-rest}
+use Rattle.desk_calls.proofs.Claims.{desk-opened-legal, handled-legal}
+use Rattle.sheets.specs.Sheet.{Desk, desk, sheetOf}
+use Rattle.sheets.specs.Lines.{linesIn}
+use Rattle.sheets.specs.Reading as reading
+use Rattle.sheets.specs.Reading.{Held, refusal, message, refused, firstRefused, applied, begun, opens, figuresIn, pathIn, modeIn, allLinks, ofEntries}
+use Rattle.sheets.specs.Reading.{ofAnswer, ofMessage, heldIn, ofHeld, readSheet}
+use Rattle.sheets.proofs.Theorems.{sheet-read}
+use Rattle.sheet_reader.specs.declared.Sheet.{Sheet}
+use Rattle.sheet_reader.specs.declared.Sheet.the-variants.{Setup, Refused, Read}
+use Rattle.sheet_reader.specs.Calls.{Given, Outcome, outcome, none, scratch, kept, leaves, isReady, sheetRead, told}
+use Rattle.sheet_reader.specs.Calls as calls
+
+-- What is lent has the lengths that the reader asks.
+pub record Ready (s : List ℕ) (t : Rows) (p c : List ℕ) : Type 0 where
+  pub store : length s ≡ 17408
+  pub table : length t ≡ 256
+  pub path : length p ≡ 16
+  pub cells : length c ≡ 4096
+
+ready-reads : (text store : List ℕ) (table : Rows) (path cells : List ℕ) → Ready store table path cells
+    → sheetRead side text store table path cells ≡ leaves (readSheet side text) path cells
+unfolding sheetRead isReady
+ready-reads text store table path cells h = rw (eq-eqb _ _ (h .store), eq-eqb _ _ (h .table), eq-eqb _ _ (h .path), eq-eqb _ _ (h .cells))
+
+-- A desk is answered: its figures, with the limits as given; its path in the first words of the lent one, the others as they were; its crosspoints.
+pub record ReadAs (d : Desk) (r : Sheet) (before after left : List ℕ) : Type 0 where
+  pub answer : r ≡ Read (d .figures) (length (d .path))
+  pub path : take (length (d .path)) after ≡ d .path
+  pub rest : drop (length (d .path)) after ≡ drop (length (d .path)) before
+  pub cells : left ≡ d .cells
+
+abbrev figuresOr : Figures → Given → Figures
+figuresOr f none = f
+figuresOr f (calls.desk g n) = g
+
+abbrev lengthOr : Given → ℕ
+lengthOr none = 0
+lengthOr (calls.desk g n) = n
+
+read-as : (d : Desk) (path : List ℕ) (cells : Cells) (r : Sheet) (store′ : List ℕ) (table′ : Rows) (path′ : List ℕ) (cells′ : Cells)
+    → leaves (reading.read d) path cells ≡ told r store′ table′ path′ cells′ → ReadAs d r path path′ cells′
+read-as d path cells Setup store′ table′ path′ cells′ e =
+    let x : scratch ≡ kept store′ table′ = ap (λ (o : Outcome). o .lent) e in
+    let z : _≡_ {A = ℕ} 0 1 = cc in
+    absurd (omega arith)
+read-as d path cells (Refused n) store′ table′ path′ cells′ e =
+    let x : calls.desk (d .figures) (length (d .path)) ≡ none = ap (λ (o : Outcome). o .given) e in
+    let z : _≡_ {A = ℕ} 0 1 = cc in
+    absurd (omega arith)
+read-as d path cells (Read f n) store′ table′ path′ cells′ e =
+    let g : d .figures ≡ f = ap (λ (o : Outcome). figuresOr f (o .given)) e in
+    let k : length (d .path) ≡ n = ap (λ (o : Outcome). lengthOr (o .given)) e in
+    let p : d .path ++ drop (length (d .path)) path ≡ path′ = ap (λ (o : Outcome). o .path) e in
+    record {
+      answer = ap (λ (x : Figures). Read x n) (sym g) ∙ ap (Read (d .figures)) (sym k);
+      path = ap (take (length (d .path))) (sym p) ∙ take-at (d .path) (drop (length (d .path)) path) (length (d .path)) refl;
+      rest = ap (drop (length (d .path))) (sym p) ∙ drop-at (d .path) (drop (length (d .path)) path) (length (d .path)) refl;
+      cells = sym (ap (λ (o : Outcome). o .cells) e);
+    }
+
+module _ (text store : List ℕ) (table : Rows) (path : List ℕ) (cells : Cells) (lent : Ready store table path cells) (r : Sheet)
+    (store′ : List ℕ) (table′ : Rows) (path′ : List ℕ) (cells′ : Cells)
+    (call : sheetRead side text store table path cells ≡ told r store′ table′ path′ cells′) where
+  -- 1. The sheet of a legal desk is read back as that desk.
+  pub read-back : (d : Desk) → deskLegal side (d .figures) (d .path) (d .cells) ≡ true → text ≡ sheetOf side d → ReadAs d r path path′ cells′
+  read-back d ok e =
+      read-as d path cells r store′ table′ path′ cells′
+      (sym (ready-reads text store table path cells lent
+      ∙ ap (λ (x : reading.Sheet). leaves x path cells) (ap (readSheet side) e ∙ sheet-read d ok))
+      ∙ call)
+
+-- 2. A desk that was read is legal.
+abbrev Legal : reading.Sheet → Type 0
+Legal (refused n) = Unit {0}
+Legal (reading.read d) = deskLegal side (d .figures) (d .path) (d .cells) ≡ true
+
+applied-legal : (f : Figures) (path : List ℕ) (es : List Item) (cells : Cells) → deskLegal side f path cells ≡ true
+    → Legal (applied f path (handled side f path es cells))
+unfolding applied
+applied-legal f path es cells h =
+    pick-by Legal (eqb (firstRefused (handled side f path es cells .answers)) 0)
+    (λ e.
+    desk-rest side f path (handled side f path es cells .cells) (desk-fits side f path cells h)
+    ∙ handled-legal side f path es cells (desk-legal side f path cells h))
+    (λ e. tt)
+
+opens-legal : (f : Figures) (path : List ℕ) (mode : ℕ) (es : List Item) → Legal (opens side f path mode es)
+unfolding opens begun
+opens-legal f path mode es =
+    let a = deskOpened side f path mode (clear (side * side)) in
+    pick-by Legal (eqb (a .number) 0)
+    (λ e. applied-legal f path es (a .cells) (desk-opened-legal side f path mode (clear (side * side)) (eqb-true (a .number) 0 e)))
+    (λ e. tt)
+
+entries-legal : (es : List Item) → Legal (ofEntries side es)
+unfolding ofEntries
+entries-legal [] = tt
+entries-legal (e ∷ es) =
+    pick-by Legal (both (eqb (e .kind) 7) (allLinks es)) (λ h. opens-legal (figuresIn e) (pathIn e) (modeIn e) (e ∷ es)) (λ h. tt)
+
+answer-legal : (m : List ℕ) (es : Entries) (a : Onto) → Legal (ofAnswer side m es a)
+answer-legal m es (Next next) = pick-by Legal (ltb 256 (length es)) (λ h. tt) (λ h. entries-legal (itemsOf m es))
+answer-legal m es (Stopped e) = tt
+
+held-legal : (h : Held) → Legal (ofHeld side h)
+unfolding ofMessage
+held-legal (refusal n) = tt
+held-legal (message m) = answer-legal m (walk m .out .entries) (walk m .out .answer)
+
+read-legal : (text : List ℕ) → Legal (readSheet side text)
+unfolding readSheet
+read-legal text = held-legal (heldIn (linesIn text))
+
+-- what an answer that names a desk tells
+by-sheet : (x : reading.Sheet) → Legal x → (path : List ℕ) (cells : Cells) (f : Figures) (n : ℕ) (store′ : List ℕ) (table′ : Rows) (path′ : List ℕ) (cells′ : Cells)
+    → leaves x path cells ≡ told (Read f n) store′ table′ path′ cells′ → deskLegal side f (take n path′) cells′ ≡ true
+by-sheet (refused k) l path cells f n store′ table′ path′ cells′ e =
+    let x : none ≡ calls.desk f n = ap (λ (o : Outcome). o .given) e in
+    let z : _≡_ {A = ℕ} 0 1 = cc in
+    absurd (omega arith)
+by-sheet (reading.read d) l path cells f n store′ table′ path′ cells′ e =
+    let r = read-as d path cells (Read f n) store′ table′ path′ cells′ e in
+    let g : d .figures ≡ f = ap (λ (o : Outcome). figuresOr f (o .given)) e in
+    let k : length (d .path) ≡ n = ap (λ (o : Outcome). lengthOr (o .given)) e in
+    let p : take n path′ ≡ d .path = ap (λ (i : ℕ). take i path′) (sym k) ∙ r .path in
+    ap (λ (y : Figures). deskLegal side y (take n path′) cells′) (sym g)
+    ∙ ap (λ (y : List ℕ). deskLegal side (d .figures) y cells′) p
+    ∙ ap (deskLegal side (d .figures) (d .path)) (r .cells)
+    ∙ l
+
+module _ (text store : List ℕ) (table : Rows) (path : List ℕ) (cells : Cells) where
+  by-ready : (P : Outcome → Type 0) → P (leaves (readSheet side text) path cells) → P (outcome 1 none (kept store table) path cells)
+      → P (sheetRead side text store table path cells)
+  unfolding sheetRead
+  by-ready P a b = pick-by P (isReady side store table path cells) (λ h. a) (λ h. b)
+
+  pub desk-read-legal : (f : Figures) (n : ℕ) (store′ : List ℕ) (table′ : Rows) (path′ : List ℕ) (cells′ : Cells)
+      → sheetRead side text store table path cells ≡ told (Read f n) store′ table′ path′ cells′ → deskLegal side f (take n path′) cells′ ≡ true
+  desk-read-legal f n store′ table′ path′ cells′ =
+      by-ready (λ (o : Outcome). o ≡ told (Read f n) store′ table′ path′ cells′ → deskLegal side f (take n path′) cells′ ≡ true)
+      (by-sheet (readSheet side text) (read-legal text) path cells f n store′ table′ path′ cells′)
+      (λ e.
+      let x : none ≡ calls.desk f n = ap (λ (o : Outcome). o .given) e in
+      let z : _≡_ {A = ℕ} 0 1 = cc in
+      absurd (omega arith))
+
+  -- 3. A refusal leaves path and crosspoints as they were.
+  as-was : (x : reading.Sheet) (n : ℕ) (store′ : List ℕ) (table′ : Rows) (path′ : List ℕ) (cells′ : Cells)
+      → leaves x path cells ≡ told (Refused n) store′ table′ path′ cells′ → (path′ ≡ path) × (cells′ ≡ cells)
+  as-was (refused k) n store′ table′ path′ cells′ e = (sym (ap (λ (o : Outcome). o .path) e), sym (ap (λ (o : Outcome). o .cells) e))
+  as-was (reading.read d) n store′ table′ path′ cells′ e =
+      let x : calls.desk (d .figures) (length (d .path)) ≡ none = ap (λ (o : Outcome). o .given) e in
+      let z : _≡_ {A = ℕ} 0 1 = cc in
+      absurd (omega arith)
+
+  pub refused-as-was : (n : ℕ) (store′ : List ℕ) (table′ : Rows) (path′ : List ℕ) (cells′ : Cells)
+      → sheetRead side text store table path cells ≡ told (Refused n) store′ table′ path′ cells′ → (path′ ≡ path) × (cells′ ≡ cells)
+  refused-as-was n store′ table′ path′ cells′ =
+      by-ready (λ (o : Outcome). o ≡ told (Refused n) store′ table′ path′ cells′ → (path′ ≡ path) × (cells′ ≡ cells))
+      (as-was (readSheet side text) n store′ table′ path′ cells′)
+      (λ e. (sym (ap (λ (o : Outcome). o .path) e), sym (ap (λ (o : Outcome). o .cells) e)))

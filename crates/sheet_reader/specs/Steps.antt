@@ -1,0 +1,42 @@
+-- For the functions of this crate.
+use Prim.Native.Nat.{ℕ, _≤_, _<_}
+use mathlib.Core.Path.{_≡_}
+use mathlib.Core.List.{List, [], _∷_}
+use mathlib.Core.Bool.{Bool, false}
+use lib.ListN.{length, take, getD}
+use lib.Dec.{eqb}
+use Rattle.integers.specs.Digits.{pick}
+use Rattle.entries.specs.Entry.{Rows}
+use Rattle.grammar.specs.Grammar.{qualifiedMatrix}
+use Rattle.forest.specs.Content.{Item, itemOf}
+use Rattle.forest.specs.Rows.{entryOf}
+use Rattle.routing.specs.declared.Figures.{Figures}
+use Rattle.routing.specs.Figures.{both}
+use Rattle.routing.specs.Crosspoints.{Cells}
+use Rattle.sheets.specs.Sheet.{desk}
+use Rattle.sheets.specs.Reading as reading
+use Rattle.sheets.specs.Reading.{refused, read, allLinks}
+use Rattle.sheet_reader.specs.declared.Sheet.{Sheet}
+use Rattle.sheet_reader.specs.Calls.{leaves, told}
+
+-- the entry in the first row
+abbrev pub firstOf : List ℕ → Rows → Item
+firstOf s rows = itemOf s (entryOf (getD rows 0 []))
+
+-- one qualified matrix, and connections alone
+abbrev pub isSheet : List Item → Bool
+isSheet [] = false
+isSheet (e ∷ es) = both (eqb (e .kind) qualifiedMatrix) (allLinks es)
+
+-- r words of a list of sixteen are the numbers; or there are more than sixteen numbers
+pub record Taken (xs : List ℕ) (r : ℕ) (list : List ℕ) : Type 0 where
+  pub all : r ≤ 16 → take r list ≡ xs
+  pub more : 16 < r → 16 < length xs
+
+-- a desk, or a refusal where the number is one
+unfoldable pub sheetBy : ℕ → Figures → List ℕ → Cells → reading.Sheet
+sheetBy n f path cells = pick (eqb n 0) (read (desk f path cells)) (refused n)
+
+-- what reading gives is told, whatever store and table hold
+abbrev pub Tells : reading.Sheet → List ℕ → Cells → Sheet → List ℕ → Cells → Type 0
+Tells x path cells r path′ cells′ = (store : List ℕ) (table : Rows) → leaves x path cells ≡ told r store table path′ cells′

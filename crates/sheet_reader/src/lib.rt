@@ -1,0 +1,384 @@
+// The route sheet reader: from a sheet's text to a desk, or the first refusal.
+use desk_calls::Called;
+use entries::Cell;
+use glow::Answer;
+use identifiers::Arc;
+use identifiers::Oid;
+use routing::Figures;
+use routing::Limit;
+use sheet_stream::Found;
+ghost use mathlib.Core.Path.{_≡_};
+ghost use mathlib.Core.Bool.{true};
+ghost use mathlib.Core.List.{List, [], _++_};
+ghost use Prim.Native.Nat.{ℕ, _≤_, _<_};
+ghost use lib.ListN.{length, getD, take, drop};
+ghost use Rattle.forest.specs.Content.{contentOf, isWord};
+ghost use Rattle.forest.specs.Rows.{cellAt, itemsIn};
+ghost use Rattle.glow_writer.specs.Accepted.{accepted};
+ghost use Rattle.routing.specs.Figures.{side};
+ghost use Rattle.desk_calls.specs.Connections.{numberOf, octetsOf, numbersIn};
+ghost use Rattle.desk_calls.specs.Steps.{Left, Goes};
+ghost use Rattle.sheets.specs.Reading.{firstRefused, limitIn, figuresIn, opens, ofEntries, ofMessage};
+ghost use Rattle.sheet_reader.specs.Calls.{sheetRead, told};
+ghost use Rattle.sheet_reader.specs.Steps.{firstOf, isSheet, Taken, sheetBy, Tells};
+
+// 1 SETUP; a refusal; or a desk: its figures, and how many numbers its path has.
+pub enum Sheet {
+    Setup,
+    Refused { number: u64 },
+    Read { figures: Figures, length: usize },
+}
+
+fn wide(x: usize) -> u64
+    ensures { λ r. ⌜ r ≡ x ⌝ }
+{
+    x as u64
+}
+
+fn index(x: u64) -> usize
+    ensures { λ r. ⌜ r ≡ x ⌝ }
+{
+    x as usize
+}
+
+// The cell c of the first row.
+fn cell_at(rows: &[[u64; 50]], c: usize) -> Cell
+    requires { ⌜ (0 < length (now rows)) × (c < 16) ⌝ }
+    ensures { λ r. ⌜ r ≡ cellAt (getD (now (rows .entry)) 0 []) c ⌝ }
+{
+    let j = 2 + c * 3;
+    Cell {
+        kind: rows[0][j],
+        first: rows[0][j + 1],
+        second: rows[0][j + 2],
+    }
+}
+
+// The number of a member, 0 where it has none.
+fn number_of(v: Cell) -> u64
+    ensures { λ r. ⌜ ((s : List ℕ) → numberOf (contentOf s v) ≡ r) ⌝ }
+{
+    if v.kind != 2 {
+        return 0;
+    }
+    if v.second != 0 {
+        return 0;
+    }
+    v.first
+}
+
+fn is_word(kind: u64) -> bool
+    ensures { λ r. ⌜ isWord kind ≡ r ⌝ }
+{
+    if kind == 1 {
+        return true;
+    }
+    if kind == 2 {
+        return true;
+    }
+    kind == 9
+}
+
+// The limit that a member gives.
+fn limit_of(v: Cell) -> Limit
+    ensures { λ r. ⌜ ((s : List ℕ) → limitIn (contentOf s v) ≡ r) ⌝ }
+{
+    if !is_word(v.kind) {
+        return Limit::Absent;
+    }
+    if v.second != 0 {
+        return Limit::Absent;
+    }
+    Limit::Most(v.first)
+}
+
+// The figures of the entry in the first row: "type 2, .. targets 4, sources 5, total limit 6, limit per target 7".
+fn figures_of(rows: &[[u64; 50]]) -> Figures
+    requires { ⌜ 0 < length (now rows) ⌝ }
+    ensures { λ r. ⌜ ((s : List ℕ) → figuresIn (firstOf s (now (rows .entry))) ≡ r) ⌝ }
+{
+    let kind = number_of(cell_at(rows, 3));
+    let targets = number_of(cell_at(rows, 5));
+    let sources = number_of(cell_at(rows, 6));
+    let total = limit_of(cell_at(rows, 7));
+    let each = limit_of(cell_at(rows, 8));
+    Figures {
+        kind,
+        targets,
+        sources,
+        total,
+        each,
+    }
+}
+
+// Whether the first rows are one qualified matrix and connections alone.
+fn is_sheet(rows: &[[u64; 50]], count: usize) -> bool
+    requires { ⌜ count ≤ length (now rows) ⌝ }
+    ensures { λ r. ⌜ ((s : List ℕ) → isSheet (itemsIn s (now (rows .entry)) count) ≡ r) ⌝ }
+{
+    if count == 0 {
+        return false;
+    }
+    if rows[0][0] != 7 {
+        return false;
+    }
+    let mut i: usize = 1;
+    while i < count {
+        if rows[i][0] != 8 {
+            return false;
+        }
+        i += 1;
+    }
+    true
+}
+
+// The end of an identifier's numbers: that of its octets, or 0 where these are none.
+fn list_end(octets: &[u8]) -> usize
+    ensures { λ r. ⌜ Left (now (octets .entry)) 0 r (numbersIn (now (octets .entry))) ⌝ }
+{
+    match identifiers::read_oid(octets, 0, octets.len()) {
+        Oid::Numbers(_) => octets.len(),
+        Oid::Range => 0,
+        Oid::Refused => 0,
+    }
+}
+
+// A number of an identifier, and where the next one begins.
+struct Step {
+    number: u64,
+    next: usize,
+}
+
+fn next_number(octets: &[u8], p: usize, end: usize) -> Step
+    requires { ⌜ p < end ⌝ }
+    ensures { λ r. ⌜ ((xs : List ℕ) → Left (now (octets .entry)) p end xs → Goes (now (octets .entry)) end xs (r .number) (r .next)) ⌝ }
+    ensures { λ r. ⌜ (p < r .next) × (r .next ≤ end) ⌝ }
+{
+    match identifiers::read_number(octets, p, end) {
+        Arc::Number { number, next } => Step { number, next },
+        Arc::Range { next: _ } => Step {
+            number: 0,
+            next: end,
+        },
+        Arc::Refused => Step {
+            number: 0,
+            next: end,
+        },
+    }
+}
+
+// The numbers of an identifier, at the start of `list`: how many; 17 where there are more than 16.
+fn numbers_of(octets: &[u8], list: &mut [u64]) -> usize
+    requires { ⌜ length (now list) ≡ 16 ⌝ }
+    ensures { λ r. ⌜ Taken (numbersIn (now (octets .entry))) r (now (list .exit)) ⌝ }
+{
+    let end = list_end(octets);
+    let mut p: usize = 0;
+    let mut k: usize = 0;
+    while p < end {
+        let x = next_number(octets, p, end);
+        if 16 <= k {
+            return 17;
+        }
+        list[k] = x.number;
+        k += 1;
+        p = x.next;
+    }
+    k
+}
+
+// The numbers of a member, none where it has none.
+fn path_of(s: &[u8], v: Cell, list: &mut [u64]) -> usize
+    requires { ⌜ length (now list) ≡ 16 ⌝ }
+    ensures { λ r. ⌜ Taken (numbersIn (octetsOf (contentOf (now (s .entry)) v))) r (now (list .exit)) ⌝ }
+{
+    if v.kind != 13 {
+        return 0;
+    }
+    let total = wide(s.len());
+    if total < v.second {
+        return 0;
+    }
+    if total - v.second < v.first {
+        return 0;
+    }
+    let start = index(v.first);
+    let end = start + index(v.second);
+    numbers_of(&s[start..end], list)
+}
+
+// The first answer that is a refusal, 0 where there is none.
+fn first_refused(answers: &[u64]) -> u64
+    ensures { λ r. ⌜ firstRefused (now (answers .entry)) ≡ r ⌝ }
+{
+    let mut j: usize = 0;
+    while j < answers.len() {
+        if answers[j] != 0 {
+            return answers[j];
+        }
+        j += 1;
+    }
+    0
+}
+
+// Opens the desk and applies the connections of the first rows: 0 and its crosspoints, or the first refusal.
+fn apply(
+    f: Figures,
+    mode: u64,
+    path: &[u64],
+    rows: &[[u64; 50]],
+    count: usize,
+    root: u64,
+    s: &[u8],
+    cells: &mut [u8],
+) -> u64
+    requires { ⌜ (length (now cells) ≡ 4096) × ((count ≤ 256) × (count ≤ length (now rows))) ⌝ }
+    requires { ⌜ accepted root (itemsIn (now s) (now rows) count) ≡ true ⌝ }
+    ensures { λ r. ⌜ opens side f (now (path .entry)) mode (itemsIn (now (s .entry)) (now (rows .entry)) count)
+        ≡ sheetBy r f (now (path .entry)) (now (cells .exit)) ⌝ }
+{
+    let opened = desk_calls::open(f, mode, path, cells);
+    if opened != 0 {
+        return opened;
+    }
+    let mut answers = [0u64; 256];
+    let called = desk_calls::call(f, path, rows, count, root, s, cells, &mut answers);
+    let Called::Done(n) = called else {
+        return 1;
+    };
+    first_refused(&answers[..n])
+}
+
+// The words of one list over the first of another.
+fn copy_words(from: &[u64], to: &mut [u64])
+    requires { ⌜ length (now from) ≤ length (now to) ⌝ }
+    ensures { λ _. ⌜ now (to .exit) ≡ now (from .entry) ++ drop (length (now (from .entry))) (now (to .entry)) ⌝ }
+{
+    let mut i: usize = 0;
+    while i < from.len() {
+        to[i] = from[i];
+        i += 1;
+    }
+}
+
+// The same of bytes.
+fn copy_bytes(from: &[u8], to: &mut [u8])
+    requires { ⌜ length (now from) ≤ length (now to) ⌝ }
+    ensures { λ _. ⌜ now (to .exit) ≡ now (from .entry) ++ drop (length (now (from .entry))) (now (to .entry)) ⌝ }
+{
+    let mut i: usize = 0;
+    while i < from.len() {
+        to[i] = from[i];
+        i += 1;
+    }
+}
+
+// The answer: a desk where the number is 0, with its path and crosspoints handed over; else a refusal.
+fn hand_over(
+    number: u64,
+    f: Figures,
+    numbers: &[u64],
+    cells: &[u8],
+    path: &mut [u64],
+    crosspoints: &mut [u8],
+) -> Sheet
+    requires { ⌜ (length (now numbers) ≤ length (now path)) × (length (now cells) ≡ length (now crosspoints)) ⌝ }
+    ensures { λ r. ⌜ Tells (sheetBy number f (now (numbers .entry)) (now (cells .entry))) (now (path .entry)) (now (crosspoints .entry))
+        r (now (path .exit)) (now (crosspoints .exit)) ⌝ }
+{
+    if number != 0 {
+        return Sheet::Refused { number };
+    }
+    copy_words(numbers, path);
+    copy_bytes(cells, crosspoints);
+    Sheet::Read {
+        figures: f,
+        length: numbers.len(),
+    }
+}
+
+// The entries of a message that was read: 33, the desk's refusals, or a desk.
+fn of_entries(
+    rows: &[[u64; 50]],
+    count: usize,
+    root: u64,
+    s: &[u8],
+    path: &mut [u64],
+    crosspoints: &mut [u8],
+) -> Sheet
+    requires { ⌜ (length (now path) ≡ 16) × ((length (now crosspoints) ≡ 4096) × ((count ≤ 256) × (count ≤ length (now rows)))) ⌝ }
+    requires { ⌜ accepted root (itemsIn (now s) (now rows) count) ≡ true ⌝ }
+    ensures { λ r. ⌜ Tells (ofEntries side (itemsIn (now (s .entry)) (now (rows .entry)) count)) (now (path .entry)) (now (crosspoints .entry))
+        r (now (path .exit)) (now (crosspoints .exit)) ⌝ }
+{
+    if !is_sheet(rows, count) {
+        return Sheet::Refused { number: 33 };
+    }
+    let mut numbers = [0u64; 16];
+    let n = path_of(s, cell_at(rows, 0), &mut numbers);
+    if 16 < n {
+        return Sheet::Refused { number: 45 };
+    }
+    let f = figures_of(rows);
+    let mode = number_of(cell_at(rows, 4));
+    let mut cells = [0u8; 4096];
+    let number = apply(f, mode, &numbers[..n], rows, count, root, s, &mut cells);
+    hand_over(number, f, &numbers[..n], &cells, path, crosspoints)
+}
+
+// A message: the tree's refusals, with the largest table, and then its entries.
+fn of_message(m: &[u8], table: &mut [[u64; 50]], path: &mut [u64], crosspoints: &mut [u8]) -> Sheet
+    requires { ⌜ length (now m) ≤ 16384 ⌝ }
+    requires { ⌜ (length (now table) ≡ 256) × ((length (now path) ≡ 16) × (length (now crosspoints) ≡ 4096)) ⌝ }
+    ensures { λ r. ⌜ Tells (ofMessage side (now (m .entry))) (now (path .entry)) (now (crosspoints .entry)) r (now (path .exit)) (now (crosspoints .exit)) ⌝ }
+{
+    match glow::read(m, table) {
+        Answer::Setup => Sheet::Setup,
+        Answer::Refused { number, place: _ } => Sheet::Refused { number },
+        Answer::Room { count: _ } => Sheet::Refused { number: 38 },
+        Answer::Read { root, count } => of_entries(table, count, root, m, path, crosspoints),
+    }
+}
+
+// A message of n bytes is a part of the store.
+fn front(store: &[u8], n: usize) -> usize
+    ensures { λ r. ⌜ take r (now (store .entry)) ≡ take n (now (store .entry)) ⌝ }
+    ensures { λ r. ⌜ r ≤ length (now (store .entry)) ⌝ }
+{
+    if n < store.len() {
+        return n;
+    }
+    store.len()
+}
+
+// Reads a route sheet: a desk, with its path in the first `length` words of `path` and its crosspoints in `crosspoints`; or the first refusal, with both as
+// they were. `Setup`, with everything as it was, for a store of other than 17,408 bytes, a table of other than 256 rows, a path of other than 16 words or
+// crosspoints of other than 4,096 cells. After any other answer what store and table hold is free.
+pub fn read(
+    text: &[u8],
+    store: &mut [u8],
+    table: &mut [[u64; 50]],
+    path: &mut [u64],
+    crosspoints: &mut [u8],
+) -> Sheet
+    ensures { λ r. ⌜ sheetRead side (now (text .entry)) (now (store .entry)) (now (table .entry)) (now (path .entry)) (now (crosspoints .entry))
+        ≡ told r (now (store .exit)) (now (table .exit)) (now (path .exit)) (now (crosspoints .exit)) ⌝ }
+{
+    if table.len() != 256 {
+        return Sheet::Setup;
+    }
+    if path.len() != 16 {
+        return Sheet::Setup;
+    }
+    if crosspoints.len() != 4096 {
+        return Sheet::Setup;
+    }
+    match sheet_stream::find_message(text, store) {
+        Found::Setup => Sheet::Setup,
+        Found::Refused { number } => Sheet::Refused { number },
+        Found::Message { length } => {
+            let n = front(store, length);
+            of_message(&store[..n], table, path, crosspoints)
+        }
+    }
+}

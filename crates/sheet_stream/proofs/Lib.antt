@@ -1,0 +1,6 @@
+pub mod Lines
+pub mod Events
+pub mod Ways
+pub mod Steps
+pub mod Messages
+pub mod Answers

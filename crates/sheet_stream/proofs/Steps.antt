@@ -1,0 +1,246 @@
+-- Laws for the functions: one byte offered to the session is one step of the rules, and leaves what the bytes give.
+use Prim.Native.Nat.{ℕ, _≤_, _<_}
+use mathlib.Core.Path.{_≡_, refl, sym, ap, subst, _∙_}
+use mathlib.Core.List.{List, [], _∷_}
+use mathlib.Core.Bool.{Bool, true, false, true≢false}
+use mathlib.Core.Logic.{⊎-elim}
+use native.Mathlib.Omega.{arith}
+use borrow.Author.Tests.{eqb-true, eq-eqb, ne-eqb, le-leb, lt-leb}
+use types.Run.{OneOf}
+use denote.Enum.Declared.{tagOf}
+use lib.ListN.{length, take, length-take}
+use lib.Seq.{sets}
+use lib.Dec.{eqb}
+use Rattle.framing.proofs.Event as event
+use Rattle.framing.specs.declared.Event.{Event}
+use Rattle.framing.specs.declared.Event.the-variants as ev
+use Rattle.framing.specs.declared.Fed.{Fed}
+use Rattle.framing.specs.declared.Frame.{Frame}
+use Rattle.framing.specs.declared.Frame.the-variants.{Outside, Stray, Inside, Escaped, BadByte, TooLong}
+use Rattle.framing.specs.declared.Pending.{Pending}
+use Rattle.framing.specs.declared.Pending.the-variants.{Nothing, Part}
+use Rattle.framing.specs.declared.Session.{Session}
+use Rattle.framing.specs.Numbers.{storeLength, messageLimit, contentStart, pick}
+use Rattle.framing.specs.Rules.{Message, none, part, isOpen, Step, begin, step, happens, after}
+use Rattle.framing.specs.Session.{saidBy, placeOf, messageOf, stateOf, sessionOf, legal, Legal, content, held, kept, Whole, whole, answers, run, feeds}
+use Rattle.framing.proofs.Lists.{take-sets-le}
+use Rattle.framing.proofs.Laws.{legal-true, true-legal, Bounded, bounded-state, Within, within-step, kept-state, legal-next, number-high}
+use Rattle.sheets.specs.Lines.{Stream, linesIn}
+use Rattle.sheets.specs.Reading.{refusal, message, inFrame, somethingOpen, ofEvents, heldIn}
+use Rattle.sheets.specs.Steps.{isBad}
+use Rattle.sheet_stream.specs.declared.Tally.{Tally}
+use Rattle.sheet_stream.specs.Finding.{setup, holds, finds}
+use Rattle.sheet_stream.specs.Steps.{frameOpen, partOpen, openIn, bytesFrom, another, collects, left, Sound, Taken}
+use Rattle.framing.proofs.Chunks.{fresh-legal}
+use Rattle.sheet_stream.proofs.Lines.{lines-bytes, lines-bad}
+use Rattle.sheet_stream.proofs.Events.{collects-all}
+use Rattle.sheet_stream.proofs.Ways.{Way, high, done, opens, stays, way, said-short, loose-open, collects-any}
+
+-- an event's number does not depend on the store
+said-any : (e : Event) (t : List ℕ) → saidBy e [] .number ≡ saidBy e t .number
+said-any ev.More t = refl
+said-any ev.Setup t = refl
+said-any (ev.Piece d) t = refl
+said-any (ev.Message n d) t = refl
+said-any ev.Request t = refl
+said-any ev.Response t = refl
+said-any (ev.Refused f d) t = refl
+
+-- the `else` of a `let .. else`
+pub no-message : (e : Event) → OneOf (0 ∷ 1 ∷ 2 ∷ 4 ∷ 5 ∷ 6 ∷ []) (tagOf event.the-type e) → saidBy e [] .number < 10 → eqb (saidBy e [] .number) 3 ≡ false
+no-message ev.More k h = refl
+no-message ev.Setup k h = refl
+no-message (ev.Piece d) k h = refl
+no-message (ev.Message n d) k h =
+    absurd (⊎-elim (λ (q : 3 ≡ 0). omega arith) (⊎-elim (λ (q : 3 ≡ 1). omega arith) (⊎-elim (λ (q : 3 ≡ 2). omega arith)
+    (⊎-elim (λ (q : 3 ≡ 4). omega arith) (⊎-elim (λ (q : 3 ≡ 5). omega arith) (λ (q : 3 ≡ 6). omega arith))))) k)
+no-message ev.Request k h = refl
+no-message ev.Response k h = refl
+no-message (ev.Refused f d) k h = absurd (omega (arith, number-high f, h))
+
+module _ (r : Tally) (t : List ℕ) (b : ℕ) (l : Sound r t) (z : r .refused ≡ 0) (f : Fed) (t′ : List ℕ)
+    (e : feeds (r .session) t (b ∷ []) ≡ answers f t′) where
+  abbrev o : Step
+  o = step (stateOf (r .session) t) b
+
+  abbrev n : ℕ
+  n = o .said .number
+
+  lawful : Legal (r .session) t
+  lawful = legal-true (r .session) t (l .legal)
+
+  bounded : Bounded (stateOf (r .session) t)
+  bounded = bounded-state (r .session) t (lawful .room) (lawful .frame) (lawful .message)
+
+  within : Within o
+  within = within-step (stateOf (r .session) t) b bounded
+
+  one-run : run (b ∷ []) (stateOf (r .session) t) t 0 ≡ answers f t′
+  unfolding feeds
+  one-run = rw (l .legal) at e
+
+  -- what is told, and the session and the store that are left
+  told : (saidBy (f .event) t′ .number ≡ n) × ((n ≡ 3 → saidBy (f .event) t′ .message ≡ o .said .message) × ((f .session ≡ sessionOf (o .next)) × (t′ ≡ kept o t)))
+  unfolding run
+  told = go (eqb n 0) refl one-run
+    where
+      go : (u : Bool) → eqb n 0 ≡ u → pick u (run [] (o .next) (kept o t) 1) (whole (o .said) 1 (o .next) (kept o t)) ≡ answers f t′
+          → (saidBy (f .event) t′ .number ≡ n)
+          × ((n ≡ 3 → saidBy (f .event) t′ .message ≡ o .said .message) × ((f .session ≡ sessionOf (o .next)) × (t′ ≡ kept o t)))
+      go true q k =
+          let a = eqb-true n 0 q in (
+            sym (ap (λ (x : Whole). x .said .number) k) ∙ sym a,
+            (λ g. absurd (omega (arith, a, g)), (sym (ap (λ (x : Whole). x .session) k), sym (ap (λ (x : Whole). x .store) k))),
+          )
+      go false q k = (
+        sym (ap (λ (x : Whole). x .said .number) k),
+        (λ g. sym (ap (λ (x : Whole). x .said .message) k), (sym (ap (λ (x : Whole). x .session) k), sym (ap (λ (x : Whole). x .store) k))),
+      )
+
+  number-is : saidBy (f .event) [] .number ≡ n
+  number-is = said-any (f .event) t′ ∙ told .0
+
+  state-is : stateOf (f .session) t′ ≡ o .next
+  state-is =
+      ap (λ (s : Session). stateOf s t′) (told .1 .1 .0) ∙ ap (λ (x : List ℕ). stateOf (sessionOf (o .next)) x) (told .1 .1 .1)
+      ∙ kept-state o t (lawful .room) within
+
+  lawful-next : legal (f .session) (length t′) ≡ true
+  lawful-next =
+      ap (λ (s : Session). legal s (length t′)) (told .1 .1 .0) ∙ ap (λ (x : List ℕ). legal (sessionOf (o .next)) (length x)) (told .1 .1 .1)
+      ∙ true-legal (sessionOf (o .next)) (kept o t) (legal-next o t (lawful .room) within)
+
+  -- what the bytes give, by what this one makes
+  left-is : (bs : List ℕ) → left r t (b ∷ bs) ≡ collects (r .messages) (take (r .length) t) (stateOf (r .session) t) (b ∷ bs)
+  unfolding left
+  left-is bs = rw (eq-eqb _ _ z) refl
+
+  pub taken-high : (x : ℕ) → x ≡ saidBy (f .event) [] .number → 10 ≤ x
+      → Taken r t b (record { session = f .session; messages = r .messages; length = r .length; refused = x }) t′
+  unfolding left collects
+  taken-high x q h =
+      let i : x ≡ n = q ∙ number-is in
+      record {
+        same = λ bs. left-is bs ∙ rw (le-leb 10 n (omega (arith, i, h)), ne-eqb x 0 (λ g. omega (arith, g, h))) (ap refusal (sym i));
+        sound = record { legal = lawful-next; short = l .short };
+      }
+
+  -- the message that is in the store stays, or is not the answer
+  stays-there : n < 10 → eqb n 3 ≡ false → (bs : List ℕ)
+      → collects (r .messages) (take (r .length) t) (o .next) bs ≡ collects (r .messages) (take (r .length) t′) (o .next) bs
+  unfolding kept
+  stays-there h g bs = go (isOpen (o .next .message)) refl
+    where
+      open-way : Way (stateOf (r .session) t .message) o → isOpen (o .next .message) ≡ false → held (o .next .message) (o .said .message) ≡ []
+      open-way (high k) q = absurd (omega (arith, h, k))
+      open-way (done k j) q = absurd (true≢false (sym (eq-eqb _ _ k) ∙ g))
+      open-way (opens j k) q = absurd (true≢false (sym k ∙ q))
+      open-way (stays k j) q = by-message (o .next .message) (o .said .message) q j
+        where
+          by-message : (m : Message) (ys : List ℕ) → isOpen m ≡ false → ys ≡ [] → held m ys ≡ []
+          by-message none ys a c = c
+          by-message (part xs) ys a c = absurd (true≢false a)
+
+      go : (u : Bool) → isOpen (o .next .message) ≡ u
+          → collects (r .messages) (take (r .length) t) (o .next) bs ≡ collects (r .messages) (take (r .length) t′) (o .next) bs
+      go true q = collects-any bs (r .messages) (take (r .length) t) (take (r .length) t′) (o .next) (loose-open (r .messages) (o .next) q)
+      go false q =
+          let ys = held (o .next .message) (o .said .message) in
+          let i : take (r .length) (kept o t) ≡ take (r .length) t =
+          take-sets-le (content (o .next .place)) (sets t 0 ys) contentStart (r .length) (l .short)
+          ∙ ap (λ (x : List ℕ). take (r .length) (sets t 0 x)) (open-way (way (stateOf (r .session) t) b) q) in
+          ap (λ (x : List ℕ). collects (r .messages) x (o .next) bs) (sym i ∙ ap (λ (x : List ℕ). take (r .length) x) (sym (told .1 .1 .1)))
+
+  pub taken-on : saidBy (f .event) [] .number < 10 → eqb (saidBy (f .event) [] .number) 3 ≡ false
+      → Taken r t b (record { session = f .session; messages = r .messages; length = r .length; refused = 0 }) t′
+  unfolding left collects
+  taken-on h g =
+      let i = number-is in
+      let j : n < 10 = omega (arith, i, h) in
+      let k : eqb n 3 ≡ false = ap (λ (x : ℕ). eqb x 3) (sym i) ∙ g in
+      record {
+        same = λ bs. left-is bs ∙ rw (lt-leb 10 n j, k, state-is) (stays-there j k bs);
+        sound = record { legal = lawful-next; short = l .short };
+      }
+
+  pub taken-message : (k : ℕ) (d : Bool) → f .event ≡ ev.Message k d → (x : ℕ) → another (r .messages) ≡ x
+      → Taken r t b (record { session = f .session; messages = x; length = k; refused = 0 }) t′
+  unfolding left collects
+  taken-message k d q x c =
+      let i : 3 ≡ n = ap (λ (x : Event). saidBy x [] .number) (sym q) ∙ number-is in
+      let j : take k t′ ≡ o .said .message = ap (λ (x : Event). saidBy x t′ .message) (sym q) ∙ told .1 .0 (sym i) in
+      let s : length (take k t′) ≤ messageLimit = subst (λ (x : List ℕ). length x ≤ messageLimit) (sym j) (said-short (stateOf (r .session) t) b bounded (sym i)) in
+      let a = length-take k t′ in
+      let room = legal-true (f .session) t′ lawful-next .room in
+      record {
+        same = λ bs. left-is bs ∙ rw (lt-leb 10 n (omega (arith, i)), eq-eqb n 3 (sym i), state-is, j, c) refl;
+        sound = record { legal = lawful-next; short = omega (arith, s, a, room) };
+      }
+
+-- ---- the beginning
+
+pub sound-start : (s : Session) (t : List ℕ) → s ≡ sessionOf begin → length t ≡ storeLength → Sound (record { session = s; messages = 0; length = 0; refused = 0 }) t
+sound-start s t e h =
+    record { legal = ap (λ (x : Session). legal x (length t)) e ∙ true-legal (sessionOf begin) t (fresh-legal h); short = omega arith }
+
+pub left-start : (s : Session) (t bs : List ℕ) → s ≡ sessionOf begin
+    → ofEvents (happens begin 0 bs) (after begin bs) ≡ left (record { session = s; messages = 0; length = 0; refused = 0 }) t bs
+unfolding left
+left-start s t bs e = collects-all bs ∙ ap (λ (x : Session). collects 0 [] (stateOf x t) bs) (sym e)
+
+-- ---- the end
+
+open-frame : (f : Frame) (t : List ℕ) → inFrame (placeOf f t) ≡ frameOpen f
+open-frame Outside t = refl
+open-frame Stray t = refl
+open-frame (Inside n) t = refl
+open-frame (Escaped n) t = refl
+open-frame (BadByte n) t = refl
+open-frame (TooLong n) t = refl
+
+open-part : (m : Pending) (t : List ℕ) → isOpen (messageOf m t) ≡ partOpen m
+open-part Nothing t = refl
+open-part (Part n) t = refl
+
+open-is : (s : Session) (t : List ℕ) → somethingOpen (stateOf s t) ≡ openIn s
+unfolding somethingOpen
+open-is s t = rw (open-frame (s .frame) t, open-part (s .message) t) refl
+
+module _ (r : Tally) (t : List ℕ) where
+  pub left-refused : (bs : List ℕ) → (r .refused ≡ 0 → ⊥) → left r t bs ≡ refusal (r .refused)
+  unfolding left
+  left-refused bs h = rw (ne-eqb _ _ h) refl
+
+  -- what is left makes no difference then
+  pub left-none : (bs : List ℕ) → (r .refused ≡ 0 → ⊥) → left r t bs ≡ left r t []
+  left-none bs h = left-refused bs h ∙ sym (left-refused [] h)
+
+  module _ (z : r .refused ≡ 0) where
+    pub left-open : openIn (r .session) ≡ true → left r t [] ≡ refusal 33
+    unfolding left collects
+    left-open h = rw (eq-eqb _ _ z, open-is (r .session) t, h) refl
+
+    module _ (h : openIn (r .session) ≡ false) where
+      pub left-one : r .messages ≡ 1 → left r t [] ≡ message (take (r .length) t)
+      unfolding left collects
+      left-one k = rw (eq-eqb _ _ z, open-is (r .session) t, h, eq-eqb _ _ k) refl
+
+      pub left-many : (r .messages ≡ 1 → ⊥) → left r t [] ≡ refusal 33
+      unfolding left collects
+      left-many k = rw (eq-eqb _ _ z, open-is (r .session) t, h, ne-eqb _ _ k) refl
+
+-- ---- the whole
+
+module _ (text t : List ℕ) where
+  pub finds-setup : (length t ≡ storeLength → ⊥) → finds text t ≡ setup t
+  unfolding finds
+  finds-setup h = rw (ne-eqb _ _ h) refl
+
+  pub finds-bad : length t ≡ storeLength → isBad (linesIn text) ≡ true → finds text t ≡ holds (refusal 12)
+  unfolding finds
+  finds-bad h k = rw (eq-eqb _ _ h) (ap (λ (x : Stream). holds (heldIn x)) (lines-bad (linesIn text) k))
+
+  pub finds-lines : length t ≡ storeLength → isBad (linesIn text) ≡ false
+      → finds text t ≡ holds (ofEvents (happens begin 0 (bytesFrom 16 text)) (after begin (bytesFrom 16 text)))
+  unfolding finds
+  finds-lines h k = rw (eq-eqb _ _ h) (ap (λ (x : Stream). holds (heldIn x)) (lines-bytes text k))

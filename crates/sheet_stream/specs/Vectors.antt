@@ -1,0 +1,40 @@
+-- Small texts, by computation.
+use Prim.Native.Nat.{ℕ}
+use mathlib.Core.Path.{_≡_, refl}
+use mathlib.Core.List.{List, [], _∷_, _++_}
+use Rattle.framing.specs.Checksum.{table, crcStep, crcFrom, checksum}
+use Rattle.framing.specs.Content.{contentOf, bodyOf, commandOf, packetOf}
+use Rattle.framing.specs.Rules.{step, inPlace, adds, cuts, ends, pieces, happens, after}
+use Rattle.sheets.specs.Lines.{digitOf, linesFrom, linesIn}
+use Rattle.sheets.specs.Reading.{Held, refusal, message, finished, somethingOpen, firstFault, ofEvents, heldIn}
+use Rattle.sheet_stream.specs.Finding.{setup, finds}
+
+abbrev held : List ℕ → Held
+held text = heldIn (linesIn text)
+
+-- P9 as a line: "FE 00 0E 01 01 94 E4 FF gives 4"
+abbrev alive : List ℕ
+alive = 70 ∷ 69 ∷ 48 ∷ 48 ∷ 48 ∷ 69 ∷ 48 ∷ 49 ∷ 48 ∷ 49 ∷ 57 ∷ 52 ∷ 69 ∷ 52 ∷ 70 ∷ 70 ∷ 10 ∷ []
+
+-- FE 00 0E 00 01 C0 01 02 14 02 60 7B A4 FF: a message of the one byte 60
+abbrev sixty : List ℕ
+sixty =
+    70 ∷ 69 ∷ 48 ∷ 48 ∷ 48 ∷ 69 ∷ 48 ∷ 48 ∷ 48 ∷ 49 ∷ 67 ∷ 48 ∷ 48 ∷ 49 ∷ 48 ∷ 50 ∷ 49 ∷ 52 ∷ 48 ∷ 50 ∷ 54 ∷ 48 ∷ 55 ∷ 66 ∷ 65 ∷ 52 ∷ 70 ∷ 70 ∷ 10 ∷ []
+
+-- one message, keep-alives "passed over"; none, two, a frame left open; the first event from 10 up, also after a message; a bad line, wherever it stands
+pub v-held :
+    (held sixty ≡ message (0x60 ∷ [])) ×
+    (held (alive ++ (sixty ++ alive)) ≡ message (0x60 ∷ [])) ×
+    (held alive ≡ refusal 33) ×
+    (held (sixty ++ sixty) ≡ refusal 33) ×
+    (held (sixty ++ (70 ∷ 101 ∷ [])) ≡ refusal 33) ×
+    (held (sixty ++ (48 ∷ 48 ∷ 10 ∷ [])) ≡ refusal 10) ×
+    (held (102 ∷ 102 ∷ 10 ∷ sixty) ≡ refusal 10) ×
+    (held (48 ∷ 48 ∷ 10 ∷ 10 ∷ sixty) ≡ refusal 12)
+unfolding linesFrom digitOf happens after step inPlace adds cuts ends pieces contentOf bodyOf commandOf packetOf checksum crcFrom crcStep table finished somethingOpen firstFault ofEvents
+v-held = (refl, refl, refl, refl, refl, refl, refl, refl)
+
+-- a store of another length, as it was, before any line is looked at
+pub v-setup : finds (48 ∷ []) (5 ∷ 6 ∷ []) ≡ setup (5 ∷ 6 ∷ [])
+unfolding finds
+v-setup = refl

@@ -1,0 +1,350 @@
+-- The rows that are filled hold the entries of the sheet's tree.
+use Prim.Native.Nat.{ℕ, zero, suc, _+_, _-_, _*_, _/_, _%_, _≤_, _<_}
+use mathlib.Core.Path.{_≡_, refl, sym, ap, _∙_}
+use mathlib.Core.List.{List, [], _∷_, _++_, append-assoc, append-nil}
+use mathlib.Core.Bool.{Bool, true, false}
+use native.Mathlib.Omega.{arith}
+use borrow.Author.Tests.{le-leb, leb-true, lt-ltb, ne-eqb}
+use lib.ListN.{length, take, drop, set, length-append, length-drop}
+use lib.Seq.{sets, sets-eq, take-at, drop-at}
+use lib.Dec.{leb, eqb}
+use Rattle.integers.specs.Digits.{pick, digits, countBy, Put, put, outcome}
+use Rattle.integers.specs.declared.Wrote.{Wrote}
+use Rattle.integers.specs.declared.Wrote.the-variants.{Next}
+use Rattle.integers.specs.Digits as digit
+use Rattle.integers.proofs.Radix.{count-least}
+use Rattle.tags.specs.Write.{septets}
+use Rattle.identifiers.specs.Identifier.{oidOctets, inRange, putOid}
+use Rattle.entries.specs.Cell.{absent, numbersCell}
+use Rattle.entries.specs.Entry.{Entry, Entries, blanks, row, Rows, overlay}
+use Rattle.framing.proofs.Lists.{sets-append}
+use Rattle.forest.specs.Content.{Content, bytes, contentOf, contentsOf, Item, item, itemsOf}
+use Rattle.forest.specs.Rows.{itemsIn}
+use Rattle.forest.specs.Trees.{none, flat, count}
+use Rattle.forest.specs.Written.{messageOctets, writtenReal}
+use Rattle.glow_writer.specs.Sizes.{nextOf}
+use Rattle.glow_writer.specs.Accepted.{octetsOf, writes}
+use Rattle.grammar.specs.Grammar.{qualifiedMatrix, connection}
+use Rattle.read_trees.proofs.Lists.{items-length, flat-length}
+use Rattle.tree_round_trip.proofs.Rows.{rows-items, tree-sixteen}
+use Rattle.tree_round_trip.proofs.Writing.{whole-tree, octets-tree, fits-by, writes-yes}
+use Rattle.routing.specs.declared.Limit.{Limit}
+use Rattle.routing.specs.declared.Limit.the-variants.{Absent, Most}
+use Rattle.routing.specs.declared.Figures.{Figures}
+use Rattle.routing.specs.Figures.{isLimit, figuresFit}
+use Rattle.routing.specs.Crosspoints.{Cells, rowAt}
+use Rattle.routing.proofs.Laws.{both-right, fit-targets-le, fit-sources-le}
+use Rattle.routing.proofs.Claims.{fit-kind-le}
+use Rattle.routing.proofs.Answers.{legal-fit, legal-length}
+use Rattle.routing.proofs.Under.{take-short}
+use Rattle.desk_calls.specs.Calls.{deskLegal}
+use Rattle.sheets.specs.Sheet.{desk, sourcesFrom, sourcesAt, number, list, limit, leftOut, linkMembers, matrixMembers, links, sheetTree, sheetMessage}
+use Rattle.sheets.proofs.Asked.{flat-sheet, path-ok, cells-ok, path-small}
+use Rattle.sheets.proofs.Suited.{path-short, total-fits, each-fits, sheet-legal, sheet-count}
+use Rattle.sheets.proofs.Sizes.{sheet-size, path-size as path-octets}
+use Rattle.sheet_writer.specs.Steps.{numberCell, limitCell, listCell, matrixEntry, linkEntry, Filled, filled, withLink, withLinks}
+
+-- ---- the octets of identifiers
+
+-- a number below 128 is its own octet, so sources are
+septets-small : (n : ℕ) → n < 128 → septets n ≡ n ∷ []
+unfolding septets digits countBy
+septets-small n h =
+    let a : n / 128 ≡ 0 = omega arith in
+    let b : n % 128 ≡ n = omega arith in
+    rw (a, b) refl
+
+sources-octets : (s : ℕ) (cs : Cells) → s + length cs ≤ 128 → oidOctets (sourcesFrom s cs) ≡ sourcesFrom s cs
+unfolding oidOctets sourcesFrom
+sources-octets s [] h = refl
+sources-octets s (c ∷ cs) h = go (eqb c 0) (sources-octets (suc s) cs (omega arith))
+  where
+    go : (u : Bool) → oidOctets (sourcesFrom (suc s) cs) ≡ sourcesFrom (suc s) cs
+        → oidOctets (pick u (sourcesFrom (suc s) cs) (s ∷ sourcesFrom (suc s) cs)) ≡ pick u (sourcesFrom (suc s) cs) (s ∷ sourcesFrom (suc s) cs)
+    go true r = r
+    go false r = let k : s < 128 = omega arith in rw (septets-small s k, r) refl
+
+sources-few : (s : ℕ) (cs : Cells) → length (sourcesFrom s cs) ≤ length cs
+unfolding sourcesFrom
+sources-few s [] = omega arith
+sources-few s (c ∷ cs) = go (eqb c 0) (sources-few (suc s) cs)
+  where
+    go : (u : Bool) → length (sourcesFrom (suc s) cs) ≤ length cs → length (pick u (sourcesFrom (suc s) cs) (s ∷ sourcesFrom (suc s) cs)) ≤ suc (length cs)
+    go true r = omega arith
+    go false r = omega arith
+
+-- ---- cells by content
+
+content-number : (s : List ℕ) (n : ℕ) → n ≤ 2147483647 → contentOf s (numberCell n) ≡ number n
+unfolding contentOf
+content-number s n h = let k : n < 18446744073709551616 = omega arith in simp (lt-ltb _ _ k)
+
+content-absent : (s : List ℕ) → contentOf s absent ≡ Content.nothing
+unfolding contentOf
+content-absent s = refl
+
+content-limit : (s : List ℕ) (l : Limit) → isLimit l ≡ true → contentOf s (limitCell l) ≡ limit l
+content-limit s Absent e = content-absent s
+content-limit s (Most n) e = content-number s n (leb-true n 2147483647 (both-right (leb 1 n) (leb n 2147483647) e))
+
+-- a part of the octets
+module _ (front part back : List ℕ) (at : ℕ) (e : length front ≡ at) where
+  abbrev whole : List ℕ
+  whole = front ++ (part ++ back)
+
+  content-part : contentOf whole (numbersCell at (length part)) ≡ bytes 13 part
+  unfolding contentOf
+  content-part =
+      let l = length-append front (part ++ back) in
+      let m = length-append part back in
+      let k : at + length part ≤ length whole = omega (arith, l, m, e) in
+      simp (le-leb _ _ k)
+      (ap (λ (x : List ℕ). bytes 13 (take (length part) x)) (drop-at front (part ++ back) at e) ∙ ap (bytes 13) (take-at part back (length part) refl))
+
+content-list : (front ns back : List ℕ) (at : ℕ) → length front ≡ at → oidOctets ns ≡ ns → contentOf (front ++ (ns ++ back)) (listCell at (length ns)) ≡ list ns
+unfolding listCell
+content-list front [] back at e q = content-absent (front ++ back)
+content-list front (n ∷ ns) back at e q = rw (ne-eqb (suc (length ns)) 0 (λ z. omega arith)) (content-part front (n ∷ ns) back at e ∙ ap (bytes 13) (sym q))
+
+-- ---- entries by content
+
+abbrev linkEntries : ℕ → Cells → ℕ → ℕ → ℕ → Entries
+linkEntries w cells at t zero = []
+linkEntries w cells at t (suc n) =
+    linkEntry t (listCell at (length (sourcesAt w cells t))) ∷ linkEntries w cells (at + length (sourcesAt w cells t)) (suc t) n
+
+abbrev allSources : ℕ → Cells → ℕ → ℕ → List ℕ
+allSources w cells t zero = []
+allSources w cells t (suc n) = sourcesAt w cells t ++ allSources w cells (suc t) n
+
+link-content : (front ns back : List ℕ) (at t : ℕ) → length front ≡ at → oidOctets ns ≡ ns → t ≤ 2147483647
+    → contentsOf (front ++ (ns ++ back)) (linkEntry t (listCell at (length ns)) .cells) ≡ linkMembers t ns
+unfolding contentsOf blanks leftOut contentOf
+link-content front ns back at t e q h =
+    ap (λ (x : Content). x ∷ contentOf (front ++ (ns ++ back)) (listCell at (length ns)) ∷ leftOut 14) (content-number (front ++ (ns ++ back)) t h)
+    ∙ ap (λ (x : Content). number t ∷ x ∷ leftOut 14) (content-list front ns back at e q)
+
+row-few : (w : ℕ) (cells : Cells) (t : ℕ) → length (sourcesAt w cells t) ≤ w
+unfolding rowAt
+row-few w cells t = omega (arith, sources-few 0 (rowAt w cells t), take-short w (drop (t * w) cells))
+
+row-octets : (w : ℕ) (cells : Cells) (t : ℕ) → w ≤ 64 → oidOctets (sourcesAt w cells t) ≡ sourcesAt w cells t
+unfolding rowAt
+row-octets w cells t h = sources-octets 0 (rowAt w cells t) (omega (arith, take-short w (drop (t * w) cells), h))
+
+links-content : (w : ℕ) (cells : Cells) → w ≤ 64 → (n t : ℕ) → t + n ≤ 64 → (front back : List ℕ) (at i : ℕ) → length front ≡ at
+    → itemsOf (front ++ (allSources w cells t n ++ back)) (linkEntries w cells at t n) ≡ flat 1 i (links w cells t n)
+unfolding itemsOf flat links
+links-content w cells few zero t h front back at i e = refl
+links-content w cells few (suc n) t h front back at i e =
+    let ss = sourcesAt w cells t in
+    let later = allSources w cells (suc t) n in
+    let rest = linkEntries w cells (at + length ss) (suc t) n in
+    let j = suc i + (count none + count none) in
+    let a : front ++ ((ss ++ later) ++ back) ≡ front ++ (ss ++ (later ++ back)) = ap (λ (x : List ℕ). front ++ x) (append-assoc ss later back) in
+    let b : front ++ (ss ++ (later ++ back)) ≡ (front ++ ss) ++ (later ++ back) = sym (append-assoc front ss (later ++ back)) in
+    let l : length (front ++ ss) ≡ at + length ss = omega (arith, length-append front ss, e) in
+    ap (λ (s : List ℕ). itemsOf s (linkEntry t (listCell at (length ss)) ∷ rest)) a
+    ∙ ap (λ (x : List Content). item connection 1 x ∷ itemsOf (front ++ (ss ++ (later ++ back))) rest)
+    (link-content front ss (later ++ back) at t e (row-octets w cells t few) (omega arith))
+    ∙ ap (λ (s : List ℕ). item connection 1 (linkMembers t ss) ∷ itemsOf s rest) b
+    ∙ ap (λ (x : List Item). item connection 1 (linkMembers t ss) ∷ x)
+    (links-content w cells few n (suc t) (omega arith) (front ++ ss) back (at + length ss) j l)
+
+sources-size : (w : ℕ) (cells : Cells) (n t : ℕ) → length (allSources w cells t n) ≤ w * n
+sources-size w cells zero t = omega arith
+sources-size w cells (suc n) t =
+    let a = length-append (sourcesAt w cells t) (allSources w cells (suc t) n) in
+    let b = row-few w cells t in
+    let c = sources-size w cells n (suc t) in
+    let d : w * suc n ≡ w + w * n = omega arith in
+    omega (arith, a, b, c, d)
+
+-- ---- rows
+
+-- one row more
+overlay-more : (es : Entries) (rows : Rows) (e : Entry) → overlay (es ++ (e ∷ [])) rows ≡ set (overlay es rows) (length es) (row e)
+unfolding overlay
+overlay-more [] [] e = refl
+overlay-more [] (r ∷ rows) e = refl
+overlay-more (x ∷ es) [] e = refl
+overlay-more (x ∷ es) (r ∷ rows) e = ap (λ (t : Rows). row x ∷ t) (overlay-more es rows e)
+
+-- connections filled behind the entries that are there
+links-filled : (w : ℕ) (cells : Cells) (n t : ℕ) (es : Entries) (rows : Rows) (o : List ℕ) (at : ℕ) → length es ≡ suc t
+    → withLinks w cells t n (filled (overlay es rows) o at)
+    ≡ filled (overlay (es ++ linkEntries w cells at t n) rows) (sets o at (allSources w cells t n)) (at + length (allSources w cells t n))
+unfolding withLinks withLink
+links-filled w cells zero t es rows o at l =
+    let z : at + 0 ≡ at = omega arith in
+    ap (λ (x : Entries). filled (overlay x rows) o at) (sym (append-nil es)) ∙ ap (filled (overlay (es ++ []) rows) o) (sym z)
+links-filled w cells (suc n) t es rows o at l =
+    let ss = sourcesAt w cells t in
+    let later = allSources w cells (suc t) n in
+    let e = linkEntry t (listCell at (length ss)) in
+    let rest = linkEntries w cells (at + length ss) (suc t) n in
+    let m : length (es ++ (e ∷ [])) ≡ suc (suc t) = omega (arith, length-append es (e ∷ []), l) in
+    let k : at + length ss + length later ≡ at + length (ss ++ later) = omega (arith, length-append ss later) in
+    ap (λ (i : ℕ). withLinks w cells (suc t) n (filled (set (overlay es rows) i (row e)) (sets o at ss) (at + length ss))) (sym l)
+    ∙ ap (λ (x : Rows). withLinks w cells (suc t) n (filled x (sets o at ss) (at + length ss))) (sym (overlay-more es rows e))
+    ∙ links-filled w cells n (suc t) (es ++ (e ∷ [])) rows (sets o at ss) (at + length ss) m
+    ∙ ap (λ (x : Entries). filled (overlay x rows) (sets (sets o at ss) (at + length ss) later) (at + length ss + length later)) (append-assoc es (e ∷ []) rest)
+    ∙ ap (λ (x : List ℕ). filled (overlay (es ++ (e ∷ rest)) rows) x (at + length ss + length later)) (sym (sets-append ss later o at))
+    ∙ ap (λ (x : ℕ). filled (overlay (es ++ (e ∷ rest)) rows) (sets o at (ss ++ later)) x) k
+
+-- ---- the sheet
+
+module _ (w : ℕ) (f : Figures) (path : List ℕ) (cells : Cells) (few : w ≤ 64) (ok : deskLegal w f path cells ≡ true) where
+  abbrev ps : List ℕ
+  ps = oidOctets path
+
+  abbrev entries : Entries
+  entries = matrixEntry f (length ps) ∷ linkEntries w cells (length ps) 0 (f .targets)
+
+  fit : figuresFit w f ≡ true
+  fit = legal-fit w f cells (cells-ok w f path cells few ok)
+
+  matrix-content : (back : List ℕ) → contentsOf (ps ++ back) (matrixEntry f (length ps) .cells) ≡ matrixMembers f path
+  unfolding contentsOf blanks leftOut contentOf
+  matrix-content back =
+      let s = ps ++ back in
+      let k = fit-kind-le w f fit in
+      let t = fit-targets-le w f fit in
+      let n = fit-sources-le w f fit in
+      let a = content-number s (f .kind) (omega arith) in
+      let b = content-number s (f .targets) (omega arith) in
+      let c = content-number s (f .sources) (omega arith) in
+      let d = content-limit s (f .total) (total-fits w f fit) in
+      let e = content-limit s (f .each) (each-fits w f fit) in
+      rw (content-part [] ps back 0 refl, a, b, c, d, e) refl
+
+  sheet-content : (back : List ℕ) → itemsOf (ps ++ (allSources w cells 0 (f .targets) ++ back)) entries ≡ flat 0 0 (sheetTree w (desk f path cells))
+  unfolding itemsOf
+  sheet-content back =
+      let t = fit-targets-le w f fit in
+      let s = ps ++ (allSources w cells 0 (f .targets) ++ back) in
+      ap (λ (x : List Content). item qualifiedMatrix 0 x ∷ itemsOf s (linkEntries w cells (length ps) 0 (f .targets)))
+      (matrix-content (allSources w cells 0 (f .targets) ++ back))
+      ∙ ap (λ (x : List Item). item qualifiedMatrix 0 (matrixMembers f path) ∷ x)
+      (links-content w cells few (f .targets) 0 (omega arith) ps back (length ps) 1 refl)
+      ∙ sym (flat-sheet w f path cells few ok)
+
+  pub path-size : length ps ≤ 80
+  path-size =
+      let a = path-octets path (path-small w f path cells few ok) in
+      let b = path-short path (path-ok w f path cells few ok) in
+      omega (arith, a, b)
+
+  -- the path's octets
+  oid-put : (o : List ℕ) → 80 ≤ length o → putOid o 0 path ≡ outcome (Next (length ps)) (ps ++ drop (length ps) o)
+  unfolding putOid put
+  oid-put o h =
+      let z : 0 + length ps ≡ length ps = omega arith in
+      let k : length ps ≤ length o = omega (arith, path-size, h) in
+      rw (path-small w f path cells few ok, z, le-leb _ _ k) refl
+
+  -- .. and the sources' after them
+  octets-put : (o : List ℕ) → 80 + w * 64 ≤ length o
+      → sets (ps ++ drop (length ps) o) (length ps) (allSources w cells 0 (f .targets))
+      ≡ ps ++ (allSources w cells 0 (f .targets) ++ drop (length ps + length (allSources w cells 0 (f .targets))) (ps ++ drop (length ps) o))
+  octets-put o h =
+      let all = allSources w cells 0 (f .targets) in
+      let o1 = ps ++ drop (length ps) o in
+      let t = fit-targets-le w f fit in
+      let a = sources-size w cells (f .targets) 0 in
+      let m : w * f .targets ≤ w * 64 = mul-le w (f .targets) 64 (omega arith) in
+      let l = length-append ps (drop (length ps) o) in
+      let d = length-drop (length ps) o in
+      let k : length ps + length all ≤ length o1 = omega (arith, a, m, l, d, h, path-size) in
+      sets-eq all o1 (length ps) k
+      ∙ append-assoc (take (length ps) o1) all (drop (length ps + length all) o1)
+      ∙ ap (λ (x : List ℕ). x ++ (all ++ drop (length ps + length all) o1)) (take-at ps (drop (length ps) o) (length ps) refl)
+    where
+      mul-le : (w a b : ℕ) → a ≤ b → w * a ≤ w * b
+      mul-le w a b h = let e : b ≡ a + (b - a) = omega arith in let g : w * b ≡ w * a + w * (b - a) = ap (λ (x : ℕ). w * x) e ∙ omega arith in omega (arith, g)
+
+  rows-begun : (rows : Rows) → set rows 0 (row (matrixEntry f (length ps))) ≡ overlay (matrixEntry f (length ps) ∷ []) rows
+  unfolding overlay
+  rows-begun [] = refl
+  rows-begun (r ∷ rows) = refl
+
+  -- what the rows and the octets hold in the end
+  filled-items : (rows : Rows) → 65 ≤ length rows → (o : List ℕ) → 80 + w * 64 ≤ length o
+      → (x : Filled) → withLinks w cells 0 (f .targets) (filled (set rows 0 (row (matrixEntry f (length ps)))) (ps ++ drop (length ps) o) (length ps)) ≡ x
+      → itemsIn (x .octets) (x .rows) (suc (f .targets)) ≡ flat 0 0 (sheetTree w (desk f path cells))
+  filled-items rows h o k x e =
+      let all = allSources w cells 0 (f .targets) in
+      let o1 = ps ++ drop (length ps) o in
+      let back = drop (length ps + length all) o1 in
+      let s = ps ++ (all ++ back) in
+      let t = fit-targets-le w f fit in
+      let items = sheet-content back in
+      let y = filled (overlay entries rows) s (length ps + length all) in
+      let is : x ≡ y =
+      sym e
+      ∙ ap (λ (r : Rows). withLinks w cells 0 (f .targets) (filled r o1 (length ps))) (rows-begun rows)
+      ∙ links-filled w cells (f .targets) 0 (matrixEntry f (length ps) ∷ []) rows o1 (length ps) refl
+      ∙ ap (λ (z : List ℕ). filled (overlay entries rows) z (length ps + length all)) (octets-put o k) in
+      let n : length entries ≡ suc (f .targets) =
+      sym (items-length s entries) ∙ ap length items ∙ flat-length 0 0 (sheetTree w (desk f path cells)) ∙ sheet-count w f path cells in
+      let b : length entries ≤ length rows = omega (arith, n, t, few, h) in
+      ap (λ (z : Filled). itemsIn (z .octets) (z .rows) (suc (f .targets))) is
+      ∙ ap (itemsIn s (overlay entries rows)) (sym n)
+      ∙ rows-items s entries rows (tree-sixteen s entries 0 (sheetTree w (desk f path cells)) (sheet-legal w f path cells few ok) items) b
+      ∙ items
+
+  -- as the code goes: r is what `write_oid` answers, m the matrix's row
+  pub entries-put : (rows : Rows) → 65 ≤ length rows → (o : List ℕ) → 80 + w * 64 ≤ length o
+      → {r : Wrote} {o1 : List ℕ} → putOid o 0 path ≡ outcome r o1 → {end : ℕ} → nextOf r ≡ end → {len : ℕ} → len ≡ end
+      → {m : List ℕ} → m ≡ row (matrixEntry f len) → {targets : ℕ} → targets ≡ f .targets
+      → {x : Filled} → withLinks w cells 0 targets (filled (set rows 0 m) o1 end) ≡ x
+      → (itemsIn (x .octets) (x .rows) (targets + 1) ≡ flat 0 0 (sheetTree w (desk f path cells))) × (targets + 1 ≤ 65)
+  entries-put rows h o k {r} {o1} e {end} q {len} j {m} p {targets} c {x} g =
+      let z : outcome (Next (length ps)) (ps ++ drop (length ps) o) ≡ outcome r o1 = sym (oid-put o (omega (arith, k))) ∙ e in
+      let l : length ps ≡ end = ap (λ (y : Put). nextOf (y .answer)) z ∙ q in
+      let n : targets + 1 ≡ suc (f .targets) = omega (arith, c) in
+      let t = fit-targets-le w f fit in (
+        ap (itemsIn (x .octets) (x .rows)) n
+            ∙ filled-items rows h o k x
+            (ap (λ (i : ℕ). withLinks w cells 0 (f .targets) (filled (set rows 0 (row (matrixEntry f i))) (ps ++ drop (length ps) o) i)) l
+            ∙ ap (λ (i : ℕ). withLinks w cells 0 (f .targets) (filled (set rows 0 (row (matrixEntry f i))) (ps ++ drop (length ps) o) end)) (sym j)
+            ∙ ap (λ (y : List ℕ). withLinks w cells 0 (f .targets) (filled (set rows 0 y) (ps ++ drop (length ps) o) end)) (sym p)
+            ∙ ap (λ (y : Put). withLinks w cells 0 (f .targets) (filled (set rows 0 m) (y .out) end)) z
+            ∙ ap (λ (i : ℕ). withLinks w cells 0 i (filled (set rows 0 m) o1 end)) (sym c)
+            ∙ g),
+        omega (arith, n, t, few),
+      )
+
+  -- .. where the path ends
+  pub path-end : (o : List ℕ) → 80 ≤ length o → {r : Wrote} {o1 : List ℕ} → putOid o 0 path ≡ outcome r o1 → nextOf r ≤ 80
+  path-end o k {r} {o1} e =
+      let l : length ps ≡ nextOf r = ap (λ (y : Put). nextOf (y .answer)) (sym (oid-put o k) ∙ e) in
+      omega (arith, l, path-size)
+
+  -- so many cells and targets
+  pub desk-counts : (length cells ≡ w * w) × (f .targets ≤ w)
+  desk-counts = (legal-length w f cells (cells-ok w f path cells few ok), fit-targets-le w f fit)
+
+  -- ---- the message
+
+  pub message-put : (es : List Item) → es ≡ flat 0 0 (sheetTree w (desk f path cells)) → (rows n : ℕ) → n ≤ 65 → 65 ≤ rows
+      → (o : List ℕ) → length o ≡ 6144 → {r : Wrote} {o1 : List ℕ} → writes 0 rows n es o ≡ outcome r o1 → {end : ℕ} → nextOf r ≡ end
+      → (take end o1 ≡ sheetMessage w (desk f path cells)) × (end ≤ 6144)
+  unfolding sheetMessage
+  message-put es e rows n h k o l {r} {o1} g {end} p =
+      let t = sheetTree w (desk f path cells) in
+      let ms = octetsOf writtenReal 0 es in
+      let q : ms ≡ messageOctets writtenReal 0 t = octets-tree 0 t (sheet-legal w f path cells few ok) es e writtenReal in
+      let b : length (messageOctets writtenReal 0 t) ≤ 6108 = sheet-size w f path cells few ok in
+      let c = ap length q in
+      let i = fits-by writtenReal 0 rows n es (record {
+        within = omega (arith, h, k);
+        most = omega (arith, h);
+        whole = whole-tree 0 t (sheet-legal w f path cells few ok) es e;
+        few = omega (arith, b, c);
+      }) in
+      let z : outcome (Next (length ms)) (ms ++ drop (length ms) o) ≡ outcome r o1 = sym (writes-yes 0 rows n es o i (omega (arith, b, c, l))) ∙ g in
+      let j : length ms ≡ end = ap (λ (y : Put). nextOf (y .answer)) z ∙ p in (
+        ap (λ (i : ℕ). take i o1) (sym p) ∙ ap (λ (y : Put). take (nextOf (y .answer)) (y .out)) (sym z) ∙ take-at ms (drop (length ms) o) (length ms) refl ∙ q,
+        omega (arith, b, c, j),
+      )

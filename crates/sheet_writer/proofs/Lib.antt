@@ -1,0 +1,5 @@
+pub mod Laws
+pub mod Entries
+pub mod Packets
+pub mod Answers
+pub mod Theorems

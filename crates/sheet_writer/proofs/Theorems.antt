@@ -1,0 +1,48 @@
+-- The theorems of the route sheet writer, over what the code is proved to answer (`writesSheet`, specs/Calls.antt): for all figures, paths, crosspoints and outputs.
+use Prim.Native.Nat.{ℕ, _+_, _≤_}
+use mathlib.Core.Path.{_≡_, refl, sym, ap, _∙_}
+use mathlib.Core.List.{List, _++_}
+use mathlib.Core.Bool.{Bool, true, false}
+use native.Mathlib.Omega.{arith}
+use borrow.Author.Tests.{le-leb}
+use lib.ListN.{length, take, drop}
+use Rattle.integers.specs.Digits.{pick}
+use Rattle.framing_writer.specs.Written.{Outcome, into}
+use Rattle.framing_writer.proofs.Laws.{into-back}
+use Rattle.routing.specs.declared.Figures.{Figures}
+use Rattle.routing.specs.Figures.{side}
+use Rattle.routing.specs.Crosspoints.{Cells}
+use Rattle.desk_calls.specs.Calls.{deskLegal}
+use Rattle.sheets.specs.Sheet.{desk, sheetOf}
+use Rattle.sheets.specs.Reading.{read, readSheet}
+use Rattle.sheets.proofs.Theorems.{sheet-read}
+use Rattle.sheet_writer.specs.declared.Answer.the-variants.{Setup, Done}
+use Rattle.sheet_writer.specs.Calls.{told, writesSheet}
+use Rattle.sheet_writer.proofs.Answers.{sheet-into, sheet-length}
+
+module _ (f : Figures) (path : List ℕ) (cells : Cells) (out : List ℕ) where
+  done-legal : (u : Bool) (n : ℕ) (out′ : List ℕ)
+      → pick u (into (sheetOf side (desk f path cells)) out) (told Setup out) ≡ told (Done n) out′ → u ≡ true
+  done-legal true n out′ e = refl
+  done-legal false n out′ e = let z : _≡_ {A = ℕ} 1 0 = ap (λ (x : Outcome). x .number) e in absurd (omega arith)
+
+  -- 1. What was written is read as the same desk: figures, limits as given, path and crosspoints.
+  pub written-read : (n : ℕ) (out′ : List ℕ) → writesSheet side f path cells out ≡ told (Done n) out′ → readSheet side (take n out′) ≡ read (desk f path cells)
+  unfolding writesSheet
+  written-read n out′ e =
+      let ok = done-legal (deskLegal side f path cells) n out′ e in
+      let b : take n out′ ≡ sheetOf side (desk f path cells) =
+      into-back (sheetOf side (desk f path cells)) out out′ n (sym (sheet-into side f path cells out ok) ∙ e) in
+      ap (readSheet side) b ∙ sheet-read (desk f path cells) ok
+
+  -- 2. Every legal desk is written, where the output is as long as its sheet, and the bytes past it stay;
+  pub legal-written : deskLegal side f path cells ≡ true → length (sheetOf side (desk f path cells)) ≤ length out
+      → writesSheet side f path cells out
+      ≡ told (Done (length (sheetOf side (desk f path cells))))
+      (sheetOf side (desk f path cells) ++ drop (length (sheetOf side (desk f path cells))) out)
+  unfolding into
+  legal-written ok h = sheet-into side f path cells out ok ∙ simp (le-leb _ _ h)
+
+  -- 25,000 bytes are always enough.
+  pub always-enough : deskLegal side f path cells ≡ true → length (sheetOf side (desk f path cells)) ≤ 25000
+  always-enough ok = sheet-length side f path cells (omega arith) ok

@@ -1,0 +1,82 @@
+use mathlib.Core.Path.{_∙_}
+use native.Mathlib.Omega.{arith}
+use lib.ListN.{length-set}
+use Rattle.sheet_writer.proofs.Entries.{desk-counts, path-end, entries-put}
+use borrow.Author.Needs.{needs}
+use Rattle.sheet_writer.proofs.put_entries.Statement.{statement}
+use Rattle.sheet_writer.proofs.put_entries.Tie as tie
+
+index-requires : tie.Need-index-requires
+index-requires c κs = search needs
+
+write-oid-requires : tie.Need-write-oid-requires
+write-oid-requires c κs = search needs
+
+end-of-requires : tie.Need-end-of-requires
+end-of-requires c κs = search needs
+
+wide-requires : tie.Need-wide-requires
+wide-requires c κs = search needs
+
+matrix-row-requires : tie.Need-matrix-row-requires
+matrix-row-requires c κs = search needs
+
+slice-set-from-rows : tie.Need-slice-set-from-rows
+slice-set-from-rows c = search needs
+
+put-links-requires : tie.Need-put-links-requires
+put-links-requires c κs =
+    let the-Start = c .before .before .before .before .before .before .before .before .before .before .before .before .before in
+    let the-index = c .before .before .before .before .before .before .before .before .before .index in
+    let the-write-oid = c .before .before .before .before .before .before .before .write-oid in
+    let the-end-of = c .before .before .before .before .end-of in
+    let ok = the-Start .pre .0 in
+    let lens = the-Start .pre .1 in
+    let n = desk-counts 64 _ _ _ (omega arith) ok in
+    let e = path-end 64 _ _ _ (omega arith) ok _ (omega (arith, lens)) (the-write-oid .ensures) in
+    (n .0, (omega (arith, n, the-index .ensures), (length-set (the-Start .args .rows .now) 0 (c .before .before .matrix-row .result) ∙ lens .0, omega (arith, e, the-end-of .ensures))))
+
+add-result : tie.Need-add-result
+add-result c =
+    let the-Start = c .before .before .before .before .before .before .before .before .before .before .before .before .before .before .before .before .before in
+    let the-index = c .before .before .before .before .before .before .before .before .before .before .before .before .before .index in
+    let n = desk-counts 64 _ _ _ (omega arith) (the-Start .pre .0) in
+    omega (arith, n, the-index .ensures)
+
+same-length : tie.Need-same-length
+same-length c =
+    let the-put-links = c .before .before .before .put-links in
+    the-put-links .kept .1 .1 .0 ∙ length-set (c .before .before .before .before .before .before .before .before .before .before .before .before .before .before .before .before .before .args .rows .now) 0 (c .before .before .before .before .before .before .matrix-row .result)
+
+same-length-2 : tie.Need-same-length-2
+same-length-2 c = search needs
+
+returns : tie.Need-returns
+returns c =
+    let the-Start = c .before .before .before .before .before .before .before .before .before .before .before .before .before .before .before .before .before in
+    let the-index = c .before .before .before .before .before .before .before .before .before .before .before .before .before .index in
+    let the-write-oid = c .before .before .before .before .before .before .before .before .before .before .before .write-oid in
+    let the-end-of = c .before .before .before .before .before .before .before .before .end-of in
+    let the-wide = c .before .before .before .before .before .before .before .wide in
+    let the-matrix-row = c .before .before .before .before .before .before .matrix-row in
+    let the-put-links = c .before .before .before .put-links in
+    let lens = the-Start .pre .1 in
+    entries-put 64 (the-Start .args .f) (the-Start .args .path .now) (the-Start .args .cells .now) (omega arith) (the-Start .pre .0)
+    (the-Start .args .rows .now) (omega (arith, lens)) (the-Start .args .octets .now) (omega (arith, lens)) (the-write-oid .ensures) (the-end-of .ensures) (the-wide .ensures) (the-matrix-row .ensures)
+    (the-index .ensures) (the-put-links .ensures)
+
+pub put-entries-spec : {M : Type 1} → statement M
+put-entries-spec =
+    tie.close
+    (tie.spec
+    index-requires
+    write-oid-requires
+    end-of-requires
+    wide-requires
+    matrix-row-requires
+    slice-set-from-rows
+    put-links-requires
+    add-result
+    same-length
+    same-length-2
+    returns)

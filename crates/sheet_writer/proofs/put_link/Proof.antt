@@ -1,0 +1,95 @@
+use native.Mathlib.Omega.{arith}
+use Rattle.sheet_writer.proofs.Laws.{wrote-end, part-short, link-put}
+use borrow.Author.Needs.{needs}
+use Rattle.sheet_writer.proofs.put_link.Statement.{statement}
+use Rattle.sheet_writer.proofs.put_link.Tie as tie
+
+mul-from : tie.Need-mul-from
+mul-from c = search needs
+
+add-to : tie.Need-add-to
+add-to c = search needs
+
+sub-put-sources : tie.Need-sub-put-sources
+sub-put-sources c = search needs
+
+part-put-sources-start : tie.Need-part-put-sources-start
+part-put-sources-start c = search needs
+
+part-put-sources-end : tie.Need-part-put-sources-end
+part-put-sources-end c = search needs
+
+put-sources-requires : tie.Need-put-sources-requires
+put-sources-requires c κs = search needs
+
+wide-requires : tie.Need-wide-requires
+wide-requires c κs = search needs
+
+wide-requires-2 : tie.Need-wide-requires-2
+wide-requires-2 c κs = search needs
+
+sub-wide : tie.Need-sub-wide
+sub-wide c =
+    let the-put-sources = c .before .before .before .before .put-sources in
+    wrote-end _ _ _ (the-put-sources .ensures .0)
+
+wide-requires-3 : tie.Need-wide-requires-3
+wide-requires-3 c κs = search needs
+
+list-cell-requires : tie.Need-list-cell-requires
+list-cell-requires c κs = search needs
+
+link-row-requires : tie.Need-link-row-requires
+link-row-requires c κs = search needs
+
+add-t20 : tie.Need-add-t20
+add-t20 c = search needs
+
+mul-t21 : tie.Need-mul-t21
+mul-t21 c = search needs
+
+slice-set-from-rows : tie.Need-slice-set-from-rows
+slice-set-from-rows c = search needs
+
+same-length : tie.Need-same-length
+same-length c = search needs
+
+same-length-2 : tie.Need-same-length-2
+same-length-2 c = search needs
+
+returns : tie.Need-returns
+returns c =
+    let the-link-row = c .link-row in
+    let the-list-cell = c .before .list-cell in
+    let the-wide3 = c .before .before .wide3 in
+    let the-wide2 = c .before .before .before .wide2 in
+    let the-wide = c .before .before .before .before .wide in
+    let the-put-sources = c .before .before .before .before .before .before .before .put-sources in
+    let the-Start = c .before .before .before .before .before .before .before .before .before .before .before .before in (
+      link-put (the-Start .args .cells .now) (the-Start .args .t) _ _ _ (the-put-sources .ensures .0)
+          (the-wide .ensures) (the-wide2 .ensures) (the-wide3 .ensures) (the-list-cell .ensures) (the-link-row .ensures),
+      omega (arith, the-put-sources .ensures .1, part-short (the-Start .args .cells .now) (the-Start .args .t)),
+    )
+
+pub put-link-spec : {M : Type 1} → statement M
+put-link-spec =
+    tie.close
+    (tie.spec
+    mul-from
+    add-to
+    sub-put-sources
+    part-put-sources-start
+    part-put-sources-end
+    put-sources-requires
+    wide-requires
+    wide-requires-2
+    sub-wide
+    wide-requires-3
+    list-cell-requires
+    link-row-requires
+    add-t20
+    mul-t21
+    slice-set-from-rows
+    same-length
+    same-length-2
+    returns)

@@ -1,0 +1,22 @@
+-- The route sheet writer (document 01, "Desk" and "Numbers answered").
+use Prim.Native.Nat.{ℕ}
+use mathlib.Core.List.{List}
+use Rattle.integers.specs.Digits.{pick}
+use Rattle.framing_writer.specs.Written.{Outcome, into}
+use Rattle.routing.specs.declared.Figures.{Figures}
+use Rattle.routing.specs.Crosspoints.{Cells}
+use Rattle.desk_calls.specs.Calls.{deskLegal}
+use Rattle.sheets.specs.Sheet.{desk, sheetOf}
+use Rattle.sheet_writer.specs.declared.Answer.{Answer}
+use Rattle.sheet_writer.specs.declared.Answer.the-variants.{Setup, Out, Done}
+
+-- what each case of the answer says: document 01's number and how many bytes, with the output after it
+abbrev pub told : Answer → List ℕ → Outcome
+told Setup o = record { number = 1; count = 0; output = o }
+told Out o = record { number = 46; count = 0; output = o }
+told (Done n) o = record { number = 0; count = n; output = o }
+
+-- "1 SETUP, first of all: .. desk not legal", "1 leaves everything as it was"; else the sheet, or "46 OUT: writer: output too short", which leaves the output
+-- as it was. Bytes past the sheet stay.
+unfoldable pub writesSheet : ℕ → Figures → List ℕ → Cells → List ℕ → Outcome
+writesSheet w f path cells o = pick (deskLegal w f path cells) (into (sheetOf w (desk f path cells)) o) (told Setup o)

@@ -1,0 +1,72 @@
+-- For the functions of this crate: the rows of a sheet, and beside them the octets of its path and sources.
+use Prim.Native.Nat.{ℕ, zero, suc, _+_}
+use mathlib.Core.List.{List, [], _∷_}
+use lib.ListN.{length, set}
+use lib.Seq.{sets}
+use lib.Dec.{eqb}
+use Rattle.integers.specs.Digits.{pick}
+use Rattle.entries.specs.declared.Cell.{Cell}
+use Rattle.entries.specs.Cell.{cell, absent, numbersCell}
+use Rattle.entries.specs.Entry.{Entry, blanks, row, Rows}
+use Rattle.grammar.specs.Grammar.{qualifiedMatrix, connection}
+use Rattle.framing_writer.specs.declared.Written.{Written}
+use Rattle.framing_writer.specs.declared.Written.the-variants as written
+use Rattle.routing.specs.declared.Limit.{Limit}
+use Rattle.routing.specs.declared.Limit.the-variants.{Absent, Most}
+use Rattle.routing.specs.declared.Figures.{Figures}
+use Rattle.routing.specs.Crosspoints.{Cells}
+use Rattle.sheets.specs.Sheet.{sourcesAt}
+use Rattle.sheet_writer.specs.declared.Answer.{Answer}
+use Rattle.sheet_writer.specs.declared.Answer.the-variants as answers
+
+-- a source by its cell: an octet where it is connected
+abbrev pub oneSource : ℕ → ℕ → List ℕ
+oneSource s c = pick (eqb c 0) [] (s ∷ [])
+
+-- cells of numbers, of limits where given, of sources where there are any
+abbrev pub numberCell : ℕ → Cell
+numberCell n = cell 2 n 0
+
+abbrev pub limitCell : Limit → Cell
+limitCell Absent = absent
+limitCell (Most n) = numberCell n
+
+unfoldable pub listCell : ℕ → ℕ → Cell
+listCell start len = pick (eqb len 0) absent (numbersCell start len)
+
+-- the matrix, with the octets of its path first of all, and a connection
+abbrev pub matrixEntry : Figures → ℕ → Entry
+matrixEntry f n = record {
+  kind = qualifiedMatrix;
+  parent = 0;
+  cells = numbersCell 0 n ∷ absent ∷ absent ∷ numberCell (f .kind) ∷ absent ∷ numberCell (f .targets) ∷ numberCell (f .sources)
+      ∷ limitCell (f .total) ∷ limitCell (f .each) ∷ blanks 7;
+}
+
+abbrev pub linkEntry : ℕ → Cell → Entry
+linkEntry target sources = record { kind = connection; parent = 1; cells = numberCell target ∷ sources ∷ blanks 14 }
+
+-- The rows and the octets so far, and the place of the next octet.
+pub record Filled : Type 0 where
+  pub rows : Rows
+  pub octets : List ℕ
+  pub next : ℕ
+
+abbrev pub filled : Rows → List ℕ → ℕ → Filled
+filled rows octets next = record { rows = rows; octets = octets; next = next }
+
+-- with the connection of target t, and of n targets from t on
+unfoldable pub withLink : ℕ → Cells → ℕ → Filled → Filled
+withLink w cells t x =
+    filled (set (x .rows) (suc t) (row (linkEntry t (listCell (x .next) (length (sourcesAt w cells t))))))
+    (sets (x .octets) (x .next) (sourcesAt w cells t))
+    (x .next + length (sourcesAt w cells t))
+
+unfoldable pub withLinks : ℕ → Cells → ℕ → ℕ → Filled → Filled
+withLinks w cells t zero x = x
+withLinks w cells t (suc n) x = withLinks w cells (suc t) n (withLink w cells t x)
+
+-- the answer of the lines' writer is the sheet writer's
+abbrev pub said : Written → Answer
+said (written.Done n) = answers.Done n
+said written.Out = answers.Out

@@ -1,0 +1,277 @@
+// The route sheet writer: a legal desk's sheet, into a lent output.
+use entries::Cell;
+use framing_writer::Written;
+use integers::Wrote;
+use routing::Figures;
+use routing::Limit;
+ghost use mathlib.Core.Path.{_≡_};
+ghost use mathlib.Core.Bool.{true};
+ghost use mathlib.Core.List.{[], _∷_};
+ghost use Prim.Native.Nat.{_+_, _≤_, _<_};
+ghost use lib.ListN.{length, take};
+ghost use Rattle.entries.specs.Entry.{row};
+ghost use Rattle.forest.specs.Rows.{itemsIn};
+ghost use Rattle.forest.specs.Trees.{flat};
+ghost use Rattle.framing_writer.specs.Written.{inPackets};
+ghost use Rattle.framing_writer.specs.Stores.{wrote};
+ghost use Rattle.glow_writer.specs.Sizes.{nextOf};
+ghost use Rattle.routing.specs.Figures.{side};
+ghost use Rattle.desk_calls.specs.Calls.{deskLegal};
+ghost use Rattle.sheets.specs.Sheet.{desk, sourcesFrom, sheetTree, sheetMessage};
+ghost use Rattle.sheet_writer.specs.Calls.{told, writesSheet};
+ghost use Rattle.sheet_writer.specs.Steps.{oneSource, limitCell, listCell, matrixEntry, linkEntry, filled, withLink, withLinks, said};
+
+// 1 SETUP, 46 OUT, or how many bytes the sheet has.
+pub enum Answer {
+    Setup,
+    Out,
+    Done { length: usize },
+}
+
+fn wide(x: usize) -> u64
+    ensures { λ r. ⌜ r ≡ x ⌝ }
+{
+    x as u64
+}
+
+fn index(x: u64) -> usize
+    ensures { λ r. ⌜ r ≡ x ⌝ }
+{
+    x as usize
+}
+
+fn octet(x: usize) -> u8
+    requires { ⌜ x < 256 ⌝ }
+    ensures { λ r. ⌜ r ≡ x ⌝ }
+{
+    x as u8
+}
+
+// An octet, stored only where there is a place for it.
+fn emit(octets: &mut [u8], at: usize, b: u8) -> usize
+    requires { ⌜ at < 65536 ⌝ }
+    ensures { λ r. ⌜ wrote (now (octets .entry)) at (b ∷ []) ≡ record { next = r; output = now (octets .exit) } ⌝ }
+    ensures { λ r. ⌜ r ≤ at + 1 ⌝ }
+{
+    if at < octets.len() {
+        octets[at] = b;
+    }
+    at + 1
+}
+
+// A source where its cell is set.
+fn put_source(octets: &mut [u8], at: usize, s: usize, cell: u8) -> usize
+    requires { ⌜ (s < 64) × (at < 65536) ⌝ }
+    ensures { λ r. ⌜ wrote (now (octets .entry)) at (oneSource s cell) ≡ record { next = r; output = now (octets .exit) } ⌝ }
+    ensures { λ r. ⌜ r ≤ at + 1 ⌝ }
+{
+    if cell == 0 {
+        return at;
+    }
+    emit(octets, at, octet(s))
+}
+
+// The sources of a target, ascending, an octet each.
+fn put_sources(cells: &[u8], octets: &mut [u8], at: usize) -> usize
+    requires { ⌜ (length (now cells) ≤ 64) × (at + 64 ≤ 65536) ⌝ }
+    ensures { λ r. ⌜ wrote (now (octets .entry)) at (sourcesFrom 0 (now (cells .entry))) ≡ record { next = r; output = now (octets .exit) } ⌝ }
+    ensures { λ r. ⌜ r ≤ at + length (now (cells .entry)) ⌝ }
+{
+    let mut next = at;
+    let mut s = 0;
+    while s < cells.len() {
+        next = put_source(octets, next, s, cells[s]);
+        s += 1;
+    }
+    next
+}
+
+// A limit, where given.
+fn limit_cell(l: Limit) -> Cell
+    ensures { λ r. ⌜ limitCell l ≡ r ⌝ }
+{
+    match l {
+        Limit::Absent => Cell {
+            kind: 0,
+            first: 0,
+            second: 0,
+        },
+        Limit::Most(n) => Cell {
+            kind: 2,
+            first: n,
+            second: 0,
+        },
+    }
+}
+
+// Sources by their place among the octets: an empty list is left out.
+fn list_cell(start: u64, len: u64) -> Cell
+    ensures { λ r. ⌜ listCell start len ≡ r ⌝ }
+{
+    if len == 0 {
+        return Cell {
+            kind: 0,
+            first: 0,
+            second: 0,
+        };
+    }
+    Cell {
+        kind: 13,
+        first: start,
+        second: len,
+    }
+}
+
+// The qualified matrix: its path, the first `len` octets; type, targets, sources and limits.
+fn matrix_row(f: Figures, len: u64) -> [u64; 50]
+    ensures { λ r. ⌜ r ≡ row (matrixEntry f len) ⌝ }
+{
+    let most = f.total;
+    let most_each = f.each;
+    let total = limit_cell(most);
+    let each = limit_cell(most_each);
+    let mut row = [0; 50];
+    row[0] = 7;
+    row[2] = 13;
+    row[4] = len;
+    row[11] = 2;
+    row[12] = f.kind;
+    row[17] = 2;
+    row[18] = f.targets;
+    row[20] = 2;
+    row[21] = f.sources;
+    row[23] = total.kind;
+    row[24] = total.first;
+    row[25] = total.second;
+    row[26] = each.kind;
+    row[27] = each.first;
+    row[28] = each.second;
+    row
+}
+
+// A connection: target and sources; no operation.
+fn link_row(target: u64, sources: Cell) -> [u64; 50]
+    ensures { λ r. ⌜ r ≡ row (linkEntry target sources) ⌝ }
+{
+    let mut row = [0; 50];
+    row[0] = 8;
+    row[1] = 1;
+    row[2] = 2;
+    row[3] = target;
+    row[5] = sources.kind;
+    row[6] = sources.first;
+    row[7] = sources.second;
+    row
+}
+
+// The connection of a target, and the place after its sources.
+fn put_link(cells: &[u8], t: usize, rows: &mut [[u64; 50]], octets: &mut [u8], at: usize) -> usize
+    requires { ⌜ (length (now cells) ≡ 4096) × ((t < 64) × ((length (now rows) ≡ 65) × (at + 64 ≤ 65536))) ⌝ }
+    ensures { λ r. ⌜ withLink side (now (cells .entry)) t (filled (now (rows .entry)) (now (octets .entry)) at)
+        ≡ filled (now (rows .exit)) (now (octets .exit)) r ⌝ }
+    ensures { λ r. ⌜ r ≤ at + 64 ⌝ }
+{
+    let from = t * 64;
+    let to = from + 64;
+    let next = put_sources(&cells[from..to], octets, at);
+    rows[t + 1] = link_row(wide(t), list_cell(wide(at), wide(next - at)));
+    next
+}
+
+// Every target.
+fn put_links(
+    cells: &[u8],
+    targets: usize,
+    rows: &mut [[u64; 50]],
+    octets: &mut [u8],
+    at: usize,
+) -> usize
+    requires { ⌜ (length (now cells) ≡ 4096) × ((targets ≤ 64) × ((length (now rows) ≡ 65) × (at ≤ 80))) ⌝ }
+    ensures { λ r. ⌜ withLinks side (now (cells .entry)) 0 targets (filled (now (rows .entry)) (now (octets .entry)) at)
+        ≡ filled (now (rows .exit)) (now (octets .exit)) r ⌝ }
+{
+    let mut next = at;
+    let mut t = 0;
+    while t < targets {
+        next = put_link(cells, t, rows, octets, next);
+        t += 1;
+    }
+    next
+}
+
+fn end_of(w: Wrote) -> usize
+    ensures { λ r. ⌜ nextOf w ≡ r ⌝ }
+{
+    match w {
+        Wrote::Next(n) => n,
+        Wrote::Out => 0,
+    }
+}
+
+// The entries of a sheet as rows, with the octets beside them: how many rows.
+fn put_entries(
+    f: Figures,
+    path: &[u64],
+    cells: &[u8],
+    rows: &mut [[u64; 50]],
+    octets: &mut [u8],
+) -> usize
+    requires { ⌜ deskLegal side f (now path) (now cells) ≡ true ⌝ }
+    requires { ⌜ (length (now rows) ≡ 65) × (length (now octets) ≡ 4176) ⌝ }
+    ensures { λ r. ⌜ itemsIn (now (octets .exit)) (now (rows .exit)) r ≡ flat 0 0 (sheetTree side (desk f (now (path .entry)) (now (cells .entry)))) ⌝ }
+    ensures { λ r. ⌜ r ≤ 65 ⌝ }
+{
+    let targets = index(f.targets);
+    let end = end_of(identifiers::write_oid(path, octets, 0));
+    rows[0] = matrix_row(f, wide(end));
+    put_links(cells, targets, rows, octets, end);
+    targets + 1
+}
+
+// The message of a sheet.
+fn put_message(f: Figures, path: &[u64], cells: &[u8], message: &mut [u8]) -> usize
+    requires { ⌜ deskLegal side f (now path) (now cells) ≡ true ⌝ }
+    requires { ⌜ length (now message) ≡ 6144 ⌝ }
+    ensures { λ r. ⌜ take r (now (message .exit)) ≡ sheetMessage side (desk f (now (path .entry)) (now (cells .entry))) ⌝ }
+    ensures { λ r. ⌜ r ≤ 6144 ⌝ }
+{
+    let mut rows = [[0u64; 50]; 65];
+    let mut octets = [0u8; 4176];
+    let count = put_entries(f, path, cells, &mut rows, &mut octets);
+    end_of(glow_writer::write::write(&rows, count, 0, &octets, message))
+}
+
+// Its frames.
+fn put_frames(message: &[u8], frames: &mut [u8]) -> usize
+    requires { ⌜ (length (now message) ≤ 6144) × (length (now frames) ≡ 16384) ⌝ }
+    ensures { λ r. ⌜ take r (now (frames .exit)) ≡ inPackets (now (message .entry)) ⌝ }
+    ensures { λ r. ⌜ r ≤ 16384 ⌝ }
+{
+    match framing_writer::write_message(message, frames) {
+        Written::Done { length } => length,
+        Written::Out => 0,
+    }
+}
+
+fn tell(w: Written) -> Answer
+    ensures { λ r. ⌜ said w ≡ r ⌝ }
+{
+    match w {
+        Written::Done { length } => Answer::Done { length },
+        Written::Out => Answer::Out,
+    }
+}
+
+// The sheet of a desk: 1 for a desk that is not legal; 46 where the output is too short. Both leave the output as it was.
+pub fn write(f: Figures, path: &[u64], crosspoints: &[u8], out: &mut [u8]) -> Answer
+    ensures { λ r. ⌜ writesSheet side f (now (path .entry)) (now (crosspoints .entry)) (now (out .entry)) ≡ told r (now (out .exit)) ⌝ }
+{
+    if !desk_calls::is_legal(f, path, crosspoints) {
+        return Answer::Setup;
+    }
+    let mut message = [0u8; 6144];
+    let n = put_message(f, path, crosspoints, &mut message);
+    let mut frames = [0u8; 16384];
+    let k = put_frames(&message[..n], &mut frames);
+    tell(sheets::write_lines(&frames[..k], out))
+}

@@ -1,0 +1,56 @@
+-- P1 to P12, one statement, by computation.
+use mathlib.Core.Path.{refl}
+use mathlib.Core.List.{List}
+use Prim.Native.Nat.{ℕ}
+use Rattle.integers.specs.Digits.{horner, digits}
+use Rattle.integers.specs.Integer.{signed, nineFree, twos, integer, integerAt, sizeBy, octets, shortest}
+use Rattle.framing.specs.Checksum.{table, crcStep, crcFrom, checksum}
+use Rattle.framing.specs.Content.{contentOf as frameOf, bodyOf, commandOf}
+use Rattle.framing.specs.Rules.{step, inPlace, adds, cuts, ends, happens}
+use Rattle.framing_writer.specs.Written.{escape, escapes, frame}
+use Rattle.tags.specs.Tag.{stop, cut, longNumber, tagNumber, sized, lengthAt, headAt}
+use Rattle.identifiers.specs.Identifier.{arcIs, arcFrom, arcAt, arcsFrom}
+use Rattle.values.specs.Value.{boolean, boolAt, isListed, kindAt, contentAt}
+use Rattle.containers.specs.Ends.{zeroAt, closingAt, standingAt, deep, enterAt, firstAt, lastAt, isTag}
+use Rattle.containers.specs.Passing.{skipped, crossAt, throughBy, passedAt}
+use Rattle.entries.specs.Entry.{blanks, withCell, putCell, words, overlay}
+use Rattle.grammar.specs.Grammar.{members, ruleOf, requirements, required, isSet, contentsRows, contentsOf, applications, holds, kindAmong, kindIn}
+use Rattle.grammar.specs.Grammar.{innerClass, innerNumber, collectionOf, rootOf}
+use Rattle.grammar.specs.Leaf.{expects, least, most, inRange, isLetter, noSlash, isName, allPositive, isPath, numberLeaf, textLeaf, numbersAt, leafAt}
+use Rattle.glow.specs.Members.{marked, mark, due, inOrder, again, afterListed, afterOther, column}
+use Rattle.glow.specs.Members.{plainAt, innerAt, listedAt, ruledAt, memberAt, kindOf, itemAt}
+use Rattle.glow.specs.Tree.{closed, membersBy, itemsBy}
+use Rattle.glow.specs.Message.{rootKind, topAt, finished, walk, setup, readAt}
+use Rattle.turns.specs.Samples.{All, p1-to-p12}
+
+pub samples : All p1-to-p12
+unfolding horner digits signed nineFree twos integer integerAt sizeBy octets shortest
+    happens step inPlace adds ends cuts frameOf bodyOf commandOf checksum crcFrom crcStep table frame escapes escape
+    headAt tagNumber longNumber stop cut lengthAt sized boolean boolAt isListed kindAt contentAt
+    arcIs arcFrom arcAt arcsFrom zeroAt closingAt standingAt deep enterAt firstAt lastAt isTag skipped crossAt throughBy passedAt
+    members ruleOf requirements required isSet contentsRows contentsOf applications holds kindAmong kindIn innerClass innerNumber collectionOf rootOf
+    expects least most inRange isLetter noSlash isName allPositive isPath numberLeaf textLeaf numbersAt leafAt blanks withCell putCell words overlay
+    marked mark due inOrder again afterListed afterOther column plainAt innerAt listedAt ruledAt memberAt kindOf itemAt closed membersBy itemsBy
+    rootKind topAt finished walk setup readAt
+samples = (
+  (refl, refl),
+  (
+    (refl, refl),
+    (
+      (refl, refl),
+      (
+        (refl, refl),
+        (
+          (refl, refl),
+          (
+            (refl, refl),
+            (
+              (refl, refl),
+              (refl, (refl, (refl, (refl, ((λ (r q : List ℕ). refl), tt))))),
+            ),
+          ),
+        ),
+      ),
+    ),
+  ),
+)
