@@ -10,6 +10,7 @@ pub mod gen;
 pub mod lines;
 pub mod listing;
 pub mod programs;
+pub mod router;
 pub mod rows;
 pub mod sheet;
 pub mod store;

@@ -1,6 +1,6 @@
-//! The stored inputs and expected outputs of the programs and of a C example.
+//! The stored inputs and expected outputs of the programs and of the C examples.
 
-use crate::{desk_text, gateway, gen, listing, programs, tree_text, watch};
+use crate::{desk_text, gateway, gen, listing, programs, router, tree_text, watch};
 use std::path::{Path, PathBuf};
 
 /// Every stored file, from the repository's root, with what it must hold.
@@ -10,6 +10,9 @@ fn files(writes: bool) -> Vec<(&'static str, Vec<u8>)> {
     let tree = gen::tree::requests::stored(writes);
     let stream = gateway::stream();
     let (passed, counts) = gateway::gateway(&stream);
+    let routed = router::stream();
+    let (answered, picture) = router::router(&routed);
+    let (offered, request, said) = router::plugin();
     let packets = gen::packets::stored();
     let stored_listing = gen::tree::stored_listing();
     let desk = gen::desk::scripts::stored();
@@ -25,6 +28,12 @@ fn files(writes: bool) -> Vec<(&'static str, Vec<u8>)> {
         ("examples/gateway/check/passed.hex", gateway::hex_lines(&passed)),
         ("examples/gateway/check/counts", counts.into_bytes()),
         ("examples/gateway/check/stream.hex", gateway::hex_lines(&stream)),
+        ("examples/router/check/stream.hex", gateway::hex_lines(&routed)),
+        ("examples/router/check/answers.hex", gateway::hex_lines(&answered)),
+        ("examples/router/check/picture", picture.into_bytes()),
+        ("examples/plugin/check/stream.hex", gateway::hex_lines(&offered)),
+        ("examples/plugin/check/request.hex", gateway::hex_lines(&request)),
+        ("examples/plugin/check/said", said.into_bytes()),
         ("crates/packets/stdout", programs::packets(&packets).into_bytes()),
         ("crates/packets/stdin", packets),
         ("crates/listing/stdout", listing::listing(&stored_listing).into_bytes()),

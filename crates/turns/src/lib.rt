@@ -41,7 +41,7 @@ pub fn front(store: &[u8], n: usize) -> usize
 }
 
 // The tree reader's call on a message; if it gives 0, the desk's call on those entries, as read.
-fn message(
+pub fn message(
     m: &[u8],
     table: &mut [[u64; 50]],
     figures: Figures,

@@ -1,0 +1,314 @@
+/* Entries for people: what a row of ember.h says, and rows made by hand. Plain C99 and C++; taken in by ember.h.
+ *
+ * A row is `table[i]`, i under the count; a member is one of the cells that ember.h names (EMBER_PARAMETER_VALUE and so on);
+ * the message is the one the table was read from, as long as it is there. No function here allocates or keeps anything,
+ * and none reads past the row or the message: each tests what it uses. */
+#ifndef EMBER_ENTRIES_H
+#define EMBER_ENTRIES_H
+
+#include <stddef.h>
+#include <stdint.h>
+#include <string.h>
+
+#ifdef __cplusplus
+extern "C" {
+#endif
+
+/* ---- What an entry is */
+
+/* The entry's kind, one of EMBER_KIND_*.
+ * Never looks at its members. */
+static inline uint64_t ember_kind(const uint64_t *row)
+{
+    return row[EMBER_ROW_KIND];
+}
+
+/* 1 if the entry stands in another one, whose place is then ember_parent; else 0.
+ * Never says so of an entry that stands in Root. */
+static inline int ember_has_parent(const uint64_t *row)
+{
+    return row[EMBER_ROW_PARENT] != 0;
+}
+
+/* The place in the table of the entry that this one stands in; 0 too if it stands in Root.
+ * Never looks at that entry. */
+static inline size_t ember_parent(const uint64_t *row)
+{
+    return row[EMBER_ROW_PARENT] == 0 ? 0 : (size_t)(row[EMBER_ROW_PARENT] - 1);
+}
+
+/* 1 if the entry has a full path in place of a number; else 0.
+ * Never says so of an entry that is no element. */
+static inline int ember_is_qualified(const uint64_t *row)
+{
+    return row[EMBER_ROW_KIND] >= EMBER_KIND_QUALIFIED_PARAMETER && row[EMBER_ROW_KIND] <= EMBER_KIND_QUALIFIED_MATRIX;
+}
+
+/* 1 if the entry is a parameter, qualified or not; else 0.
+ * Never looks at its members. */
+static inline int ember_is_parameter(const uint64_t *row)
+{
+    return row[EMBER_ROW_KIND] == EMBER_KIND_PARAMETER || row[EMBER_ROW_KIND] == EMBER_KIND_QUALIFIED_PARAMETER;
+}
+
+/* 1 if the entry is a node, qualified or not; else 0.
+ * Never looks at its members. */
+static inline int ember_is_node(const uint64_t *row)
+{
+    return row[EMBER_ROW_KIND] == EMBER_KIND_NODE || row[EMBER_ROW_KIND] == EMBER_KIND_QUALIFIED_NODE;
+}
+
+/* 1 if the entry is a matrix, qualified or not; else 0.
+ * Never looks at its members. */
+static inline int ember_is_matrix(const uint64_t *row)
+{
+    return row[EMBER_ROW_KIND] == EMBER_KIND_MATRIX || row[EMBER_ROW_KIND] == EMBER_KIND_QUALIFIED_MATRIX;
+}
+
+/* ---- What a member is. Each answers 1 if it is there and of that type, and 0, with nothing changed, if not */
+
+/* The type of a member's value, one of EMBER_TYPE_*; EMBER_TYPE_ABSENT if it was not sent.
+ * Never looks at its content. */
+static inline uint64_t ember_type(const uint64_t *row, size_t member)
+{
+    return member < 16 ? row[EMBER_ROW_CELLS + EMBER_CELL_WORDS * member] : EMBER_TYPE_ABSENT;
+}
+
+/* 1 if a member was sent; else 0.
+ * Never asks of which type it is. */
+static inline int ember_has(const uint64_t *row, size_t member)
+{
+    return ember_type(row, member) != EMBER_TYPE_ABSENT;
+}
+
+/* An integer.
+ * Never converts a real or a boolean. */
+static inline int ember_integer(const uint64_t *row, size_t member, int64_t *value)
+{
+    if (ember_type(row, member) != EMBER_TYPE_INTEGER)
+        return 0;
+    memcpy(value, &row[EMBER_ROW_CELLS + EMBER_CELL_WORDS * member + 1], sizeof *value);
+    return 1;
+}
+
+/* A real.
+ * Never converts an integer, and never rounds. */
+static inline int ember_real(const uint64_t *row, size_t member, double *value)
+{
+    if (ember_type(row, member) != EMBER_TYPE_REAL)
+        return 0;
+    memcpy(value, &row[EMBER_ROW_CELLS + EMBER_CELL_WORDS * member + 1], sizeof *value);
+    return 1;
+}
+
+/* A boolean, as 1 or 0.
+ * Never converts a number. */
+static inline int ember_boolean(const uint64_t *row, size_t member, int *value)
+{
+    if (ember_type(row, member) != EMBER_TYPE_BOOLEAN)
+        return 0;
+    *value = row[EMBER_ROW_CELLS + EMBER_CELL_WORDS * member + 1] != 0;
+    return 1;
+}
+
+/* The bytes of a member of that type, EMBER_TYPE_TEXT, EMBER_TYPE_OCTETS or EMBER_TYPE_RELATIVE_OID: a part of the message.
+ * Never gives a part that does not lie in the message. */
+static inline int ember_bytes(const uint64_t *row, size_t member, uint64_t type, const uint8_t *message,
+                              size_t message_bytes, const uint8_t **bytes, size_t *count)
+{
+    uint64_t start, length;
+    if (type != EMBER_TYPE_TEXT && type != EMBER_TYPE_OCTETS && type != EMBER_TYPE_RELATIVE_OID)
+        return 0;
+    if (ember_type(row, member) != type)
+        return 0;
+    start = row[EMBER_ROW_CELLS + EMBER_CELL_WORDS * member + 1];
+    length = row[EMBER_ROW_CELLS + EMBER_CELL_WORDS * member + 2];
+    if (length > message_bytes || start > message_bytes - length)
+        return 0;
+    *bytes = length == 0 ? message : message + start;
+    *count = (size_t)length;
+    return 1;
+}
+
+/* A text, UTF-8 as it was sent, with no 0 after it.
+ * Never copies it. */
+static inline int ember_text(const uint64_t *row, size_t member, const uint8_t *message, size_t message_bytes,
+                             const char **text, size_t *count)
+{
+    const uint8_t *bytes;
+    if (!ember_bytes(row, member, EMBER_TYPE_TEXT, message, message_bytes, &bytes, count))
+        return 0;
+    *text = (const char *)bytes;
+    return 1;
+}
+
+/* Octets.
+ * Never copies them. */
+static inline int ember_octets(const uint64_t *row, size_t member, const uint8_t *message, size_t message_bytes,
+                               const uint8_t **bytes, size_t *count)
+{
+    return ember_bytes(row, member, EMBER_TYPE_OCTETS, message, message_bytes, bytes, count);
+}
+
+/* The numbers of a path or of sources, none if the member is absent: puts the first `max` of them into numbers and answers
+ * how many there are.
+ * Never puts more than max; if it answers more, there was no room for the others. */
+static inline size_t ember_numbers(const uint64_t *row, size_t member, const uint8_t *message, size_t message_bytes,
+                                   uint64_t *numbers, size_t max)
+{
+    const uint8_t *bytes;
+    size_t count, i, found = 0;
+    uint64_t number = 0;
+    if (!ember_bytes(row, member, EMBER_TYPE_RELATIVE_OID, message, message_bytes, &bytes, &count))
+        return 0;
+    for (i = 0; i < count; i++) {
+        number = number << 7 | (bytes[i] & 0x7f);
+        if (bytes[i] < 0x80) {
+            if (found < max)
+                numbers[found] = number;
+            found++;
+            number = 0;
+        }
+    }
+    return found;
+}
+
+/* An element's own number, 1 to 2,147,483,647: of a qualified one the last of its path. 0 if it has none.
+ * Never looks at its parents. */
+static inline uint64_t ember_number(const uint64_t *row, const uint8_t *message, size_t message_bytes)
+{
+    uint64_t path[EMBER_PATH_MAX];
+    int64_t number;
+    size_t count;
+    if (ember_integer(row, EMBER_NUMBER_OR_PATH, &number))
+        return number > 0 ? (uint64_t)number : 0;
+    count = ember_numbers(row, EMBER_NUMBER_OR_PATH, message, message_bytes, path, EMBER_PATH_MAX);
+    return count == 0 || count > EMBER_PATH_MAX ? 0 : path[count - 1];
+}
+
+/* The full path of the element at a place of the table's first `count` rows: its numbers into path, which has
+ * EMBER_PATH_MAX words, and how many there are, 1 to 16; 0 if the entry is no element or the rows make no such path.
+ * Never goes up more than sixteen parents, whatever the rows say. */
+static inline size_t ember_path(const uint64_t (*table)[EMBER_ROW_WORDS], size_t count, size_t place,
+                                const uint8_t *message, size_t message_bytes, uint64_t *path)
+{
+    uint64_t own[EMBER_PATH_MAX], front[EMBER_PATH_MAX];
+    size_t above = 0, fronts = 0, i;
+    int64_t number;
+    for (;;) {
+        const uint64_t *row;
+        if (place >= count)
+            return 0;
+        row = table[place];
+        if (ember_is_qualified(row)) {
+            fronts = ember_numbers(row, EMBER_NUMBER_OR_PATH, message, message_bytes, front, EMBER_PATH_MAX);
+            if (fronts == 0 || fronts + above > EMBER_PATH_MAX)
+                return 0;
+            break;
+        }
+        if (!ember_is_parameter(row) && !ember_is_node(row) && !ember_is_matrix(row))
+            return 0;
+        if (above == EMBER_PATH_MAX || !ember_integer(row, EMBER_NUMBER_OR_PATH, &number) || number < 1)
+            return 0;
+        own[above++] = (uint64_t)number;
+        if (!ember_has_parent(row))
+            break;
+        place = ember_parent(row);
+    }
+    for (i = 0; i < fronts; i++)
+        path[i] = front[i];
+    for (i = 0; i < above; i++)
+        path[fronts + i] = own[above - 1 - i];
+    return fronts + above;
+}
+
+/* ---- Rows made by hand, for ember_write. Whether they make a tree is ember_accepts' to say */
+
+/* Begins an entry: its kind, its parent's place in the table and 1, or 0 for Root; every member absent.
+ * Never leaves a word of the row as it was. */
+static inline void ember_begin(uint64_t *row, uint64_t kind, uint64_t parent_and_1)
+{
+    size_t i;
+    for (i = 0; i < EMBER_ROW_WORDS; i++)
+        row[i] = 0;
+    row[EMBER_ROW_KIND] = kind;
+    row[EMBER_ROW_PARENT] = parent_and_1;
+}
+
+/* Puts a member's type and its two words.
+ * Never writes past the row: a member over 15 is left out. */
+static inline void ember_put(uint64_t *row, size_t member, uint64_t type, uint64_t first, uint64_t second)
+{
+    if (member < 16) {
+        row[EMBER_ROW_CELLS + EMBER_CELL_WORDS * member] = type;
+        row[EMBER_ROW_CELLS + EMBER_CELL_WORDS * member + 1] = first;
+        row[EMBER_ROW_CELLS + EMBER_CELL_WORDS * member + 2] = second;
+    }
+}
+
+/* Puts an integer.
+ * Never asks whether it is in its range. */
+static inline void ember_put_integer(uint64_t *row, size_t member, int64_t value)
+{
+    ember_put(row, member, EMBER_TYPE_INTEGER, (uint64_t)value, 0);
+}
+
+/* Puts a real.
+ * Never rounds it; minus zero and NaN are then not written. */
+static inline void ember_put_real(uint64_t *row, size_t member, double value)
+{
+    uint64_t bits;
+    memcpy(&bits, &value, sizeof bits);
+    ember_put(row, member, EMBER_TYPE_REAL, bits, 0);
+}
+
+/* Puts a boolean.
+ * Never keeps more of it than 1 or 0. */
+static inline void ember_put_boolean(uint64_t *row, size_t member, int value)
+{
+    ember_put(row, member, EMBER_TYPE_BOOLEAN, value != 0, 0);
+}
+
+/* Puts a text (EMBER_TYPE_TEXT), octets (EMBER_TYPE_OCTETS), a path or sources (EMBER_TYPE_RELATIVE_OID) that stand at `start`
+ * in the message that ember_write is given.
+ * Never copies them. */
+static inline void ember_put_bytes(uint64_t *row, size_t member, uint64_t type, size_t start, size_t length)
+{
+    ember_put(row, member, type, start, length);
+}
+
+/* Encodes the numbers of a path or of sources at `*at` of out, and moves *at past them. 1; or 0, with *at as it was, if out
+ * is too short or a number over 2,147,483,647.
+ * Never writes past out. */
+static inline int ember_encode(const uint64_t *numbers, size_t count, uint8_t *out, size_t out_bytes, size_t *at)
+{
+    size_t next = *at, i;
+    for (i = 0; i < count; i++) {
+        int shift = 28;
+        if (numbers[i] > 2147483647u)
+            return 0;
+        while (shift > 0 && numbers[i] >> shift == 0)
+            shift -= 7;
+        for (; shift >= 0; shift -= 7) {
+            if (next >= out_bytes)
+                return 0;
+            out[next++] = (uint8_t)((numbers[i] >> shift & 0x7f) | (shift > 0 ? 0x80 : 0));
+        }
+    }
+    *at = next;
+    return 1;
+}
+
+/* The rows as ember_write, ember_accepts and ember_desk_call take them, which only look at them: ISO C has no such conversion
+ * of its own.
+ * Never copies them. */
+static inline const ember_row *ember_rows(ember_row *table)
+{
+    return (const ember_row *)table;
+}
+
+#ifdef __cplusplus
+}
+#endif
+
+#endif

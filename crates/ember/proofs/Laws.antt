@@ -1,0 +1,404 @@
+-- Laws of the C library, at plain variables.
+use Prim.Native.Nat.{ℕ, zero, suc, _≤_, _<_}
+use mathlib.Core.Path.{_≡_, refl, sym, ap, _∙_}
+use mathlib.Core.Bool.{Bool, true, false}
+use mathlib.Core.List.{List, [], _∷_, _++_}
+use native.Mathlib.Omega.{arith}
+use borrow.Author.Tests.{eq-eqb, ne-eqb, le-leb, lt-leb, eqb-true}
+use lib.Dec.{leb, eqb}
+use lib.ListN.{length, getD, set, take}
+use Rattle.integers.specs.Digits.{pick}
+use Rattle.entries.specs.Entry.{Rows}
+use Rattle.glow.specs.declared.Answer as tree
+use Rattle.glow.specs.declared.Answer.the-variants as trees
+use Rattle.glow.specs.Message.{saidBy}
+use Rattle.framing_c.specs.Calls.{calls}
+use Rattle.routing.specs.declared.Figures.{Figures}
+use Rattle.routing.specs.declared.Limit.{Limit}
+use Rattle.routing.specs.declared.Limit.the-variants.{Absent, Most}
+use Rattle.routing.specs.Figures.{side, both}
+use Rattle.routing.specs.Crosspoints.{Cells, Answer, answer}
+use Rattle.routing.specs.Request.{requested}
+use Rattle.desk_calls.specs.declared.Called as asked
+use Rattle.desk_calls.specs.declared.Called.the-variants.{Setup, Done}
+use Rattle.desk_calls.specs.Calls.{deskLegal, deskOpened, Outcome, called, told as answered}
+use Rattle.turns.specs.declared.After.{After}
+use Rattle.turns.specs.declared.After.the-variants as after
+use Rattle.turns.specs.Rules.{Desk}
+use Rattle.turns.specs.Turns.{none}
+use Rattle.turns.specs.Whole.{deskAt, Left, left, readTo, laterOf, gave}
+use Rattle.framing_writer.specs.Written.{Outcome as Wrote}
+use Rattle.sheet_writer.specs.declared.Answer as written
+use Rattle.sheet_writer.specs.declared.Answer.the-variants as writtens
+use Rattle.sheet_writer.specs.Calls.{writesSheet, told as wroteAs}
+use Rattle.sheet_reader.specs.declared.Sheet.{Sheet}
+use Rattle.sheet_reader.specs.declared.Sheet.the-variants as sheets
+use Rattle.sheet_reader.specs.Calls.{sheetRead, kept, told as readAs}
+use Rattle.ember.specs.declared.after.Six.{Six}
+use Rattle.ember.specs.Words.{wordsOf, givenWord, limitWord, limitAt, figuresAt, isLimit, isFigures}
+use Rattle.ember.specs.Calls.{opens, legals, requests, DeskCall, deskCall, counted, deskCalls, lengthsFit, laterWords, treeWords, deskWords, next}
+use Rattle.ember.specs.Calls.{Turn, turned, turns}
+use Rattle.ember.specs.Calls.{SheetPut, sheetPut, measured, sheetWrites, SheetCall, sheetCall, given, sheetReads, sheetLent, Holds}
+use Rattle.ember.specs.Steps.{wordsIn, Words}
+
+-- ---- figures and words
+
+pub word-past : (ws : List ℕ) (i : ℕ) → length ws ≤ i → 0 ≡ getD ws i 0
+word-past [] i h = refl
+word-past (w ∷ ws) zero h = absurd (omega arith)
+word-past (w ∷ ws) (suc i) h = word-past ws i (omega arith)
+
+limit-back : (l : Limit) → limitAt (givenWord l) (limitWord l) ≡ l
+unfolding limitAt
+limit-back Absent = refl
+limit-back (Most n) = refl
+
+is-limit : (l : Limit) → isLimit (givenWord l) (limitWord l) ≡ true
+unfolding isLimit
+is-limit Absent = refl
+is-limit (Most n) = refl
+
+-- a desk's words are words of figures, and are that desk's
+pub figures-back : (f : Figures) → figuresAt (wordsOf f) ≡ f
+figures-back f = rw (limit-back (f .total), limit-back (f .each))
+
+pub figures-words : (f : Figures) → isFigures (wordsOf f) ≡ true
+unfolding isFigures
+figures-words f = rw (is-limit (f .total), is-limit (f .each)) refl
+
+module _ (given n : ℕ) where
+  pub limit-none : given ≡ 0 → eqb n 0 ≡ isLimit given n
+  unfolding isLimit
+  limit-none h = rw (eq-eqb _ _ h) refl
+
+  pub limit-given : (given ≡ 0 → ⊥) → eqb given 1 ≡ isLimit given n
+  unfolding isLimit
+  limit-given h = rw (ne-eqb _ _ h) refl
+
+  pub limit-absent : given ≡ 0 → Absent ≡ limitAt given n
+  unfolding limitAt
+  limit-absent h = rw (eq-eqb _ _ h) refl
+
+  pub limit-most : (given ≡ 0 → ⊥) → Most n ≡ limitAt given n
+  unfolding limitAt
+  limit-most h = rw (ne-eqb _ _ h) refl
+
+module _ (ws : List ℕ) where
+  pub figures-length : (length ws ≡ 7 → ⊥) → false ≡ isFigures ws
+  unfolding isFigures
+  figures-length h = simp (ne-eqb _ _ h)
+
+  pub figures-second : {b t : Bool} → length ws ≡ 7 → b ≡ isLimit (getD ws 3 0) (getD ws 4 0) → b ≡ true
+      → t ≡ isLimit (getD ws 5 0) (getD ws 6 0) → t ≡ isFigures ws
+  unfolding isFigures
+  figures-second h i y j = rw (eq-eqb _ _ h, sym i ∙ y) j
+
+  pub figures-first : {b : Bool} → length ws ≡ 7 → b ≡ isLimit (getD ws 3 0) (getD ws 4 0) → b ≡ false → false ≡ isFigures ws
+  unfolding isFigures
+  figures-first h i n = rw (eq-eqb _ _ h, sym i ∙ n) refl
+
+-- ---- the desk
+
+module _ (fs path cells : List ℕ) {b : Bool} (i : b ≡ isFigures fs) where
+  pub open-called : {f : Figures} (mode : ℕ) {x : Answer} → b ≡ true → f ≡ figuresAt fs → deskOpened side f path mode cells ≡ x → opens fs path mode cells ≡ x
+  unfolding opens
+  open-called mode y e h = rw (sym i ∙ y, ← e) h
+
+  pub open-setup : (mode : ℕ) → b ≡ false → opens fs path mode cells ≡ answer 1 cells
+  unfolding opens
+  open-setup mode n = rw (sym i ∙ n) refl
+
+  pub legal-yes : {f : Figures} {t : Bool} → b ≡ true → f ≡ figuresAt fs → deskLegal side f path cells ≡ t → t ≡ true → legals fs path cells ≡ 1
+  unfolding legals
+  legal-yes y e h g = rw (sym i ∙ y, ← e, h ∙ g) refl
+
+  pub legal-no : {f : Figures} {t : Bool} → b ≡ true → f ≡ figuresAt fs → deskLegal side f path cells ≡ t → t ≡ false → legals fs path cells ≡ 0
+  unfolding legals
+  legal-no y e h g = rw (sym i ∙ y, ← e, h ∙ g) refl
+
+  pub legal-setup : b ≡ false → legals fs path cells ≡ 0
+  unfolding legals
+  legal-setup n = rw (sym i ∙ n) refl
+
+module _ (fs : List ℕ) (target : ℕ) (sources : List ℕ) (operation : ℕ) (cells : List ℕ) {b : Bool} (i : b ≡ isFigures fs) where
+  pub request-called : {f : Figures} {x : Answer} → b ≡ true → f ≡ figuresAt fs → requested side f target sources operation cells ≡ x
+      → requests fs target sources operation cells ≡ x
+  unfolding requests
+  request-called y e h = rw (sym i ∙ y, ← e) h
+
+  pub request-setup : b ≡ false → requests fs target sources operation cells ≡ answer 1 cells
+  unfolding requests
+  request-setup n = rw (sym i ∙ n) refl
+
+both-no : (b : Bool) → both b false ≡ false
+both-no true = refl
+both-no false = refl
+
+module _ (fs path : List ℕ) (root : ℕ) (rows : Rows) (n : ℕ) (s lent cells words : List ℕ) where
+  pub desk-words : (length words ≡ 1 → ⊥) → deskCalls fs path root rows n s lent cells words ≡ deskCall 1 lent cells words
+  unfolding deskCalls
+  desk-words h = rw (ne-eqb _ _ h, both-no (isFigures fs)) refl
+
+  pub desk-setup : {b : Bool} → b ≡ isFigures fs → b ≡ false → deskCalls fs path root rows n s lent cells words ≡ deskCall 1 lent cells words
+  unfolding deskCalls
+  desk-setup i m = rw (sym i ∙ m) refl
+
+  pub desk-called : {b : Bool} {f : Figures} {o : Outcome} {x : DeskCall} → length words ≡ 1 → b ≡ isFigures fs → b ≡ true → f ≡ figuresAt fs
+      → called side f path root rows n s lent cells ≡ o → counted o words ≡ x → deskCalls fs path root rows n s lent cells words ≡ x
+  unfolding deskCalls
+  desk-called w i y e h g = rw (sym i ∙ y, eq-eqb _ _ w, ← e, h) g
+
+pub set-one : (xs : List ℕ) (a : ℕ) → length xs ≡ 1 → set xs 0 a ≡ a ∷ []
+set-one [] a h = absurd (omega arith)
+set-one (x ∷ []) a h = refl
+set-one (x ∷ y ∷ ys) a h = absurd (omega arith)
+
+-- the count of answers, or 1
+module _ (a : List ℕ) {c : asked.Called} (lent : List ℕ) (cells : Cells) where
+  pub count-setup : c ≡ Setup → counted (answered c lent cells) a ≡ deskCall 1 lent cells a
+  unfolding counted
+  count-setup e = rw e refl
+
+  pub count-done : {n x : ℕ} → length a ≡ 1 → c ≡ Done n → x ≡ n → counted (answered c lent cells) a ≡ deskCall 0 lent cells (set a 0 x)
+  unfolding counted
+  count-done {n} h e p = rw (e, p, set-one a n h) refl
+
+-- ---- what came after
+
+module _ {a : tree.Answer} {r : Six} where
+  pub tree-setup : a ≡ trees.Setup → r ≡ record { tree = 1; place = 0; count = 0; root = 0; desk = 0; answers = 0 } → treeWords (saidBy a) ≡ wordsIn r
+  tree-setup e k = rw (e, k) refl
+
+  module _ {x : ℕ} where
+    pub tree-refused : {number place : ℕ} → a ≡ trees.Refused number place → x ≡ place
+        → r ≡ record { tree = number; place = x; count = 0; root = 0; desk = 0; answers = 0 } → treeWords (saidBy a) ≡ wordsIn r
+    tree-refused e p k = rw (e, k, p) refl
+
+    pub tree-room : {count : ℕ} → a ≡ trees.Room count → x ≡ count
+        → r ≡ record { tree = 38; place = 0; count = x; root = 0; desk = 0; answers = 0 } → treeWords (saidBy a) ≡ wordsIn r
+    tree-room e p k = rw (e, k, p) refl
+
+    pub tree-read : {root count : ℕ} → a ≡ trees.Read root count → x ≡ count
+        → r ≡ record { tree = 0; place = 0; count = x; root = root; desk = 0; answers = 0 } → treeWords (saidBy a) ≡ wordsIn r
+    tree-read e p k = rw (e, k, p) refl
+
+module _ (root count : ℕ) {c : asked.Called} {r : Six} where
+  pub served-setup : c ≡ Setup → r ≡ record { tree = 0; place = 0; count = count; root = root; desk = 1; answers = 0 }
+      → (lent : List ℕ) (cells : Cells) → deskWords root count (answered c lent cells) ≡ wordsIn r
+  served-setup e k lent cells = rw (e, k) refl
+
+  pub served-done : {n x : ℕ} → c ≡ Done n → x ≡ n → r ≡ record { tree = 0; place = 0; count = count; root = root; desk = 0; answers = x }
+      → (lent : List ℕ) (cells : Cells) → deskWords root count (answered c lent cells) ≡ wordsIn r
+  served-done e p k lent cells = rw (e, k, p) refl
+
+module _ {x : After} {r : Six} where
+  pub later-nothing : x ≡ after.Nothing → r ≡ record { tree = 0; place = 0; count = 0; root = 0; desk = 0; answers = 0 } → Words x r
+  later-nothing e k table lent cells = rw (e, k) refl
+
+  pub later-refused : {a : tree.Answer} → x ≡ after.Refused a → treeWords (saidBy a) ≡ wordsIn r → Words x r
+  later-refused e k table lent cells = rw e k
+
+  pub later-served : {root count w : ℕ} {c : asked.Called} → x ≡ after.Served root count c → w ≡ count
+      → ((lent : List ℕ) (cells : Cells) → deskWords root w (answered c lent cells) ≡ wordsIn r) → Words x r
+  later-served e p h table lent cells = rw (e, ← p) (h lent cells)
+
+pub set-nine : (xs : List ℕ) (a b c d e f g h i : ℕ) → length xs ≡ 9
+    → set (set (set (set (set (set (set (set (set xs 0 a) 1 b) 2 c) 3 d) 4 e) 5 f) 6 g) 7 h) 8 i
+    ≡ a ∷ b ∷ c ∷ d ∷ e ∷ f ∷ g ∷ h ∷ i ∷ []
+set-nine (x1 ∷ x2 ∷ x3 ∷ x4 ∷ x5 ∷ x6 ∷ x7 ∷ x8 ∷ x9 ∷ []) a b c d e f g h i k = refl
+set-nine (x1 ∷ x2 ∷ x3 ∷ x4 ∷ x5 ∷ x6 ∷ x7 ∷ x8 ∷ x9 ∷ x10 ∷ xs) a b c d e f g h i k = absurd (omega arith)
+set-nine (x1 ∷ x2 ∷ x3 ∷ x4 ∷ x5 ∷ x6 ∷ x7 ∷ x8 ∷ []) a b c d e f g h i k = absurd (omega arith)
+set-nine (x1 ∷ x2 ∷ x3 ∷ x4 ∷ x5 ∷ x6 ∷ x7 ∷ []) a b c d e f g h i k = absurd (omega arith)
+set-nine (x1 ∷ x2 ∷ x3 ∷ x4 ∷ x5 ∷ x6 ∷ []) a b c d e f g h i k = absurd (omega arith)
+set-nine (x1 ∷ x2 ∷ x3 ∷ x4 ∷ x5 ∷ []) a b c d e f g h i k = absurd (omega arith)
+set-nine (x1 ∷ x2 ∷ x3 ∷ x4 ∷ []) a b c d e f g h i k = absurd (omega arith)
+set-nine (x1 ∷ x2 ∷ x3 ∷ []) a b c d e f g h i k = absurd (omega arith)
+set-nine (x1 ∷ x2 ∷ []) a b c d e f g h i k = absurd (omega arith)
+set-nine (x1 ∷ []) a b c d e f g h i k = absurd (omega arith)
+set-nine [] a b c d e f g h i k = absurd (omega arith)
+
+-- ---- a turn
+
+module _ (rows answers cells path words : ℕ) where
+  pub fit-answer : (words ≡ 9 → ⊥) → false ≡ lengthsFit rows answers cells path words
+  unfolding lengthsFit
+  fit-answer h = simp (ne-eqb _ _ h)
+
+  module _ (w : words ≡ 9) where
+    pub fit-rows : 256 < rows → false ≡ lengthsFit rows answers cells path words
+    unfolding lengthsFit
+    fit-rows h = simp (eq-eqb _ _ w, lt-leb _ _ h)
+
+    module _ (g : rows ≤ 256) where
+      pub fit-answers : answers < rows → false ≡ lengthsFit rows answers cells path words
+      unfolding lengthsFit
+      fit-answers h = simp (eq-eqb _ _ w, le-leb _ _ g, lt-leb _ _ h)
+
+      module _ (k : rows ≤ answers) where
+        pub fit-cells : (cells ≡ 4096 → ⊥) → false ≡ lengthsFit rows answers cells path words
+        unfolding lengthsFit
+        fit-cells h = simp (eq-eqb _ _ w, le-leb _ _ g, le-leb _ _ k, ne-eqb _ _ h)
+
+        module _ (c : cells ≡ 4096) where
+          pub fit-path : path < 1 → false ≡ lengthsFit rows answers cells path words
+          unfolding lengthsFit
+          fit-path h = simp (eq-eqb _ _ w, le-leb _ _ g, le-leb _ _ k, eq-eqb _ _ c, lt-leb _ _ h)
+
+          pub fit-all : 1 ≤ path → leb path 16 ≡ lengthsFit rows answers cells path words
+          unfolding lengthsFit
+          fit-all h = simp (eq-eqb _ _ w, le-leb _ _ g, le-leb _ _ k, eq-eqb _ _ c, le-leb _ _ h)
+
+module _ (number : ℕ) (m : List ℕ) (d : Desk) (table : Rows) (lent : List ℕ) where
+  pub next-nothing : (number ≡ 3 → ⊥) → next number m d table lent ≡ left none table lent (d .crosspoints)
+  unfolding next
+  next-nothing h = rw (ne-eqb _ _ h) refl
+
+  pub next-message : {x : Left} → number ≡ 3 → readTo d m table lent ≡ x → next number m d table lent ≡ x
+  unfolding next
+  next-message h e = rw (eq-eqb _ _ h) e
+
+three-back : (xs : List ℕ) (ys : List ℕ) → length xs ≡ 3 → xs ++ ys ≡ getD xs 0 0 ∷ getD xs 1 0 ∷ getD xs 2 0 ∷ ys
+three-back [] ys h = absurd (omega arith)
+three-back (x ∷ []) ys h = absurd (omega arith)
+three-back (x ∷ y ∷ []) ys h = absurd (omega arith)
+three-back (x ∷ y ∷ z ∷ []) ys h = refl
+three-back (x ∷ y ∷ z ∷ w ∷ ws) ys h = absurd (omega arith)
+
+-- what the code computes: the session's call, and what came after it
+module _ (ws t bytes : List ℕ) (d : Desk) (table : Rows) (lent a : List ℕ) {n : ℕ} {ws′ t′ f′ : List ℕ}
+    (fed : calls ws t bytes (0 ∷ 0 ∷ 0 ∷ []) ≡ record { number = n; session = ws′; store = t′; answer = f′ }) where
+  pub turned-setup : n ≡ 1 → turned ws t bytes d table lent a
+      ≡ record { number = 1; session = ws′; store = t′; table = table; crosspoints = d .crosspoints; answers = lent; answer = a }
+  unfolding turned
+  turned-setup h = rw (fed, h) refl
+
+  pub turned-on : (k : ℕ) (x : After) (table′ : Rows) (lent′ cells′ : List ℕ) {a′ : List ℕ} {six : Six} → (n ≡ 1 → ⊥) → length f′ ≡ 3
+      → take k t′ ≡ take (getD f′ 2 0) t′
+      → next n (take k t′) d table lent ≡ gave x table′ lent′ cells′
+      → Words x six
+      → a′ ≡ getD f′ 0 0 ∷ getD f′ 1 0 ∷ getD f′ 2 0 ∷ wordsIn six
+      → turned ws t bytes d table lent a
+      ≡ record { number = n; session = ws′; store = t′; table = table′; crosspoints = cells′; answers = lent′; answer = a′ }
+  unfolding turned
+  turned-on k x table′ lent′ cells′ {a′} {six} h l i e w q =
+      rw (fed, ne-eqb _ _ h, ← i, e, w table′ lent′ cells′, three-back f′ (wordsIn six) l, q) refl
+
+module _ (ws t bytes : List ℕ) (table : Rows) (fs path cells lent a : List ℕ) {b : Bool} (i : b ≡ isFigures fs) where
+  pub turns-figures : b ≡ false → turns ws t bytes table fs path cells lent a
+      ≡ record { number = 1; session = ws; store = t; table = table; crosspoints = cells; answers = lent; answer = a }
+  unfolding turns
+  turns-figures n = rw (sym i ∙ n) refl
+
+  module _ (y : b ≡ true) {k : Bool} (j : k ≡ lengthsFit (length table) (length lent) (length cells) (length path) (length a)) where
+    pub turns-lengths : k ≡ false → turns ws t bytes table fs path cells lent a
+        ≡ record { number = 1; session = ws; store = t; table = table; crosspoints = cells; answers = lent; answer = a }
+    unfolding turns
+    turns-lengths n = rw (sym i ∙ y, sym j ∙ n) refl
+
+    pub turns-on : {f : Figures} {x : Turn} → k ≡ true → f ≡ figuresAt fs → turned ws t bytes (deskAt f path cells) table lent a ≡ x
+        → turns ws t bytes table fs path cells lent a ≡ x
+    unfolding turns
+    turns-on g e h = rw (sym i ∙ y, sym j ∙ g, ← e) h
+
+never : false ≡ true → ⊥
+never g = let z : _≡_ {A = ℕ} 0 1 = cc in omega arith
+
+-- lengths that fit: the answer has nine words
+pub fit-words : (rows answers cells path words : ℕ) → lengthsFit rows answers cells path words ≡ true → words ≡ 9
+unfolding lengthsFit
+fit-words rows answers cells path words h = by (eqb words 9) refl h
+  where
+    by : (t : Bool) → eqb words 9 ≡ t
+        → both t (both (leb rows 256) (both (leb rows answers) (both (eqb cells 4096) (both (leb 1 path) (leb path 16))))) ≡ true → words ≡ 9
+    by true e g = eqb-true _ _ e
+    by false e g = absurd (never g)
+
+-- ---- route sheets
+
+pub set-seven : (xs : List ℕ) (a b c d e f g : ℕ) → length xs ≡ 7
+    → set (set (set (set (set (set (set xs 0 a) 1 b) 2 c) 3 d) 4 e) 5 f) 6 g ≡ a ∷ b ∷ c ∷ d ∷ e ∷ f ∷ g ∷ []
+set-seven (x1 ∷ x2 ∷ x3 ∷ x4 ∷ x5 ∷ x6 ∷ x7 ∷ []) a b c d e f g k = refl
+set-seven (x1 ∷ x2 ∷ x3 ∷ x4 ∷ x5 ∷ x6 ∷ x7 ∷ x8 ∷ xs) a b c d e f g k = absurd (omega arith)
+set-seven (x1 ∷ x2 ∷ x3 ∷ x4 ∷ x5 ∷ x6 ∷ []) a b c d e f g k = absurd (omega arith)
+set-seven (x1 ∷ x2 ∷ x3 ∷ x4 ∷ x5 ∷ []) a b c d e f g k = absurd (omega arith)
+set-seven (x1 ∷ x2 ∷ x3 ∷ x4 ∷ []) a b c d e f g k = absurd (omega arith)
+set-seven (x1 ∷ x2 ∷ x3 ∷ []) a b c d e f g k = absurd (omega arith)
+set-seven (x1 ∷ x2 ∷ []) a b c d e f g k = absurd (omega arith)
+set-seven (x1 ∷ []) a b c d e f g k = absurd (omega arith)
+set-seven [] a b c d e f g k = absurd (omega arith)
+
+pub put-limits : (ws : List ℕ) (total each : Limit) {a b c d : ℕ} → a ≡ givenWord total → b ≡ limitWord total → c ≡ givenWord each → d ≡ limitWord each
+    → set (set (set (set ws 3 a) 4 b) 5 c) 6 d ≡ set (set (set (set ws 3 (givenWord total)) 4 (limitWord total)) 5 (givenWord each)) 6 (limitWord each)
+put-limits ws total each i j k l = rw (i, j, k, l) refl
+
+pub put-figures : (ws : List ℕ) (f : Figures) {ws′ ws″ : List ℕ} → length ws ≡ 7 → ws′ ≡ set (set (set ws 0 (f .kind)) 1 (f .targets)) 2 (f .sources)
+    → ws″ ≡ set (set (set (set ws′ 3 (givenWord (f .total))) 4 (limitWord (f .total))) 5 (givenWord (f .each))) 6 (limitWord (f .each))
+    → ws″ ≡ wordsOf f
+put-figures ws f h i j = j ∙ rw i (set-seven ws _ _ _ _ _ _ _ h)
+
+module _ (a : List ℕ) {x : written.Answer} (out : List ℕ) where
+  pub wrote-setup : x ≡ writtens.Setup → measured (wroteAs x out) a ≡ sheetPut 1 out a
+  unfolding measured
+  wrote-setup e = rw e refl
+
+  pub wrote-out : length a ≡ 1 → x ≡ writtens.Out → measured (wroteAs x out) a ≡ sheetPut 46 out (set a 0 0)
+  unfolding measured
+  wrote-out h e = rw (e, set-one a 0 h) refl
+
+  pub wrote-done : {n w : ℕ} → length a ≡ 1 → x ≡ writtens.Done n → w ≡ n → measured (wroteAs x out) a ≡ sheetPut 0 out (set a 0 w)
+  unfolding measured
+  wrote-done {n} h e p = rw (e, p, set-one a n h) refl
+
+module _ (fs a : List ℕ) {x : Sheet} (store : List ℕ) (table : Rows) (path : List ℕ) (cells : Cells) where
+  pub read-setup : x ≡ sheets.Setup → given (readAs x store table path cells) fs a ≡ sheetCall 1 fs path cells a
+  unfolding given
+  read-setup e = rw e refl
+
+  pub read-refused : {n : ℕ} → length a ≡ 1 → x ≡ sheets.Refused n → given (readAs x store table path cells) fs a ≡ sheetCall n fs path cells (set a 0 0)
+  unfolding given
+  read-refused h e = rw (e, set-one a 0 h) refl
+
+  pub read-desk : {f : Figures} {n w : ℕ} {fs′ : List ℕ} → length a ≡ 1 → x ≡ sheets.Read f n → fs′ ≡ wordsOf f → w ≡ n
+      → given (readAs x store table path cells) fs a ≡ sheetCall 0 fs′ path cells (set a 0 w)
+  unfolding given
+  read-desk {f} {n} h e i p = rw (e, i, p, set-one a n h) refl
+
+module _ (fs path cells out words : List ℕ) where
+  pub sheet-words : (length words ≡ 1 → ⊥) → sheetWrites fs path cells out words ≡ sheetPut 1 out words
+  unfolding sheetWrites
+  sheet-words h = rw (ne-eqb _ _ h, both-no (isFigures fs)) refl
+
+  pub sheet-figures : {b : Bool} → b ≡ isFigures fs → b ≡ false → sheetWrites fs path cells out words ≡ sheetPut 1 out words
+  unfolding sheetWrites
+  sheet-figures i m = rw (sym i ∙ m) refl
+
+  pub sheet-wrote : {b : Bool} {f : Figures} {o : Wrote} {x : SheetPut} → length words ≡ 1 → b ≡ isFigures fs → b ≡ true → f ≡ figuresAt fs
+      → writesSheet side f path cells out ≡ o → measured o words ≡ x → sheetWrites fs path cells out words ≡ x
+  unfolding sheetWrites
+  sheet-wrote w i y e h g = rw (sym i ∙ y, eq-eqb _ _ w, ← e, h) g
+
+holds-told : (x : Sheet) (store : List ℕ) (table : Rows) (path : List ℕ) (cells : Cells) → Holds (readAs x store table path cells .lent) store table
+holds-told sheets.Setup store table path cells = (refl, refl)
+holds-told (sheets.Refused n) store table path cells = tt
+holds-told (sheets.Read f n) store table path cells = tt
+
+module _ (text store : List ℕ) (table : Rows) (fs path : List ℕ) (cells : Cells) (words : List ℕ) where
+  abbrev Told : ℕ → List ℕ → List ℕ → Cells → List ℕ → List ℕ → Rows → Type 0
+  Told r fs′ path′ cells′ words′ store′ table′ =
+      (sheetReads text store table fs path cells words ≡ sheetCall r fs′ path′ cells′ words′)
+      × Holds (sheetLent text store table fs path cells words) store′ table′
+
+  pub sheet-no-figures : (length fs ≡ 7 → ⊥) → Told 1 fs path cells words store table
+  unfolding sheetReads sheetLent
+  sheet-no-figures h = rw (ne-eqb _ _ h) (refl, (refl, refl))
+
+  pub sheet-no-words : (length words ≡ 1 → ⊥) → Told 1 fs path cells words store table
+  unfolding sheetReads sheetLent
+  sheet-no-words h = rw (ne-eqb _ _ h, both-no (eqb (length fs) 7)) (refl, (refl, refl))
+
+  pub sheet-read : (x : Sheet) (store′ : List ℕ) (table′ : Rows) (path′ : List ℕ) (cells′ : Cells) {r : ℕ} {fs′ words′ : List ℕ} → length fs ≡ 7 → length words ≡ 1
+      → sheetRead side text store table path cells ≡ readAs x store′ table′ path′ cells′
+      → given (readAs x store′ table′ path′ cells′) fs words ≡ sheetCall r fs′ path′ cells′ words′
+      → Told r fs′ path′ cells′ words′ store′ table′
+  unfolding sheetReads sheetLent
+  sheet-read x store′ table′ path′ cells′ h k e g = rw (eq-eqb _ _ h, eq-eqb _ _ k, e) (g, holds-told x store′ table′ path′ cells′)

@@ -1,0 +1,75 @@
+use Rattle.ember.proofs.Laws.{later-nothing, later-refused, later-served}
+use borrow.Author.Needs.{needs}
+use Rattle.ember.proofs.after.later.Statement.{statement}
+use Rattle.ember.proofs.after.later.Tie as tie
+use Rattle.ember.proofs.after.later.Reads as reads
+use Rattle.ember.proofs.after.later.Lts as lts
+use Rattle.ember.proofs.after.make.Reads as make-reads
+use Rattle.ember.proofs.after.refused.Reads as refused-reads
+use Rattle.ember.proofs.after.served.Reads as served-reads
+use Rattle.ember.proofs.after.word.Reads as word-reads
+
+-- src/after.rt:69:27
+enum-told : tie.Need-enum-told
+enum-told c = search needs
+
+-- src/after.rt:69:27
+make-requires : tie.Need-make-requires
+make-requires c κs = search needs
+
+-- src/after.rt:70:26
+enum-known-x : tie.Need-enum-known-x
+enum-known-x c = search needs
+
+-- src/after.rt:70:38
+refused-requires : tie.Need-refused-requires
+refused-requires c κs = search needs
+
+-- src/after.rt:72:13
+enum-known-x-2 : tie.Need-enum-known-x-2
+enum-known-x-2 c = search needs
+
+-- src/after.rt:75:27
+word-requires : tie.Need-word-requires
+word-requires c κs = search needs
+
+-- src/after.rt:75:14
+served-requires : tie.Need-served-requires
+served-requires c κs = search needs
+
+-- src/after.rt:65:1
+returns : tie.Need-returns
+returns c =
+    let the-enum-told = c .before .enum-told in
+    let the-make = c .make in
+    later-nothing (the-enum-told .given .1) (the-make .ensures)
+
+-- src/after.rt:65:1
+returns-2 : tie.Need-returns-2
+returns-2 c =
+    let the-x = c .before .before .x in
+    let the-refused = c .refused in
+    later-refused (the-x .given .1) (the-refused .ensures)
+
+-- src/after.rt:65:1
+returns-3 : tie.Need-returns-3
+returns-3 c =
+    let the-x2 = c .before .before .before .x2 in
+    let the-word = c .before .word in
+    let the-served = c .served in
+    later-served (the-x2 .given .1) (the-word .ensures) (the-served .ensures)
+
+pub later-spec : {M : Type 1} → statement M
+later-spec =
+    tie.close
+    (tie.spec
+    enum-told
+    make-requires
+    enum-known-x
+    refused-requires
+    enum-known-x-2
+    word-requires
+    served-requires
+    returns
+    returns-2
+    returns-3)

@@ -1,0 +1,89 @@
+use Rattle.ember.proofs.Laws.{read-setup, read-refused, read-desk}
+use borrow.Author.Needs.{needs}
+use Rattle.ember.proofs.sheet.read.Statement.{statement}
+use Rattle.ember.proofs.sheet.read.Tie as tie
+use Rattle.ember.proofs.sheet.read.Reads as reads
+use Rattle.ember.proofs.sheet.read.Lts as lts
+use Rattle.ember.proofs.after.word.Reads as word-reads
+use Rattle.ember.proofs.words.put_figures.Reads as put-figures-reads
+
+-- src/sheet.rt:40:25
+enum-told : tie.Need-enum-told
+enum-told c = search needs
+
+-- src/sheet.rt:41:26
+enum-known-x : tie.Need-enum-known-x
+enum-known-x c = search needs
+
+-- src/sheet.rt:42:13
+slice-write-answer : tie.Need-slice-write-answer
+slice-write-answer c = search needs
+
+-- src/sheet.rt:45:32
+enum-known-x-2 : tie.Need-enum-known-x-2
+enum-known-x-2 c = search needs
+
+-- src/sheet.rt:46:13
+put-figures-requires : tie.Need-put-figures-requires
+put-figures-requires c κs = search needs
+
+-- src/sheet.rt:47:25
+word-requires : tie.Need-word-requires
+word-requires c κs = search needs
+
+-- src/sheet.rt:47:13
+slice-write-answer-2 : tie.Need-slice-write-answer-2
+slice-write-answer-2 c = search needs
+
+-- src/sheet.rt:33:1
+returns : tie.Need-returns
+returns c =
+    let the-Start = c .before .before .before .before in
+    let the-enum-told = c .enum-told in
+    λ store table path cells. read-setup (the-Start .args .figures .now) (the-Start .args .answer .now) store table path cells (the-enum-told .given .1)
+
+-- src/sheet.rt:33:1
+same-length : tie.Need-same-length
+same-length c = search needs
+
+-- src/sheet.rt:33:1
+returns-2 : tie.Need-returns-2
+returns-2 c =
+    let the-Start = c .before .before .before .before .before in
+    let the-x = c .before .x in
+    λ store table path cells. read-refused (the-Start .args .figures .now) (the-Start .args .answer .now) store table path cells (the-Start .pre .1) (the-x .given .1)
+
+-- src/sheet.rt:33:1
+same-length-2 : tie.Need-same-length-2
+same-length-2 c = search needs
+
+-- src/sheet.rt:33:1
+same-length-3 : tie.Need-same-length-3
+same-length-3 c = search needs
+
+-- src/sheet.rt:33:1
+returns-3 : tie.Need-returns-3
+returns-3 c =
+    let the-Start = c .before .before .before .before .before .before .before .before .before .before in
+    let the-x2 = c .before .before .before .before .before .before .x2 in
+    let the-put-figures = c .before .before .before .put-figures in
+    let the-word = c .word in
+    λ store table path cells. read-desk (the-Start .args .figures .now) (the-Start .args .answer .now) store table path cells (the-Start .pre .1) (the-x2 .given .1) (the-put-figures .ensures) (the-word .ensures)
+
+pub read-spec : {M : Type 1} → statement M
+read-spec =
+    tie.close
+    (tie.spec
+    enum-told
+    enum-known-x
+    slice-write-answer
+    enum-known-x-2
+    put-figures-requires
+    word-requires
+    slice-write-answer-2
+    returns
+    same-length
+    returns-2
+    same-length-2
+    same-length-3
+    returns-3)

@@ -1,0 +1,20 @@
+use Rattle.ember.proofs.Laws.{limit-absent, limit-most}
+use Rattle.ember.proofs.words.limit_at.Statement.{statement}
+use Rattle.ember.proofs.words.limit_at.Tie as tie
+use Rattle.ember.proofs.words.limit_at.Reads as reads
+use Rattle.ember.proofs.words.limit_at.Lts as lts
+
+-- src/words.rt:21:9
+returns : tie.Need-returns
+returns c =
+    let the-if1 = c .if1 in
+    limit-absent _ _ (the-if1 .taken)
+
+-- src/words.rt:17:1
+returns-2 : tie.Need-returns-2
+returns-2 c =
+    let the-if1 = c .if1 in
+    limit-most _ _ (the-if1 .left)
+
+pub limit-at-spec : {M : Type 1} → statement M
+limit-at-spec = tie.close (tie.spec returns returns-2)

@@ -1,0 +1,189 @@
+-- What the C library answers and leaves, for all lent slices. Session, writer of frames, tree reader and tree writer: as framing_c and glow_c say. Here: the
+-- desk, a whole turn and route sheets.
+use Prim.Native.Nat.{ℕ}
+use mathlib.Core.Bool.{Bool}
+use mathlib.Core.Path.{_≡_}
+use mathlib.Core.List.{List, [], _∷_, _++_}
+use lib.Dec.{leb, eqb}
+use lib.ListN.{length, getD, take}
+use Rattle.integers.specs.Digits.{pick}
+use Rattle.entries.specs.Entry.{Rows}
+use Rattle.glow.specs.Message.{saidBy, Said}
+use Rattle.framing_c.specs.Calls.{Called, calls}
+use Rattle.routing.specs.Figures.{side, both}
+use Rattle.routing.specs.Crosspoints.{Cells, Answer, answer}
+use Rattle.routing.specs.Request.{requested}
+use Rattle.desk_calls.specs.Calls.{deskLegal, deskOpened, Outcome, called}
+use Rattle.turns.specs.Rules.{Desk}
+use Rattle.turns.specs.Turns.{Later, none, read, desk}
+use Rattle.turns.specs.Whole.{deskAt, Left, left, readTo}
+use Rattle.framing_writer.specs.Written.{Outcome as Wrote}
+use Rattle.sheet_writer.specs.Calls.{writesSheet}
+use Rattle.sheet_reader.specs.Calls as sheet
+use Rattle.sheet_reader.specs.Calls.{sheetRead, scratch, kept}
+use Rattle.ember.specs.Words.{wordsOf, figuresAt, isFigures}
+
+-- ---- the desk; words that are no figures are 1, with everything as it was
+
+unfoldable pub opens : List ℕ → List ℕ → ℕ → Cells → Answer
+opens fs path mode cells = pick (isFigures fs) (deskOpened side (figuresAt fs) path mode cells) (answer 1 cells)
+
+-- 1 where the desk is legal, else 0
+unfoldable pub legals : List ℕ → List ℕ → Cells → ℕ
+legals fs path cells = pick (both (isFigures fs) (deskLegal side (figuresAt fs) path cells)) 1 0
+
+unfoldable pub requests : List ℕ → ℕ → List ℕ → ℕ → Cells → Answer
+requests fs target sources operation cells =
+    pick (isFigures fs) (requested side (figuresAt fs) target sources operation cells) (answer 1 cells)
+
+-- The desk's call: a number, the lent answers, the crosspoints, and one word for how many answers there are.
+pub record DeskCall : Type 0 where
+  pub number : ℕ
+  pub answers : List ℕ
+  pub cells : Cells
+  pub answer : List ℕ
+
+abbrev pub deskCall : ℕ → List ℕ → Cells → List ℕ → DeskCall
+deskCall number answers cells words = record { number = number; answers = answers; cells = cells; answer = words }
+
+-- "1 leaves everything as it was"
+unfoldable pub counted : Outcome → List ℕ → DeskCall
+counted o words = deskCall (o .number) (o .answers) (o .cells) (pick (eqb (o .number) 0) (o .count ∷ []) words)
+
+-- an answer of other than one word is 1 too
+unfoldable pub deskCalls : List ℕ → List ℕ → ℕ → Rows → ℕ → List ℕ → List ℕ → Cells → List ℕ → DeskCall
+deskCalls fs path root rows n s lent cells words =
+    pick (both (isFigures fs) (eqb (length words) 1))
+    (counted (called side (figuresAt fs) path root rows n s lent cells) words)
+    (deskCall 1 lent cells words)
+
+-- ---- a whole turn
+
+-- 1 SETUP, first of all: words that are no figures, and lengths: a table over 256 rows, fewer answers than rows, crosspoints that are not 4,096, a path that has
+-- not 1 to 16 numbers, an answer that is not nine words
+unfoldable pub lengthsFit : ℕ → ℕ → ℕ → ℕ → ℕ → Bool
+lengthsFit rows answers cells path words =
+    both (eqb words 9)
+    (both (leb rows 256)
+    (both (leb rows answers)
+    (both (eqb cells 4096)
+    (both (leb 1 path) (leb path 16)))))
+
+-- What came after the session's call, in six words: the tree's number, its place, its count and Root's kind, the desk's number, and its count of answers.
+abbrev pub treeWords : Said → List ℕ
+treeWords e = e .number ∷ e .place ∷ e .count ∷ e .root ∷ 0 ∷ 0 ∷ []
+
+abbrev pub deskWords : ℕ → ℕ → Outcome → List ℕ
+deskWords root count o = 0 ∷ 0 ∷ count ∷ root ∷ o .number ∷ o .count ∷ []
+
+abbrev pub laterWords : Later → List ℕ
+laterWords none = 0 ∷ 0 ∷ 0 ∷ 0 ∷ 0 ∷ 0 ∷ []
+laterWords (read a table) = treeWords (saidBy a)
+laterWords (desk root count table o) = deskWords root count o
+
+-- "Only a finished message goes on to the tree reader": the store's first bytes
+unfoldable pub next : ℕ → List ℕ → Desk → Rows → List ℕ → Left
+next number m d table lent = pick (eqb number 3) (readTo d m table lent) (left none table lent (d .crosspoints))
+
+-- A turn: the number and all that is lent, after it.
+pub record Turn : Type 0 where
+  pub number : ℕ
+  pub session : List ℕ
+  pub store : List ℕ
+  pub table : Rows
+  pub crosspoints : Cells
+  pub answers : List ℕ
+  pub answer : List ℕ
+
+abbrev pub turn : Called → Left → List ℕ → Turn
+turn c x words =
+    record {
+      number = c .number;
+      session = c .session;
+      store = c .store;
+      table = x .table;
+      crosspoints = x .crosspoints;
+      answers = x .lent;
+      answer = words;
+    }
+
+-- what the session's call tells, in three words, and then the six
+abbrev pub told : Called → Left → Turn
+told c x = turn c x (c .answer ++ laterWords (x .later))
+
+-- after the session's call: "1 leaves everything as it was"
+abbrev pub turnAfter : Called → Desk → Rows → List ℕ → List ℕ → Turn
+turnAfter c d table lent a =
+    pick (eqb (c .number) 1) (turn c (left none table lent (d .crosspoints)) a)
+    (told c (next (c .number) (take (getD (c .answer) 2 0) (c .store)) d table lent))
+
+unfoldable pub turned : List ℕ → List ℕ → List ℕ → Desk → Rows → List ℕ → List ℕ → Turn
+turned ws t bytes d table lent a = turnAfter (calls ws t bytes (0 ∷ 0 ∷ 0 ∷ [])) d table lent a
+
+unfoldable pub turns : List ℕ → List ℕ → List ℕ → Rows → List ℕ → List ℕ → Cells → List ℕ → List ℕ → Turn
+turns ws t bytes table fs path cells lent a =
+    pick (both (isFigures fs) (lengthsFit (length table) (length lent) (length cells) (length path) (length a)))
+    (turned ws t bytes (deskAt (figuresAt fs) path cells) table lent a)
+    (record { number = 1; session = ws; store = t; table = table; crosspoints = cells; answers = lent; answer = a })
+
+-- ---- route sheets
+
+-- Writing: a number, the output, and one word for the length.
+pub record SheetPut : Type 0 where
+  pub number : ℕ
+  pub output : List ℕ
+  pub answer : List ℕ
+
+abbrev pub sheetPut : ℕ → List ℕ → List ℕ → SheetPut
+sheetPut number out words = record { number = number; output = out; answer = words }
+
+-- "1 leaves everything as it was"; after 46 the length is 0
+unfoldable pub measured : Wrote → List ℕ → SheetPut
+measured o words = sheetPut (o .number) (o .output) (pick (eqb (o .number) 1) words (o .count ∷ []))
+
+-- words that are no figures are 1, and so is an answer of other than one word
+unfoldable pub sheetWrites : List ℕ → List ℕ → Cells → List ℕ → List ℕ → SheetPut
+sheetWrites fs path cells out words =
+    pick (both (isFigures fs) (eqb (length words) 1)) (measured (writesSheet side (figuresAt fs) path cells out) words) (sheetPut 1 out words)
+
+-- Reading: a number, the figures' words, the path, the crosspoints, and one word for how many numbers the path has.
+pub record SheetCall : Type 0 where
+  pub number : ℕ
+  pub figures : List ℕ
+  pub path : List ℕ
+  pub cells : Cells
+  pub answer : List ℕ
+
+abbrev pub sheetCall : ℕ → List ℕ → List ℕ → Cells → List ℕ → SheetCall
+sheetCall number fs path cells words = record { number = number; figures = fs; path = path; cells = cells; answer = words }
+
+abbrev pub figuresOf : sheet.Given → List ℕ → List ℕ
+figuresOf sheet.none fs = fs
+figuresOf (sheet.desk f n) fs = wordsOf f
+
+abbrev pub lengthOf : sheet.Given → ℕ
+lengthOf sheet.none = 0
+lengthOf (sheet.desk f n) = n
+
+-- after SETUP, which keeps store and table, the answer's word stays too
+abbrev pub answerOf : sheet.Lent → List ℕ → ℕ → List ℕ
+answerOf scratch words n = n ∷ []
+answerOf (kept s t) words n = words
+
+unfoldable pub given : sheet.Outcome → List ℕ → List ℕ → SheetCall
+given o fs words = sheetCall (o .number) (figuresOf (o .given) fs) (o .path) (o .cells) (answerOf (o .lent) words (lengthOf (o .given)))
+
+-- figures that have not seven words are 1, and so is an answer of other than one word
+unfoldable pub sheetReads : List ℕ → List ℕ → Rows → List ℕ → List ℕ → Cells → List ℕ → SheetCall
+sheetReads text store table fs path cells words =
+    pick (both (eqb (length fs) 7) (eqb (length words) 1)) (given (sheetRead side text store table path cells) fs words)
+    (sheetCall 1 fs path cells words)
+
+-- What store and table hold after it: after SETUP as they were, else anything.
+unfoldable pub sheetLent : List ℕ → List ℕ → Rows → List ℕ → List ℕ → Cells → List ℕ → sheet.Lent
+sheetLent text store table fs path cells words =
+    pick (both (eqb (length fs) 7) (eqb (length words) 1)) (sheetRead side text store table path cells .lent) (kept store table)
+
+abbrev pub Holds : sheet.Lent → List ℕ → Rows → Type 0
+Holds scratch store table = Unit {0}
+Holds (kept s t) store table = (s ≡ store) × (t ≡ table)

@@ -1,0 +1,17 @@
+-- For the functions of this crate.
+use Prim.Native.Nat.{ℕ}
+use mathlib.Core.Path.{_≡_}
+use mathlib.Core.List.{List, [], _∷_}
+use Rattle.entries.specs.Entry.{Rows}
+use Rattle.routing.specs.Crosspoints.{Cells}
+use Rattle.turns.specs.declared.After.{After}
+use Rattle.turns.specs.Whole.{laterOf}
+use Rattle.ember.specs.declared.after.Six.{Six}
+use Rattle.ember.specs.Calls.{laterWords}
+
+abbrev pub wordsIn : Six → List ℕ
+wordsIn x = x .tree ∷ x .place ∷ x .count ∷ x .root ∷ x .desk ∷ x .answers ∷ []
+
+-- six words that are those of what came after
+abbrev pub Words : After → Six → Type 0
+Words x r = (table : Rows) (lent : List ℕ) (cells : Cells) → laterWords (laterOf x table lent cells) ≡ wordsIn r

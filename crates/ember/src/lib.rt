@@ -1,0 +1,401 @@
+// The C library: session, writer of frames, tree reader, tree writer, desk, whole turns, route sheets; numbers and lent slices (include/ember.h).
+mod after;
+mod sheet;
+mod words;
+
+use after::Six;
+use desk_calls::Called;
+use routing::Figures;
+use turns::After;
+ghost use mathlib.Core.Path.{_≡_};
+ghost use mathlib.Core.List.{List, [], _∷_};
+ghost use Prim.Native.Nat.{ℕ, _≤_};
+ghost use lib.ListN.{length, take};
+ghost use Rattle.framing_writer.specs.Written.{frame, requestBody, responseBody, into, frameInto, messageInto};
+ghost use Rattle.framing_c.specs.Calls.{starts, calls, puts};
+ghost use Rattle.glow_c.specs.Calls.{call, calls as readCalls, writing, writeCalls, acceptCalls};
+ghost use Rattle.routing.specs.Crosspoints.{Cells, answer as answered};
+ghost use Rattle.desk_calls.specs.Calls.{told};
+ghost use Rattle.turns.specs.Whole.{deskAt, gave};
+ghost use Rattle.ember.specs.Calls.{opens, legals, requests, counted, deskCall, deskCalls, lengthsFit, next, turned, turns};
+ghost use Rattle.ember.specs.Calls.{sheetPut, sheetWrites, sheetCall, sheetReads, sheetLent, Holds};
+ghost use Rattle.ember.specs.Steps.{wordsIn};
+
+// ---- the session and the writer of frames
+
+// A fresh session.
+#[no_mangle]
+pub extern "C" fn ember_start(session: &mut [u64]) -> u64
+    ensures { λ r. ⌜ starts (now (session .entry)) ≡ record { number = r; session = now (session .exit) } ⌝ }
+{
+    framing_c::framing_start(session)
+}
+
+// Offers a chunk.
+#[no_mangle]
+pub extern "C" fn ember_feed(
+    session: &mut [u64],
+    store: &mut [u8],
+    chunk: &[u8],
+    answer: &mut [u64],
+) -> u64
+    ensures { λ r. ⌜ calls (now (session .entry)) (now (store .entry)) (now (chunk .entry)) (now (answer .entry)) ≡ record { number = r; session = now (session .exit); store = now (store .exit); answer = now (answer .exit) } ⌝ }
+{
+    framing_c::framing_feed(session, store, chunk, answer)
+}
+
+// A frame around content without its CRC.
+#[no_mangle]
+pub extern "C" fn ember_write_frame(content: &[u8], out: &mut [u8], count: &mut u64) -> u64
+    ensures { λ r. ⌜ puts (frameInto (now (content .entry)) (now (out .entry))) (now (count .entry)) ≡ record { number = r; output = now (out .exit); count = now (count .exit) } ⌝ }
+{
+    framing_c::framing_write_frame(content, out, count)
+}
+
+// The keep-alive request.
+#[no_mangle]
+pub extern "C" fn ember_write_request(out: &mut [u8], count: &mut u64) -> u64
+    ensures { λ r. ⌜ puts (into (frame requestBody) (now (out .entry))) (now (count .entry)) ≡ record { number = r; output = now (out .exit); count = now (count .exit) } ⌝ }
+{
+    framing_c::framing_write_request(out, count)
+}
+
+// The keep-alive response.
+#[no_mangle]
+pub extern "C" fn ember_write_response(out: &mut [u8], count: &mut u64) -> u64
+    ensures { λ r. ⌜ puts (into (frame responseBody) (now (out .entry))) (now (count .entry)) ≡ record { number = r; output = now (out .exit); count = now (count .exit) } ⌝ }
+{
+    framing_c::framing_write_response(out, count)
+}
+
+// A message as packets.
+#[no_mangle]
+pub extern "C" fn ember_write_message(message: &[u8], out: &mut [u8], count: &mut u64) -> u64
+    ensures { λ r. ⌜ puts (messageInto (now (message .entry)) (now (out .entry))) (now (count .entry)) ≡ record { number = r; output = now (out .exit); count = now (count .exit) } ⌝ }
+{
+    framing_c::framing_write_message(message, out, count)
+}
+
+// ---- the tree
+
+// Reads a message into the table's rows.
+#[no_mangle]
+pub extern "C" fn ember_read(message: &[u8], table: &mut [[u64; 50]], answer: &mut [u64]) -> u64
+    ensures { λ r. ⌜ readCalls (now (message .entry)) (now (table .entry)) (now (answer .entry)) ≡ call r (now (table .exit)) (now (answer .exit)) ⌝ }
+{
+    glow_c::glow_read(message, table, answer)
+}
+
+// Writes the message of the first `count` rows.
+#[no_mangle]
+pub extern "C" fn ember_write(
+    rows: &[[u64; 50]],
+    count: usize,
+    root: u64,
+    message: &[u8],
+    out: &mut [u8],
+    answer: &mut [u64],
+) -> u64
+    ensures { λ r. ⌜ writeCalls (now (rows .entry)) count root (now (message .entry)) (now (out .entry)) (now (answer .entry)) ≡ writing r (now (out .exit)) (now (answer .exit)) ⌝ }
+{
+    glow_c::glow_write(rows, count, root, message, out, answer)
+}
+
+// Whether the first `count` rows make a tree that the reader accepts: 1 or 0.
+#[no_mangle]
+pub extern "C" fn ember_accepts(rows: &[[u64; 50]], count: usize, root: u64, message: &[u8]) -> u64
+    ensures { λ r. ⌜ acceptCalls (now (rows .entry)) count root (now (message .entry)) ≡ r ⌝ }
+{
+    glow_c::glow_accepts(rows, count, root, message)
+}
+
+// ---- the desk
+
+// Opens a desk: 0 and its crosspoints cleared; 45 or 1, and they stay as they were.
+#[no_mangle]
+pub extern "C" fn ember_desk_open(
+    figures: &[u64],
+    mode: u64,
+    path: &[u64],
+    crosspoints: &mut [u8],
+) -> u64
+    ensures { λ r. ⌜ opens (now (figures .entry)) (now (path .entry)) mode (now (crosspoints .entry)) ≡ answered r (now (crosspoints .exit)) ⌝ }
+{
+    if words::is_figures(figures) {
+        return desk_calls::open(words::figures_at(figures), mode, path, crosspoints);
+    }
+    1
+}
+
+// Whether a desk is legal: 1 or 0.
+#[no_mangle]
+pub extern "C" fn ember_desk_is_legal(figures: &[u64], path: &[u64], crosspoints: &[u8]) -> u64
+    ensures { λ r. ⌜ legals (now (figures .entry)) (now (path .entry)) (now (crosspoints .entry)) ≡ r ⌝ }
+{
+    if words::is_figures(figures) {
+        if desk_calls::is_legal(words::figures_at(figures), path, crosspoints) {
+            return 1;
+        }
+        return 0;
+    }
+    0
+}
+
+// One request: 0 and the crosspoints as asked for; 41 to 44 or 1, and they stay as they were.
+#[no_mangle]
+pub extern "C" fn ember_desk_request(
+    figures: &[u64],
+    target: u64,
+    sources: &[u64],
+    operation: u64,
+    crosspoints: &mut [u8],
+) -> u64
+    ensures { λ r. ⌜ requests (now (figures .entry)) target (now (sources .entry)) operation (now (crosspoints .entry)) ≡ answered r (now (crosspoints .exit)) ⌝ }
+{
+    if words::is_figures(figures) {
+        return routing::request(
+            words::figures_at(figures),
+            target,
+            sources,
+            operation,
+            crosspoints,
+        );
+    }
+    1
+}
+
+// What the desk's call answered: 0 and how many answers there are, or 1.
+fn count_answers(called: Called, answer: &mut [u64]) -> u64
+    requires { ⌜ length (now answer) ≡ 1 ⌝ }
+    ensures { λ r. ⌜ ((lent : List ℕ) (cells : Cells) → counted (told called lent cells) (now (answer .entry)) ≡ deskCall r lent cells (now (answer .exit))) ⌝ }
+{
+    match called {
+        Called::Setup => 1,
+        Called::Done(n) => {
+            answer[0] = after::word(n);
+            0
+        }
+    }
+}
+
+// The desk's call on the first `count` rows, with the message beside them.
+#[no_mangle]
+pub extern "C" fn ember_desk_call(
+    figures: &[u64],
+    path: &[u64],
+    rows: &[[u64; 50]],
+    count: usize,
+    root: u64,
+    message: &[u8],
+    crosspoints: &mut [u8],
+    answers: &mut [u64],
+    answer: &mut [u64],
+) -> u64
+    ensures { λ r. ⌜ deskCalls (now (figures .entry)) (now (path .entry)) root (now (rows .entry)) count (now (message .entry)) (now (answers .entry)) (now (crosspoints .entry)) (now (answer .entry))
+        ≡ deskCall r (now (answers .exit)) (now (crosspoints .exit)) (now (answer .exit)) ⌝ }
+{
+    if answer.len() != 1 {
+        return 1;
+    }
+    if words::is_figures(figures) {
+        let called = desk_calls::call(
+            words::figures_at(figures),
+            path,
+            rows,
+            count,
+            root,
+            message,
+            crosspoints,
+            answers,
+        );
+        return count_answers(called, answer);
+    }
+    1
+}
+
+// ---- a whole turn
+
+fn lengths_fit(rows: usize, answers: usize, cells: usize, path: usize, words: usize) -> bool
+    ensures { λ r. ⌜ r ≡ lengthsFit rows answers cells path words ⌝ }
+{
+    if words != 9 {
+        return false;
+    }
+    if 256 < rows {
+        return false;
+    }
+    if answers < rows {
+        return false;
+    }
+    if cells != 4096 {
+        return false;
+    }
+    if path < 1 {
+        return false;
+    }
+    path <= 16
+}
+
+// A message of n bytes is a part of the store.
+fn front(store: &[u8], n: u64) -> usize
+    ensures { λ r. ⌜ take r (now (store .entry)) ≡ take n (now (store .entry)) ⌝ }
+    ensures { λ r. ⌜ r ≤ length (now (store .entry)) ⌝ }
+{
+    let k = n as usize;
+    if k < store.len() {
+        return k;
+    }
+    store.len()
+}
+
+// What comes after the session's call: nothing, unless it gave 3.
+fn follow(
+    number: u64,
+    m: &[u8],
+    table: &mut [[u64; 50]],
+    f: Figures,
+    path: &[u64],
+    crosspoints: &mut [u8],
+    answers: &mut [u64],
+) -> After
+    ensures { λ r. ⌜ next number (now (m .entry)) (deskAt f (now (path .entry)) (now (crosspoints .entry))) (now (table .entry)) (now (answers .entry))
+        ≡ gave r (now (table .exit)) (now (answers .exit)) (now (crosspoints .exit)) ⌝ }
+{
+    if number != 3 {
+        return After::Nothing;
+    }
+    turns::message(m, table, f, path, crosspoints, answers)
+}
+
+fn put_answer(answer: &mut [u64], discarded: u64, consumed: u64, length: u64, x: Six)
+    requires { ⌜ lib.ListN.length (now answer) ≡ 9 ⌝ }
+    ensures { λ _. ⌜ now (answer .exit) ≡ discarded ∷ consumed ∷ length ∷ wordsIn x ⌝ }
+{
+    answer[0] = discarded;
+    answer[1] = consumed;
+    answer[2] = length;
+    answer[3] = x.tree;
+    answer[4] = x.place;
+    answer[5] = x.count;
+    answer[6] = x.root;
+    answer[7] = x.desk;
+    answer[8] = x.answers;
+}
+
+// The session's call, and what comes after it.
+fn go(
+    session: &mut [u64],
+    store: &mut [u8],
+    chunk: &[u8],
+    table: &mut [[u64; 50]],
+    f: Figures,
+    path: &[u64],
+    crosspoints: &mut [u8],
+    answers: &mut [u64],
+    answer: &mut [u64],
+) -> u64
+    requires { ⌜ length (now answer) ≡ 9 ⌝ }
+    ensures { λ r. ⌜ turned (now (session .entry)) (now (store .entry)) (now (chunk .entry)) (deskAt f (now (path .entry)) (now (crosspoints .entry))) (now (table .entry)) (now (answers .entry)) (now (answer .entry))
+        ≡ record { number = r; session = now (session .exit); store = now (store .exit); table = now (table .exit); crosspoints = now (crosspoints .exit); answers = now (answers .exit); answer = now (answer .exit) } ⌝ }
+{
+    let mut fed = [0u64; 3];
+    let number = framing_c::framing_feed(session, store, chunk, &mut fed);
+    if number == 1 {
+        return 1;
+    }
+    let n = front(store, fed[2]);
+    let x = follow(number, &store[..n], table, f, path, crosspoints, answers);
+    let six = after::later(x);
+    put_answer(answer, fed[0], fed[1], fed[2], six);
+    number
+}
+
+// A turn: the session's call on a chunk; if it gives 3, the tree reader's call on that message; if that gives 0, the desk's call on those entries.
+#[no_mangle]
+pub extern "C" fn ember_turn(
+    session: &mut [u64],
+    store: &mut [u8],
+    chunk: &[u8],
+    table: &mut [[u64; 50]],
+    figures: &[u64],
+    path: &[u64],
+    crosspoints: &mut [u8],
+    answers: &mut [u64],
+    answer: &mut [u64],
+) -> u64
+    ensures { λ r. ⌜ turns (now (session .entry)) (now (store .entry)) (now (chunk .entry)) (now (table .entry)) (now (figures .entry)) (now (path .entry)) (now (crosspoints .entry)) (now (answers .entry)) (now (answer .entry))
+        ≡ record { number = r; session = now (session .exit); store = now (store .exit); table = now (table .exit); crosspoints = now (crosspoints .exit); answers = now (answers .exit); answer = now (answer .exit) } ⌝ }
+{
+    if words::is_figures(figures) {
+        if lengths_fit(
+            table.len(),
+            answers.len(),
+            crosspoints.len(),
+            path.len(),
+            answer.len(),
+        ) {
+            return go(
+                session,
+                store,
+                chunk,
+                table,
+                words::figures_at(figures),
+                path,
+                crosspoints,
+                answers,
+                answer,
+            );
+        }
+        return 1;
+    }
+    1
+}
+
+// ---- route sheets
+
+// Writes a desk's sheet: 0, and its length in the answer's one word; 46 or 1, and the output as it was.
+#[no_mangle]
+pub extern "C" fn ember_sheet_write(
+    figures: &[u64],
+    path: &[u64],
+    crosspoints: &[u8],
+    out: &mut [u8],
+    answer: &mut [u64],
+) -> u64
+    ensures { λ r. ⌜ sheetWrites (now (figures .entry)) (now (path .entry)) (now (crosspoints .entry)) (now (out .entry)) (now (answer .entry)) ≡ sheetPut r (now (out .exit)) (now (answer .exit)) ⌝ }
+{
+    if answer.len() != 1 {
+        return 1;
+    }
+    if words::is_figures(figures) {
+        let a = sheet_writer::write(words::figures_at(figures), path, crosspoints, out);
+        return sheet::wrote(a, answer);
+    }
+    1
+}
+
+// Reads a sheet: 0 and a desk, its figures, path and crosspoints, with the path's length in the answer's one word; or the first refusal, and they stay as they were.
+#[no_mangle]
+pub extern "C" fn ember_sheet_read(
+    text: &[u8],
+    store: &mut [u8],
+    table: &mut [[u64; 50]],
+    figures: &mut [u64],
+    path: &mut [u64],
+    crosspoints: &mut [u8],
+    answer: &mut [u64],
+) -> u64
+    ensures { λ r. ⌜ sheetReads (now (text .entry)) (now (store .entry)) (now (table .entry)) (now (figures .entry)) (now (path .entry)) (now (crosspoints .entry)) (now (answer .entry))
+        ≡ sheetCall r (now (figures .exit)) (now (path .exit)) (now (crosspoints .exit)) (now (answer .exit)) ⌝ }
+    ensures { λ _. ⌜ Holds (sheetLent (now (text .entry)) (now (store .entry)) (now (table .entry)) (now (figures .entry)) (now (path .entry)) (now (crosspoints .entry)) (now (answer .entry)))
+        (now (store .exit)) (now (table .exit)) ⌝ }
+{
+    if figures.len() != 7 {
+        return 1;
+    }
+    if answer.len() != 1 {
+        return 1;
+    }
+    let x = sheet_reader::read(text, store, table, path, crosspoints);
+    sheet::read(x, figures, answer)
+}

@@ -1,0 +1,105 @@
+// A desk's figures as seven words, and back.
+use routing::Figures;
+use routing::Limit;
+ghost use mathlib.Core.Path.{_≡_};
+ghost use lib.ListN.{length, getD, set};
+ghost use Rattle.ember.specs.Words.{givenWord, limitWord, wordsOf, limitAt, figuresAt, isLimit, isFigures};
+
+fn word_at(words: &[u64], i: usize) -> u64
+    ensures { λ r. ⌜ r ≡ getD (now (words .entry)) i 0 ⌝ }
+{
+    if i < words.len() {
+        return words[i];
+    }
+    0
+}
+
+fn limit_at(given: u64, n: u64) -> Limit
+    ensures { λ r. ⌜ r ≡ limitAt given n ⌝ }
+{
+    if given == 0 {
+        return Limit::Absent;
+    }
+    Limit::Most(n)
+}
+
+fn is_limit(given: u64, n: u64) -> bool
+    ensures { λ r. ⌜ r ≡ isLimit given n ⌝ }
+{
+    if given == 0 {
+        return n == 0;
+    }
+    given == 1
+}
+
+// Whether the words are a desk's figures.
+pub(crate) fn is_figures(words: &[u64]) -> bool
+    ensures { λ r. ⌜ r ≡ isFigures (now (words .entry)) ⌝ }
+{
+    if words.len() != 7 {
+        return false;
+    }
+    if is_limit(words[3], words[4]) {
+        return is_limit(words[5], words[6]);
+    }
+    false
+}
+
+pub(crate) fn figures_at(words: &[u64]) -> Figures
+    ensures { λ r. ⌜ r ≡ figuresAt (now (words .entry)) ⌝ }
+{
+    Figures {
+        kind: word_at(words, 0),
+        targets: word_at(words, 1),
+        sources: word_at(words, 2),
+        total: limit_at(word_at(words, 3), word_at(words, 4)),
+        each: limit_at(word_at(words, 5), word_at(words, 6)),
+    }
+}
+
+fn given_word(l: Limit) -> u64
+    ensures { λ r. ⌜ r ≡ givenWord l ⌝ }
+{
+    match l {
+        Limit::Absent => 0,
+        Limit::Most(_) => 1,
+    }
+}
+
+fn limit_word(l: Limit) -> u64
+    ensures { λ r. ⌜ r ≡ limitWord l ⌝ }
+{
+    match l {
+        Limit::Absent => 0,
+        Limit::Most(n) => n,
+    }
+}
+
+fn put_words(words: &mut [u64], kind: u64, targets: u64, sources: u64)
+    requires { ⌜ length (now words) ≡ 7 ⌝ }
+    ensures { λ _. ⌜ now (words .exit) ≡ set (set (set (now (words .entry)) 0 kind) 1 targets) 2 sources ⌝ }
+{
+    words[0] = kind;
+    words[1] = targets;
+    words[2] = sources;
+}
+
+fn put_limits(words: &mut [u64], total: Limit, each: Limit)
+    requires { ⌜ length (now words) ≡ 7 ⌝ }
+    ensures { λ _. ⌜ now (words .exit) ≡ set (set (set (set (now (words .entry)) 3 (givenWord total)) 4 (limitWord total)) 5 (givenWord each)) 6 (limitWord each) ⌝ }
+{
+    words[3] = given_word(total);
+    words[4] = limit_word(total);
+    words[5] = given_word(each);
+    words[6] = limit_word(each);
+}
+
+pub(crate) fn put_figures(words: &mut [u64], f: Figures)
+    requires { ⌜ length (now words) ≡ 7 ⌝ }
+    ensures { λ _. ⌜ now (words .exit) ≡ wordsOf f ⌝ }
+{
+    put_words(words, f.kind, f.targets, f.sources);
+    let total = f.total;
+    let each = f.each;
+    put_limits(words, total, each);
+}

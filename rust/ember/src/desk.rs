@@ -1,0 +1,340 @@
+//! The desk, and whole turns.
+
+use crate::frames::event;
+use crate::{ffi, number, Event, Read, Root, Row, Session, PATH_MAX, ROWS_MAX, SIDE_MAX, STORE_BYTES};
+
+/// The type of a matrix.
+#[derive(Clone, Copy, PartialEq, Eq, Debug)]
+#[repr(u64)]
+pub enum Type {
+    /// A target has one source at most.
+    OneToN = 0,
+    /// .. and a source one target.
+    OneToOne = 1,
+    /// Any number, within the limits.
+    NToN = 2,
+}
+
+/// What a desk is opened from.
+#[derive(Clone, Copy, PartialEq, Eq, Debug)]
+pub struct Figures {
+    /// The type.
+    pub kind: Type,
+    /// 1 to 64.
+    pub targets: u64,
+    /// 1 to 64.
+    pub sources: u64,
+    /// The most connections, where given.
+    pub total: Option<u64>,
+    /// The most sources of a target, where given.
+    pub each: Option<u64>,
+}
+
+impl Figures {
+    fn words(&self) -> [u64; 7] {
+        let (total, each) = (self.total.map_or([0, 0], |n| [1, n]), self.each.map_or([0, 0], |n| [1, n]));
+        [self.kind as u64, self.targets, self.sources, total[0], total[1], each[0], each[1]]
+    }
+}
+
+/// What a request does with its list of sources.
+#[derive(Clone, Copy, PartialEq, Eq, Debug)]
+#[repr(u64)]
+pub enum Operation {
+    /// The target's sources become the list.
+    Absolute = 0,
+    /// .. are joined by it.
+    Connect = 1,
+    /// .. lose it.
+    Disconnect = 2,
+}
+
+/// A desk: figures, path and crosspoints. It is legal from its opening on, whatever is asked of it.
+#[derive(Clone, PartialEq, Eq, Debug)]
+pub struct Desk {
+    figures: Figures,
+    path: [u64; PATH_MAX],
+    numbers: usize,
+    crosspoints: [u8; SIDE_MAX * SIDE_MAX],
+}
+
+impl Desk {
+    /// Opens a desk with no connections; 45 if figures or path are out of their ranges.
+    pub fn open(figures: Figures, path: &[u64]) -> Result<Desk, u64> {
+        let mut desk = Desk { figures, path: [0; PATH_MAX], numbers: path.len(), crosspoints: [0; SIDE_MAX * SIDE_MAX] };
+        desk.path.get_mut(..path.len()).ok_or(number::DESK)?.copy_from_slice(path);
+        let words = figures.words();
+        // SAFETY: each pointer and its count name a slice that is borrowed here, the crosspoints mutably.
+        let number = unsafe {
+            ffi::ember_desk_open(
+                words.as_ptr(),
+                words.len(),
+                0,
+                path.as_ptr(),
+                path.len(),
+                desk.crosspoints.as_mut_ptr(),
+                desk.crosspoints.len(),
+            )
+        };
+        if number == number::DONE {
+            Ok(desk)
+        } else {
+            Err(number)
+        }
+    }
+
+    /// The figures it was opened from.
+    pub fn figures(&self) -> &Figures {
+        &self.figures
+    }
+
+    /// The path of its matrix.
+    pub fn path(&self) -> &[u64] {
+        &self.path[..self.numbers]
+    }
+
+    /// Whether a source is connected to a target.
+    pub fn is_connected(&self, target: usize, source: usize) -> bool {
+        target < SIDE_MAX && source < SIDE_MAX && self.crosspoints[target * SIDE_MAX + source] == 1
+    }
+
+    /// The sources of a target, ascending.
+    pub fn sources(&self, target: usize) -> impl Iterator<Item = u64> + '_ {
+        (0..SIDE_MAX).filter(move |&source| self.is_connected(target, source)).map(|source| source as u64)
+    }
+
+    /// Whether it is legal, as the library judges it.
+    pub fn is_legal(&self) -> bool {
+        let words = self.figures.words();
+        // SAFETY: each pointer and its count name a slice that is borrowed here.
+        let number = unsafe {
+            ffi::ember_desk_is_legal(
+                words.as_ptr(),
+                words.len(),
+                self.path.as_ptr(),
+                self.numbers,
+                self.crosspoints.as_ptr(),
+                self.crosspoints.len(),
+            )
+        };
+        number == 1
+    }
+
+    /// Asks for one target: 41 to 44 leave everything as it was.
+    pub fn request(&mut self, target: u64, sources: &[u64], operation: Operation) -> Result<(), u64> {
+        let words = self.figures.words();
+        // SAFETY: each pointer and its count name a slice that is borrowed here, the crosspoints mutably.
+        let number = unsafe {
+            ffi::ember_desk_request(
+                words.as_ptr(),
+                words.len(),
+                target,
+                sources.as_ptr(),
+                sources.len(),
+                operation as u64,
+                self.crosspoints.as_mut_ptr(),
+                self.crosspoints.len(),
+            )
+        };
+        if number == number::DONE {
+            Ok(())
+        } else {
+            Err(number)
+        }
+    }
+
+    /// Serves the connections among rows, in order: how many answers there are, 0 or 40 to 44 each. 1, and everything as it was, if the rows make no
+    /// tree that the reader accepts or `answers` is shorter than `rows`.
+    pub fn call(&mut self, rows: &[Row], root: Root, message: &[u8], answers: &mut [u64]) -> Result<usize, u64> {
+        let words = self.figures.words();
+        let mut answer = [0; 1];
+        // SAFETY: each pointer and its count name a slice that is borrowed here, those written to mutably.
+        let number = unsafe {
+            ffi::ember_desk_call(
+                words.as_ptr(),
+                words.len(),
+                self.path.as_ptr(),
+                self.numbers,
+                rows.as_ptr(),
+                rows.len(),
+                rows.len(),
+                root.word(),
+                message.as_ptr(),
+                message.len(),
+                self.crosspoints.as_mut_ptr(),
+                self.crosspoints.len(),
+                answers.as_mut_ptr(),
+                answers.len(),
+                answer.as_mut_ptr(),
+                answer.len(),
+            )
+        };
+        if number == number::DONE {
+            Ok(answer[0] as usize)
+        } else {
+            Err(number)
+        }
+    }
+}
+
+/// What reading a route sheet needs beside it, some 120 KB; put it into a `Box` where the stack is small.
+pub struct Scratch {
+    store: [u8; STORE_BYTES],
+    table: [Row; ROWS_MAX],
+}
+
+impl Default for Scratch {
+    fn default() -> Scratch {
+        Scratch { store: [0; STORE_BYTES], table: [Row::default(); ROWS_MAX] }
+    }
+}
+
+/// Route sheets.
+impl Desk {
+    /// Writes the desk's sheet: how many bytes it has, at most [`crate::SHEET_MAX`]; 46 and the output as it was if it has no room.
+    /// Never writes a part of a sheet.
+    pub fn write_sheet(&self, out: &mut [u8]) -> Result<usize, u64> {
+        let words = self.figures.words();
+        let mut answer = [0; 1];
+        // SAFETY: each pointer and its count name a slice that is borrowed here, those written to mutably.
+        let number = unsafe {
+            ffi::ember_sheet_write(
+                words.as_ptr(),
+                words.len(),
+                self.path.as_ptr(),
+                self.numbers,
+                self.crosspoints.as_ptr(),
+                self.crosspoints.len(),
+                out.as_mut_ptr(),
+                out.len(),
+                answer.as_mut_ptr(),
+                answer.len(),
+            )
+        };
+        if number == number::DONE {
+            Ok(answer[0] as usize)
+        } else {
+            Err(number)
+        }
+    }
+
+    /// Reads a sheet: its desk, or the number of the first refusal.
+    /// Never gives a desk that is not legal.
+    pub fn read_sheet(text: &[u8], scratch: &mut Scratch) -> Result<Desk, u64> {
+        let mut words = [0; 7];
+        let mut path = [0; PATH_MAX];
+        let mut crosspoints = [0; SIDE_MAX * SIDE_MAX];
+        let mut answer = [0; 1];
+        // SAFETY: each pointer and its count name a slice that is borrowed here, those written to mutably.
+        let number = unsafe {
+            ffi::ember_sheet_read(
+                text.as_ptr(),
+                text.len(),
+                scratch.store.as_mut_ptr(),
+                scratch.store.len(),
+                scratch.table.as_mut_ptr(),
+                scratch.table.len(),
+                words.as_mut_ptr(),
+                words.len(),
+                path.as_mut_ptr(),
+                path.len(),
+                crosspoints.as_mut_ptr(),
+                crosspoints.len(),
+                answer.as_mut_ptr(),
+                answer.len(),
+            )
+        };
+        let kind = match words[0] {
+            0 => Type::OneToN,
+            1 => Type::OneToOne,
+            _ => Type::NToN,
+        };
+        let given = |flag: u64, value: u64| (flag == 1).then_some(value);
+        let figures =
+            Figures { kind, targets: words[1], sources: words[2], total: given(words[3], words[4]), each: given(words[5], words[6]) };
+        if number == number::DONE {
+            Ok(Desk { figures, path, numbers: answer[0] as usize, crosspoints })
+        } else {
+            Err(number)
+        }
+    }
+}
+
+/// A stream and a desk behind it: N is the most entries of a message, at most 256. Some 430 bytes an entry and 22 KB; put it into a `Box` where the stack is small.
+pub struct Line<const N: usize> {
+    session: Session,
+    desk: Desk,
+    table: [Row; N],
+    answers: [u64; N],
+}
+
+/// What a turn told.
+#[derive(Clone, Copy, PartialEq, Debug)]
+pub struct Turn<'a> {
+    /// The event, if one came.
+    pub event: Event<'a>,
+    /// How many bytes of the chunk were consumed.
+    pub consumed: usize,
+    /// Whether an unfinished message was thrown away.
+    pub discarded: bool,
+    /// After a message what the tree reader answered.
+    pub tree: Option<Read>,
+    /// The message's entries, if it was read.
+    pub rows: &'a [Row],
+    /// The desk's answer to each of its connections, in order: 0 or 40 to 44.
+    pub answers: &'a [u64],
+}
+
+impl<const N: usize> Line<N> {
+    /// A fresh stream before a desk.
+    pub fn new(desk: Desk) -> Line<N> {
+        const { assert!(N <= ROWS_MAX) };
+        Line { session: Session::new(), desk, table: [Row::default(); N], answers: [0; N] }
+    }
+
+    /// The desk as it is now.
+    pub fn desk(&self) -> &Desk {
+        &self.desk
+    }
+
+    /// Takes a turn: the session's call on a chunk; after a message, the tree reader's call on it; after its 0, the desk's call on the entries. Offer
+    /// the rest of the chunk again.
+    /// Never changes the desk at any event but a message that is read.
+    pub fn turn(&mut self, chunk: &[u8]) -> Turn<'_> {
+        let words = self.desk.figures.words();
+        let mut told = [0; 9];
+        // SAFETY: each pointer and its count name a slice that is borrowed here, those written to mutably.
+        let number = unsafe {
+            ffi::ember_turn(
+                self.session.words.as_mut_ptr(),
+                self.session.words.len(),
+                self.session.store.as_mut_ptr(),
+                self.session.store.len(),
+                chunk.as_ptr(),
+                chunk.len(),
+                self.table.as_mut_ptr(),
+                N,
+                words.as_ptr(),
+                words.len(),
+                self.desk.path.as_ptr(),
+                self.desk.numbers,
+                self.desk.crosspoints.as_mut_ptr(),
+                self.desk.crosspoints.len(),
+                self.answers.as_mut_ptr(),
+                N,
+                told.as_mut_ptr(),
+                told.len(),
+            )
+        };
+        let tree = (number == number::MESSAGE).then(|| Read::of(told[3], told[4], told[5], told[6]));
+        let count = if let Some(Read::Entries { count, .. }) = tree { count } else { 0 };
+        Turn {
+            event: event(number, &self.session.store, told[2] as usize),
+            consumed: told[1] as usize,
+            discarded: told[0] != 0,
+            tree,
+            rows: self.table.get(..count).unwrap_or(&[]),
+            answers: self.answers.get(..told[8] as usize).unwrap_or(&[]),
+        }
+    }
+}
