@@ -1,6 +1,4 @@
-//! The proved turn, through a C interface over numbers and lent slices. Compiled only where build.rs finds a library with
-//! `ember_turn`. Until there is one, this is what the benchmark asks of it; if it comes with another signature, `ember_turn` and
-//! `turn` below are all that changes.
+//! The proved turn, through the C library (crates/ember/include/ember.h). Compiled only where build.rs finds it.
 use super::{Figures, Host, Turn, CELLS, SIDE};
 use crate::glow::{Row, ENTRIES};
 use crate::STORE;
@@ -8,9 +6,9 @@ use crate::STORE;
 extern "C" {
     /// One turn. Lent: the session's four words (as `framing_feed` has them), the store, the chunk, the table, the desk (seven
     /// words: type, targets, sources, whether there is a total limit and which, whether there is one per target and which), its
-    /// path's numbers, its 4,096 cells, a word for each answer of the desk's call, and five words that say what the calls
-    /// answered. Returned is the session's number; the five words are: whether a message was thrown away, the bytes consumed,
-    /// the tree reader's number (0 if it was not called), the desk call's number, and the count of its answers.
+    /// path's numbers, its 4,096 cells, a word for each answer of the desk's call, and nine words that say what the calls
+    /// answered. Returned is the session's number; of the nine words the benchmark uses the second, the bytes consumed, the fourth,
+    /// the tree reader's number (0 if it was not called), the eighth, the desk call's number, and the ninth, the count of its answers.
     fn ember_turn(
         session: *mut u64,
         session_words: usize,
@@ -64,7 +62,7 @@ impl Proved {
 impl Host for Proved {
     /// The library reads and writes only within the slices, whatever they hold and however long they are.
     fn turn(&mut self, chunk: &[u8]) -> Turn {
-        let mut said = [0; 5];
+        let mut said = [0; 9];
         let event = unsafe {
             ember_turn(
                 self.session.as_mut_ptr(),
@@ -87,7 +85,7 @@ impl Host for Proved {
                 said.len(),
             )
         };
-        let [_, consumed, tree, desk, answers] = said;
+        let [_, consumed, _, tree, _, _, _, desk, answers] = said;
         assert!(event != 1 && desk == 0);
         let tree = (event == 3).then_some(tree);
         let answers = (tree == Some(0)).then_some(answers as usize);
