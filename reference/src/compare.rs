@@ -2,7 +2,7 @@
 
 use crate::desk_text::{Program, Said};
 use crate::gen::{self, case_seed};
-use crate::{lines, listing, programs, tree_text};
+use crate::{lines, listing, programs, tree_text, watch};
 use std::collections::BTreeMap;
 use std::io::{Read, Write};
 use std::path::{Path, PathBuf};
@@ -11,7 +11,7 @@ use std::sync::mpsc;
 use std::time::{Duration, Instant};
 
 const USAGE: &str = "usage: reference compare ROOT NAME... [--seed S] [--count N] [--seconds T] [--program PATH] [--write]
-NAME is frames, octets, packets, tree, listing, desk or sheet; the program is ROOT/target/bin/NAME unless --program names it
+NAME is frames, octets, packets, tree, listing, desk, sheet or watch; the program is ROOT/target/bin/NAME unless --program names it
 --write: the program tree is also asked to write
 ";
 
@@ -146,6 +146,12 @@ fn case(name: &str, seed: u64, left: u64, writes: bool) -> Option<Case> {
             case.again = format!("reference generate sheet {seed}");
             case
         }
+        "watch" => {
+            let size = 1 + (seed % 80) as usize;
+            let (input, kinds) = gen::watch::input(seed, size);
+            let expected = watch::watch(&input);
+            with(input, expected, gen::watch::KINDS.into_iter().zip(kinds).collect(), 1, size)
+        }
         _ => return None,
     })
 }
@@ -218,6 +224,7 @@ fn answer_kind(name: &str, line: &str) -> String {
         ("tree", [_, _, kind, ..]) => format!("an entry, {kind}"),
         (_, ["bad", "line"]) => "bad line".to_string(),
         (_, ["end", ..]) => "end".to_string(),
+        ("watch", [word]) => word.to_string(),
         ("frames", [_, number, ..]) => format!("event {number:0>2}"),
         ("listing", [_, number]) => format!("event {number:0>2}"),
         ("listing", [_, number, tree]) => format!("event {number:0>2} tree {tree}"),

@@ -6,6 +6,7 @@ pub mod octets;
 pub mod packets;
 pub mod rows;
 pub mod tree;
+pub mod watch;
 
 /// splitmix64.
 #[derive(Clone)]

@@ -18,3 +18,4 @@ pub mod tree;
 pub mod tree_text;
 pub mod tree_writer;
 pub mod values;
+pub mod watch;

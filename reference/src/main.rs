@@ -3,14 +3,14 @@
 #[cfg(glow_rows)]
 mod library;
 
-use reference::{compare, compare_rows, desk_text, gen, listing, programs, store, tree_text};
+use reference::{compare, compare_rows, desk_text, gen, listing, programs, store, tree_text, watch};
 use std::io::{Read, Write};
 use std::process::exit;
 
 const USAGE: &str = "usage:
-  reference frames|octets|packets|listing|tree|rewrite|desk|sheet < input
+  reference frames|octets|packets|listing|tree|rewrite|desk|sheet|watch < input
   reference tree --write < input
-  reference generate frames|octets|packets|tree|listing|messages|rows|desk SEED COUNT
+  reference generate frames|octets|packets|tree|listing|messages|rows|desk|watch SEED COUNT
   reference generate tree SEED COUNT --write
   reference generate sheet SEED
   reference store [--check] [--write] [ROOT]
@@ -31,6 +31,7 @@ fn main() {
         ["rewrite"] => print(programs::trees(&input()).as_bytes()),
         ["desk"] => print(desk_text::desks(&input()).as_bytes()),
         ["sheet"] => print(programs::sheets(&input()).as_bytes()),
+        ["watch"] => print(watch::watch(&input()).as_bytes()),
         ["generate", "tree", seed, count, "--write"] => {
             let number = |word: &str| word.parse().unwrap_or_else(|_| usage());
             print(&gen::tree::requests::input(number(seed), number(count) as usize, true).0)
@@ -48,6 +49,7 @@ fn main() {
                 "messages" => print(&gen::tree::messages(seed, count)),
                 "rows" => print(gen::rows::text(seed, count).as_bytes()),
                 "desk" => print(&gen::desk::scripts::input(seed, count).text),
+                "watch" => print(&gen::watch::input(seed, count).0),
                 _ => usage(),
             }
         }

@@ -1,6 +1,6 @@
 //! The stored inputs and expected outputs of the programs and of the C examples.
 
-use crate::{desk_text, gateway, gen, listing, programs, router, tree_text};
+use crate::{desk_text, gateway, gen, listing, programs, router, tree_text, watch};
 use std::path::{Path, PathBuf};
 
 /// Every stored file, from the repository's root, with what it must hold.
@@ -17,6 +17,7 @@ fn files(writes: bool) -> Vec<(&'static str, Vec<u8>)> {
     let stored_listing = gen::tree::stored_listing();
     let desk = gen::desk::scripts::stored();
     let sheet = gen::desk::sheets::stored();
+    let showings = gen::watch::stored();
     vec![
         ("crates/frames/stdout", programs::frames(&frames).into_bytes()),
         ("crates/frames/stdin", frames),
@@ -41,6 +42,8 @@ fn files(writes: bool) -> Vec<(&'static str, Vec<u8>)> {
         ("crates/desk/stdin", desk),
         ("crates/sheet/stdout", programs::sheets(&sheet).into_bytes()),
         ("crates/sheet/stdin", sheet),
+        ("crates/watch/stdout", watch::watch(&showings).into_bytes()),
+        ("crates/watch/stdin", showings),
     ]
 }
 

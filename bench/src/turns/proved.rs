@@ -1,5 +1,4 @@
-//! The proved turn, through the C library (crates/ember/include/ember.h). Compiled only where build.rs finds a library with
-//! `ember_turn`.
+//! The proved turn, through the C library (crates/ember/include/ember.h). Compiled only where build.rs finds it.
 use super::{Figures, Host, Turn, CELLS, SIDE};
 use crate::glow::{Row, ENTRIES};
 use crate::STORE;
@@ -8,9 +7,8 @@ extern "C" {
     /// One turn. Lent: the session's four words (as `framing_feed` has them), the store, the chunk, the table, the desk (seven
     /// words: type, targets, sources, whether there is a total limit and which, whether there is one per target and which), its
     /// path's numbers, its 4,096 cells, a word for each answer of the desk's call, and nine words that say what the calls
-    /// answered. Returned is the session's number; the nine words are: whether a message was thrown away, the bytes consumed, the
-    /// message's length, the tree reader's number (0 if it was not called), its place, its count and Root's kind, the desk
-    /// call's number, and the count of its answers.
+    /// answered. Returned is the session's number; of the nine words the benchmark uses the second, the bytes consumed, the fourth,
+    /// the tree reader's number (0 if it was not called), the eighth, the desk call's number, and the ninth, the count of its answers.
     fn ember_turn(
         session: *mut u64,
         session_words: usize,

@@ -1,0 +1,5 @@
+pub mod Laws
+pub mod Ticks
+pub mod Bounds
+pub mod Promise
+pub mod Claims

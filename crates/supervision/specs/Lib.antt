@@ -1,0 +1,5 @@
+pub mod Rules
+pub mod Supervisor
+pub mod Events
+pub mod Promise
+pub mod Vectors
