@@ -236,12 +236,16 @@ fn lengths_fit(rows: usize, answers: usize, cells: usize, path: usize, words: us
     path <= 16
 }
 
-// The message's end in the store.
+// A message of n bytes is a part of the store.
 fn front(store: &[u8], n: u64) -> usize
     ensures { λ r. ⌜ take r (now (store .entry)) ≡ take n (now (store .entry)) ⌝ }
     ensures { λ r. ⌜ r ≤ length (now (store .entry)) ⌝ }
 {
-    turns::front(store, n as usize)
+    let k = n as usize;
+    if k < store.len() {
+        return k;
+    }
+    store.len()
 }
 
 // What comes after the session's call: nothing, unless it gave 3.
