@@ -1,0 +1,36 @@
+-- The words of the claim for `ember_turn` (proofs/Claim.antt): a list of its calls, and that what they answered tells what turns told.
+use Prim.Native.Nat.{ℕ}
+use mathlib.Core.Bool.{cond}
+use mathlib.Core.List.{List, [], _∷_, _++_}
+use mathlib.Core.Path.{_≡_}
+use lib.ListN.{length, getD, drop}
+use Rattle.framing.specs.Rules.{Said}
+use Rattle.framing.specs.Session.{saidBy}
+use Rattle.entries.specs.Entry.{Rows}
+use Rattle.routing.specs.Crosspoints.{Cells}
+use Rattle.turns.specs.declared.After.{After}
+use Rattle.turns.specs.Turns as claim
+use Rattle.turns.specs.Whole.{laterOf}
+use Rattle.ember.specs.Calls.{laterWords, Turn, turns}
+
+-- A list of calls on one desk, none of them answered with 1: each takes the session's words, the store and the crosspoints that the call before it left, and is
+-- offered bytes from the first not yet consumed. The table's content, the answers lent and the answer's words may be any at each.
+pub data Rounds (rows : ℕ) (fs path : List ℕ) : List ℕ → List ℕ → Cells → List ℕ → List Turn → List ℕ → List ℕ → Cells → List ℕ → Type 0 where
+  none : {ws t : List ℕ} {cells : Cells} {rest : List ℕ} → Rounds rows fs path ws t cells rest [] ws t cells rest
+  round : {ws ws″ t t″ : List ℕ} {cells cells″ : Cells} {rest″ : List ℕ} {xs : List Turn} (c later : List ℕ) (table : Rows) (lent a : List ℕ) (x : Turn)
+      → turns ws t c table fs path cells lent a ≡ x → (x .number ≡ 1 → ⊥) → length table ≡ rows
+      → Rounds rows fs path (x .session) (x .store) (x .crosspoints) (drop (getD (x .answer) 1 0) (c ++ later)) xs ws″ t″ cells″ rest″
+      → Rounds rows fs path ws t cells (c ++ later) (x ∷ xs) ws″ t″ cells″ rest″
+
+-- What a call answered and left is what a turn told: the event's number, the store, what came after with the table, the answers and the crosspoints, and the nine
+-- words.
+pub record Tells (x : Turn) (y : claim.Turn) : Type 0 where
+  pub store-is : x .store ≡ y .store
+  pub number-is : x .number ≡ saidBy (y .fed .event) (y .store) .number
+  pub later-is : (z : After) × (laterOf z (x .table) (x .answers) (x .crosspoints) ≡ y .later)
+  pub words-are : let e : Said = saidBy (y .fed .event) (y .store) in
+      x .answer ≡ cond (e .discarded) 1 0 ∷ y .fed .consumed ∷ length (e .message) ∷ laterWords (y .later)
+
+pub data AllTell : List Turn → List claim.Turn → Type 0 where
+  none : AllTell [] []
+  more : {x : Turn} {y : claim.Turn} {xs : List Turn} {ys : List claim.Turn} → Tells x y → AllTell xs ys → AllTell (x ∷ xs) (y ∷ ys)
