@@ -112,38 +112,27 @@ fn open_word(
     f: Figures,
     mode: u64,
     word: &[u8],
-    list: &mut [u64],
     path: &mut [u64],
     cells: &mut [u8],
 ) -> Desk {
+    let mut room = [0u64; 1024];
+    let list: &mut [u64] = &mut room;
     match words::list(word, list) {
         Listed::Numbers(n) => open_path(f, mode, list, n, path, cells),
         Listed::Bad => refuse(desk),
     }
 }
 
-fn open(desk: Desk, line: &[u8], list: &mut [u64], path: &mut [u64], cells: &mut [u8]) -> Desk {
-    let mut room = [0u64; 6];
-    let numbers: &mut [u64] = &mut room;
-    let mut marks = [0u64; 6];
-    let given: &mut [u64] = &mut marks;
-    let from = figures::read(line, 5, numbers, given);
+fn open(desk: Desk, line: &[u8], path: &mut [u64], cells: &mut [u8]) -> Desk {
+    let o = figures::given(line, 5);
+    let from = o.path;
     if from == 0 {
         return refuse(desk);
     }
     if line.len() < from {
         return refuse(desk);
     }
-    let f = figures::figures(numbers, given);
-    open_word(
-        desk,
-        f,
-        figures::mode(numbers),
-        &line[from..],
-        list,
-        path,
-        cells,
-    )
+    open_word(desk, o.figures, o.mode, &line[from..], path, cells)
 }
 
 // A request with the first n numbers of a list as its sources.
@@ -154,14 +143,9 @@ fn ask(f: Figures, target: u64, list: &[u64], n: usize, operation: u64, cells: &
 }
 
 // .. with the sources and the operation that words are.
-fn ask_words(
-    f: Figures,
-    target: u64,
-    sources: &[u8],
-    operation: &[u8],
-    list: &mut [u64],
-    cells: &mut [u8],
-) {
+fn ask_words(f: Figures, target: u64, sources: &[u8], operation: &[u8], cells: &mut [u8]) {
+    let mut room = [0u64; 1024];
+    let list: &mut [u64] = &mut room;
     let Listed::Numbers(n) = words::list(sources, list) else {
         print::bad_line();
         return;
@@ -174,23 +158,16 @@ fn ask_words(
 }
 
 // .. with the target that a word is.
-fn ask_target(
-    f: Figures,
-    target: &[u8],
-    sources: &[u8],
-    operation: &[u8],
-    list: &mut [u64],
-    cells: &mut [u8],
-) {
+fn ask_target(f: Figures, target: &[u8], sources: &[u8], operation: &[u8], cells: &mut [u8]) {
     match words::number(target) {
-        Word::Number(t) => ask_words(f, t, sources, operation, list, cells),
+        Word::Number(t) => ask_words(f, t, sources, operation, cells),
         Word::Absent => print::bad_line(),
         Word::Bad => print::bad_line(),
     }
 }
 
 // A line's three words with its two spaces between.
-fn request(f: Figures, line: &[u8], list: &mut [u64], cells: &mut [u8]) {
+fn request(f: Figures, line: &[u8], cells: &mut [u8]) {
     if line.len() < 8 {
         print::bad_line();
         return;
@@ -212,36 +189,18 @@ fn request(f: Figures, line: &[u8], list: &mut [u64], cells: &mut [u8]) {
         &line[8..first],
         &line[from..second],
         &line[last..],
-        list,
         cells,
     );
 }
 
 // The chunk's turns with the desk's own path.
-fn offer(
-    desk: Desk,
-    chunk: &[u8],
-    store: &mut [u8],
-    table: &mut [[u64; 50]],
-    path: &[u64],
-    cells: &mut [u8],
-    answers: &mut [u64],
-) -> Desk {
+fn offer(desk: Desk, chunk: &[u8], store: &mut [u8], path: &[u64], cells: &mut [u8]) -> Desk {
     let n = desk.path;
     if path.len() < n {
         return desk;
     }
     let figures = desk.figures;
-    let session = stream::offer(
-        desk.session,
-        chunk,
-        store,
-        table,
-        figures,
-        &path[..n],
-        cells,
-        answers,
-    );
+    let session = stream::offer(desk.session, chunk, store, figures, &path[..n], cells);
     Desk {
         there: true,
         figures,
@@ -251,15 +210,13 @@ fn offer(
 }
 
 // The chunk whose bytes a line has from a position on: one at least.
-fn bytes(
+fn chunk(
     desk: Desk,
     line: &[u8],
     work: &mut [u8],
     store: &mut [u8],
-    table: &mut [[u64; 50]],
     path: &[u64],
     cells: &mut [u8],
-    answers: &mut [u64],
 ) -> Desk {
     let Hex::Octets(n) = text::octets(line, 6, work) else {
         return refuse(desk);
@@ -270,7 +227,13 @@ fn bytes(
     if work.len() < n {
         return desk;
     }
-    offer(desk, &work[..n], store, table, path, cells, answers)
+    offer(desk, &work[..n], store, path, cells)
+}
+
+fn bytes(desk: Desk, line: &[u8], store: &mut [u8], path: &[u64], cells: &mut [u8]) -> Desk {
+    let mut room = [0u8; 32768];
+    let work: &mut [u8] = &mut room;
+    chunk(desk, line, work, store, path, cells)
 }
 
 fn is(line: &[u8], word: &[u8]) -> bool {
@@ -280,10 +243,17 @@ fn is(line: &[u8], word: &[u8]) -> bool {
     text::starts(line, word)
 }
 
+// The route sheet, with the desk's own path.
+fn sheet(f: Figures, path: &[u64], n: usize, cells: &[u8]) {
+    if n <= path.len() {
+        route::sheet(f, &path[..n], cells);
+    }
+}
+
 // A line that leaves the stream alone, on a desk that is there.
-fn look(f: Figures, line: &[u8], list: &mut [u64], cells: &mut [u8]) {
+fn look(f: Figures, line: &[u8], cells: &mut [u8]) {
     if text::starts(line, b"request ") {
-        request(f, line, list, cells);
+        request(f, line, cells);
         return;
     }
     if is(line, b"show") {
@@ -297,39 +267,27 @@ fn look(f: Figures, line: &[u8], list: &mut [u64], cells: &mut [u8]) {
     print::bad_line();
 }
 
-// The route sheet, with the desk's own path.
-fn sheet(f: Figures, path: &[u64], n: usize, cells: &[u8]) {
-    if n <= path.len() {
-        route::sheet(f, &path[..n], cells);
-    }
-}
-
-fn answer(
-    desk: Desk,
-    line: &[u8],
-    work: &mut [u8],
-    store: &mut [u8],
-    table: &mut [[u64; 50]],
-    list: &mut [u64],
-    path: &mut [u64],
-    cells: &mut [u8],
-    answers: &mut [u64],
-) -> Desk {
-    if text::starts(line, b"open ") {
-        return open(desk, line, list, path, cells);
-    }
-    if !desk.there {
-        return refuse(desk);
-    }
+// A line on a desk that is there.
+fn serve(desk: Desk, line: &[u8], store: &mut [u8], path: &[u64], cells: &mut [u8]) -> Desk {
     if text::starts(line, b"bytes ") {
-        return bytes(desk, line, work, store, table, path, cells, answers);
+        return bytes(desk, line, store, path, cells);
     }
     if is(line, b"sheet") {
         sheet(desk.figures, path, desk.path, cells);
         return desk;
     }
-    look(desk.figures, line, list, cells);
+    look(desk.figures, line, cells);
     desk
+}
+
+fn answer(desk: Desk, line: &[u8], store: &mut [u8], path: &mut [u64], cells: &mut [u8]) -> Desk {
+    if text::starts(line, b"open ") {
+        return open(desk, line, path, cells);
+    }
+    if !desk.there {
+        return refuse(desk);
+    }
+    serve(desk, line, store, path, cells)
 }
 
 // Answers the line that was found.
@@ -337,13 +295,9 @@ fn finish(
     desk: Desk,
     found: Input,
     line: &[u8],
-    work: &mut [u8],
     store: &mut [u8],
-    table: &mut [[u64; 50]],
-    list: &mut [u64],
     path: &mut [u64],
     cells: &mut [u8],
-    answers: &mut [u64],
 ) -> Desk {
     let n = found.len;
     if found.long {
@@ -352,36 +306,18 @@ fn finish(
     if line.len() < n {
         return desk;
     }
-    answer(
-        desk,
-        &line[..n],
-        work,
-        store,
-        table,
-        list,
-        path,
-        cells,
-        answers,
-    )
+    answer(desk, &line[..n], store, path, cells)
 }
 
 fn main() {
     let mut space = [0u8; 65536];
     let line: &mut [u8] = &mut space;
-    let mut octets = [0u8; 32768];
-    let work: &mut [u8] = &mut octets;
     let mut bytes = [0u8; 17408];
     let store: &mut [u8] = &mut bytes;
-    let mut rows = [[0u64; 50]; 256];
-    let table: &mut [[u64; 50]] = &mut rows;
-    let mut numbers = [0u64; 1024];
-    let list: &mut [u64] = &mut numbers;
     let mut steps = [0u64; 16];
     let path: &mut [u64] = &mut steps;
     let mut points = [0u8; 4096];
     let cells: &mut [u8] = &mut points;
-    let mut given = [0u64; 256];
-    let answers: &mut [u64] = &mut given;
     let mut buffer = io::large_buffer();
     let block: &mut [u8] = &mut buffer;
     let mut found = input::start();
@@ -394,17 +330,6 @@ fn main() {
         if found.ended {
             break;
         }
-        desk = finish(
-            desk,
-            found,
-            line,
-            work,
-            store,
-            table,
-            list,
-            path,
-            cells,
-            answers,
-        );
+        desk = finish(desk, found, line, store, path, cells);
     }
 }

@@ -1,6 +1,7 @@
 // A chunk of the stream: whole turns of session, tree reader and desk, and a line for each event.
 use desk_calls::Called;
 use framing::Event;
+use framing::Fed;
 use framing::Session;
 use glow::Answer;
 use requests::print;
@@ -97,33 +98,40 @@ fn onward(from: usize, consumed: usize, end: usize) -> usize
     from + consumed
 }
 
+// A whole turn, with a table and answers of its own, and its event's line.
+fn turn(
+    session: Session,
+    store: &mut [u8],
+    chunk: &[u8],
+    f: Figures,
+    path: &[u64],
+    cells: &mut [u8],
+) -> Fed {
+    let mut rows = [[0u64; 50]; 256];
+    let table: &mut [[u64; 50]] = &mut rows;
+    let mut room = [0u64; 256];
+    let answers: &mut [u64] = &mut room;
+    let t = turns::turn(session, store, chunk, table, f, path, cells, answers);
+    let fed = t.fed;
+    let event = fed.event;
+    let a = t.after;
+    report(event, a, answers);
+    fed
+}
+
 // Offers a chunk until it is consumed.
 pub(crate) fn offer(
     start: Session,
     chunk: &[u8],
     store: &mut [u8],
-    table: &mut [[u64; 50]],
     f: Figures,
     path: &[u64],
     cells: &mut [u8],
-    answers: &mut [u64],
 ) -> Session {
     let mut session = start;
     let mut from = 0;
     while from < chunk.len() {
-        let t = turns::turn(
-            session,
-            store,
-            &chunk[from..],
-            table,
-            f,
-            path,
-            cells,
-            answers,
-        );
-        let fed = t.fed;
-        let a = t.after;
-        let event = fed.event;
+        let fed = turn(session, store, &chunk[from..], f, path, cells);
         let next = onward(from, fed.consumed, chunk.len());
         // Only 1 SETUP consumes nothing. It does not come here, and would end the chunk.
         if next <= from {
@@ -131,7 +139,6 @@ pub(crate) fn offer(
         }
         from = next;
         session = fed.session;
-        report(event, a, answers);
     }
     session
 }

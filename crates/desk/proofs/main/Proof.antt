@@ -4,34 +4,22 @@ use Rattle.desk.proofs.main.Statement.{statement}
 use Rattle.desk.proofs.main.Tie as tie
 
 abbrev Inv-loop : tie.InvT-loop
-Inv-loop line₀ work₀ store₀ table₀ list₀ path₀ cells₀ answers₀ block₀ found₀ desk₀ turns₀ line work store table list path cells answers block found desk turns = Unit {0}
+Inv-loop line₀ store₀ path₀ cells₀ block₀ found₀ desk₀ turns₀ line store path cells block found desk turns = Unit {0}
 
 abbrev μ-loop : tie.MeasureT-loop
-μ-loop line₀ work₀ store₀ table₀ list₀ path₀ cells₀ answers₀ block₀ found₀ desk₀ turns₀ line work store table list path cells answers block found desk turns = turns
+μ-loop line₀ store₀ path₀ cells₀ block₀ found₀ desk₀ turns₀ line store path cells block found desk turns = turns
 
 slice-aggregate-line : tie.Need-slice-aggregate-line Inv-loop μ-loop
 slice-aggregate-line c = search needs
 
-slice-aggregate-work : tie.Need-slice-aggregate-work Inv-loop μ-loop
-slice-aggregate-work c = search needs
-
 slice-aggregate-store : tie.Need-slice-aggregate-store Inv-loop μ-loop
 slice-aggregate-store c = search needs
-
-slice-aggregate-table : tie.Need-slice-aggregate-table Inv-loop μ-loop
-slice-aggregate-table c = search needs
-
-slice-aggregate-list : tie.Need-slice-aggregate-list Inv-loop μ-loop
-slice-aggregate-list c = search needs
 
 slice-aggregate-path : tie.Need-slice-aggregate-path Inv-loop μ-loop
 slice-aggregate-path c = search needs
 
 slice-aggregate-cells : tie.Need-slice-aggregate-cells Inv-loop μ-loop
 slice-aggregate-cells c = search needs
-
-slice-aggregate-answers : tie.Need-slice-aggregate-answers Inv-loop μ-loop
-slice-aggregate-answers c = search needs
 
 large-buffer-requires : tie.Need-large-buffer-requires Inv-loop μ-loop
 large-buffer-requires c κs = search needs
@@ -59,7 +47,7 @@ finish-requires c κs = search needs
 
 loop-less : tie.Need-loop-less Inv-loop μ-loop
 loop-less c =
-    let the-loop-test = c .before .before .before .before .before .before .before .before .before .before .before .before .before .before .before .before .before .before .before .before .before .before .before .before .before .before .before .before .before .before .loop-test in
+    let the-loop-test = c .before .before .before .before .before .before .before .before .before .before .before .before .before .before .before .before .before .before .before .loop-test in
     omega (arith, the-loop-test .taken)
 
 loop-again : tie.Need-loop-again Inv-loop μ-loop
@@ -78,13 +66,9 @@ main-spec =
     Inv-loop
     μ-loop
     slice-aggregate-line
-    slice-aggregate-work
     slice-aggregate-store
-    slice-aggregate-table
-    slice-aggregate-list
     slice-aggregate-path
     slice-aggregate-cells
-    slice-aggregate-answers
     large-buffer-requires
     slice-aggregate-block
     start-requires
