@@ -25,7 +25,6 @@ use requests::text;
 use requests::text::Hex;
 use routing::Figures;
 use routing::Limit;
-use words::Listed;
 use words::Word;
 
 // The desk that is there, if one is: its figures, how many numbers its path has, and its stream's session.
@@ -91,8 +90,9 @@ fn open_with(f: Figures, mode: u64, given: &[u64], path: &mut [u64], cells: &mut
     }
 }
 
-// .. with the first n numbers of a list as its path.
+// .. with the first n numbers of a list as its path. A bad line, with more than the list has, leaves the desk that is there.
 fn open_path(
+    desk: Desk,
     f: Figures,
     mode: u64,
     list: &[u64],
@@ -103,10 +103,10 @@ fn open_path(
     if n <= list.len() {
         return open_with(f, mode, &list[..n], path, cells);
     }
-    no_desk()
+    refuse(desk)
 }
 
-// .. with the path that a word is. A bad line leaves the desk that is there.
+// .. with the path that a word is.
 fn open_word(
     desk: Desk,
     f: Figures,
@@ -117,10 +117,8 @@ fn open_word(
 ) -> Desk {
     let mut room = [0u64; 1024];
     let list: &mut [u64] = &mut room;
-    match words::list(word, list) {
-        Listed::Numbers(n) => open_path(f, mode, list, n, path, cells),
-        Listed::Bad => refuse(desk),
-    }
+    let n = words::list(word, list);
+    open_path(desk, f, mode, list, n, path, cells)
 }
 
 fn open(desk: Desk, line: &[u8], path: &mut [u64], cells: &mut [u8]) -> Desk {
@@ -135,24 +133,28 @@ fn open(desk: Desk, line: &[u8], path: &mut [u64], cells: &mut [u8]) -> Desk {
     open_word(desk, o.figures, o.mode, &line[from..], path, cells)
 }
 
-// A request with the first n numbers of a list as its sources.
+// A request with the first n numbers of a list as its sources. More than the list has make a bad line.
 fn ask(f: Figures, target: u64, list: &[u64], n: usize, operation: u64, cells: &mut [u8]) {
     if n <= list.len() {
         number_line(routing::request(f, target, &list[..n], operation, cells));
+        return;
     }
+    print::bad_line();
 }
 
-// .. with the sources and the operation that words are.
-fn ask_words(f: Figures, target: u64, sources: &[u8], operation: &[u8], cells: &mut [u8]) {
+// .. with the sources that a word is.
+fn ask_list(f: Figures, target: u64, sources: &[u8], operation: u64, cells: &mut [u8]) {
     let mut room = [0u64; 1024];
     let list: &mut [u64] = &mut room;
-    let Listed::Numbers(n) = words::list(sources, list) else {
-        print::bad_line();
-        return;
-    };
+    let n = words::list(sources, list);
+    ask(f, target, list, n, operation, cells);
+}
+
+// .. with the operation that a word is.
+fn ask_words(f: Figures, target: u64, sources: &[u8], operation: &[u8], cells: &mut [u8]) {
     match words::number(operation) {
-        Word::Absent => ask(f, target, list, n, 0, cells),
-        Word::Number(o) => ask(f, target, list, n, o, cells),
+        Word::Absent => ask_list(f, target, sources, 0, cells),
+        Word::Number(o) => ask_list(f, target, sources, o, cells),
         Word::Bad => print::bad_line(),
     }
 }

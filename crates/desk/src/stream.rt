@@ -7,6 +7,7 @@ use glow::Answer;
 use requests::print;
 use routing::Figures;
 use turns::After;
+use turns::Turned;
 ghost use Prim.Native.Nat.{_≤_};
 
 fn space() {
@@ -78,11 +79,14 @@ fn after(a: After, answers: &[u64]) {
 }
 
 // An event's line. A call that used up its chunk without an event has none.
-fn report(event: Event, a: After, answers: &[u64]) {
+fn report(t: Turned, answers: &[u64]) {
+    let fed = t.fed;
+    let event = fed.event;
     if let Event::More = event {
         return;
     }
     print::decimal(events::number(event));
+    let a = t.after;
     after(a, answers);
     print::end();
 }
@@ -98,7 +102,23 @@ fn onward(from: usize, consumed: usize, end: usize) -> usize
     from + consumed
 }
 
-// A whole turn, with a table and answers of its own, and its event's line.
+// A whole turn and its event's line.
+fn told(
+    session: Session,
+    store: &mut [u8],
+    chunk: &[u8],
+    table: &mut [[u64; 50]],
+    f: Figures,
+    path: &[u64],
+    cells: &mut [u8],
+    answers: &mut [u64],
+) -> Fed {
+    let t = turns::turn(session, store, chunk, table, f, path, cells, answers);
+    report(t, answers);
+    t.fed
+}
+
+// .. with a table and answers of its own.
 fn turn(
     session: Session,
     store: &mut [u8],
@@ -111,12 +131,7 @@ fn turn(
     let table: &mut [[u64; 50]] = &mut rows;
     let mut room = [0u64; 256];
     let answers: &mut [u64] = &mut room;
-    let t = turns::turn(session, store, chunk, table, f, path, cells, answers);
-    let fed = t.fed;
-    let event = fed.event;
-    let a = t.after;
-    report(event, a, answers);
-    fed
+    told(session, store, chunk, table, f, path, cells, answers)
 }
 
 // Offers a chunk until it is consumed.
