@@ -233,7 +233,7 @@ fn chunk(
 }
 
 fn bytes(desk: Desk, line: &[u8], store: &mut [u8], path: &[u64], cells: &mut [u8]) -> Desk {
-    let mut room = [0u8; 32768];
+    let mut room = io::large_buffer();
     let work: &mut [u8] = &mut room;
     chunk(desk, line, work, store, path, cells)
 }
@@ -312,7 +312,7 @@ fn finish(
 }
 
 fn main() {
-    let mut space = [0u8; 65536];
+    let mut space = io::large_buffer();
     let line: &mut [u8] = &mut space;
     let mut bytes = [0u8; 17408];
     let store: &mut [u8] = &mut bytes;
