@@ -1,7 +1,7 @@
 //! The program `desk`: a script, one line at a time (docs/DECISIONS.md, "Program `desk`").
 
 use crate::desk::{self, Desk, Figures};
-use crate::framing::{Session, DONE, SETUP, STORE_LENGTH};
+use crate::framing::{Session, DONE, STORE_LENGTH};
 use crate::lines::{hex_line, lines};
 use crate::sheet;
 use crate::tree::{self, Answer, TABLE_MAX};
@@ -109,7 +109,12 @@ impl Program {
             [b"bytes", word] => Said::Events(turns(desk, session, store, &pairs(word)?)),
             [b"request", target, sources, operation] => {
                 let operation = if *operation == b"-" { desk::ABSOLUTE as u64 } else { number(operation)? };
-                Said::Requested(request(desk, number(target)?, &list(sources)?, operation))
+                let (target, sources) = (number(target)?, list(sources)?);
+                // "an operation over 2 makes a bad line"
+                if operation > desk::DISCONNECT as u64 {
+                    return None;
+                }
+                Said::Requested(request(desk, target, &sources, operation))
             }
             [b"show"] => Said::Show(show(desk)),
             [b"grid"] => Said::Grid(grid(desk)),
@@ -165,11 +170,8 @@ fn turns(desk: &mut Desk, session: &mut Session, store: &mut [u8], chunk: &[u8])
     turns
 }
 
-/// "1 for an operation over 2, before the others". The path is the desk's own.
+/// The path is the desk's own.
 fn request(desk: &mut Desk, target: u64, sources: &[u64], operation: u64) -> u8 {
-    if operation > desk::DISCONNECT as u64 {
-        return SETUP;
-    }
     let path = desk.path.clone();
     desk.request(&path, capped(target), sources, operation as i64)
 }
@@ -347,8 +349,8 @@ mod tests {
             ("request 0 0.18446744073709551616 2", "42"),
             ("request 0 0.1.2 1", "43"),
             ("request 1 0.1 0", "44"),
-            ("request 9 99 3", "1"),
-            ("request 0 0 18446744073709551616", "1"),
+            ("request 0 0 3", "bad line"),
+            ("request 0 0 18446744073709551616", "bad line"),
             ("request - 0 0", "bad line"),
             ("request 0 0", "bad line"),
             ("request 0  0", "bad line"),

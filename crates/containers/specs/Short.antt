@@ -1,4 +1,5 @@
--- For private functions alone: what stands at a place, told at once where tag and length take one octet each, or where a container ends.
+-- For the quick answers `shut` and `short`: what stands at a place, told at once where tag and length take one octet each, or where a container ends. They may give
+-- up, with a number that is no answer; when they do is left free, and what else they answer is what the general definition gives.
 use Prim.Native.Nat.{ℕ, _+_, _/_, _%_, _≤_, _<_}
 use mathlib.Core.Path.{_≡_}
 use mathlib.Core.List.{List}

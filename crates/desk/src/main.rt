@@ -150,11 +150,20 @@ fn ask_list(f: Figures, target: u64, sources: &[u8], operation: u64, cells: &mut
     ask(f, target, list, n, operation, cells);
 }
 
+// .. with an operation, 0 to 2. Another makes a bad line.
+fn ask_number(f: Figures, target: u64, sources: &[u8], operation: u64, cells: &mut [u8]) {
+    if 2 < operation {
+        print::bad_line();
+        return;
+    }
+    ask_list(f, target, sources, operation, cells);
+}
+
 // .. with the operation that a word is.
 fn ask_words(f: Figures, target: u64, sources: &[u8], operation: &[u8], cells: &mut [u8]) {
     match words::number(operation) {
         Word::Absent => ask_list(f, target, sources, 0, cells),
-        Word::Number(o) => ask_list(f, target, sources, o, cells),
+        Word::Number(o) => ask_number(f, target, sources, o, cells),
         Word::Bad => print::bad_line(),
     }
 }

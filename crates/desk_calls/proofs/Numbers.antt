@@ -13,9 +13,8 @@ use Rattle.identifiers.specs.declared.Oid.{Oid}
 use Rattle.identifiers.specs.declared.Oid.the-variants.{Numbers, Range, Refused}
 use Rattle.identifiers.specs.Identifier.{Arcs, bad, over, numbers, push, pass, judged, arcAt, arcs, arcsFrom, oidAt}
 use Rattle.identifiers.proofs.Laws.{arcs-done, arcs-number, arcs-over, arcs-bad, oid-within}
-use Rattle.desk_calls.specs.Connections.{listOf, numbersIn}
+use Rattle.desk_calls.specs.Connections.{listOf, numbersIn, Left, Goes}
 use Rattle.desk_calls.specs.Calls.{same}
-use Rattle.desk_calls.specs.Steps.{Left, Goes}
 
 -- an answer by cases
 isNumbers : Arcs → ℕ

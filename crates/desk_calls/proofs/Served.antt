@@ -10,12 +10,12 @@ use lib.Seq.{take-suc-set, drop-set-lt, drop-cons}
 use Rattle.entries.specs.Entry.{Rows}
 use Rattle.entries.specs.declared.Cell.{Cell}
 use Rattle.forest.specs.Content.{Item, contentOf}
-use Rattle.forest.specs.Rows.{cellAt, itemsIn}
+use Rattle.forest.specs.Rows.{itemsIn}
 use Rattle.routing.specs.declared.Figures.{Figures}
 use Rattle.routing.specs.Crosspoints.{Cells, Answer, answer}
-use Rattle.desk_calls.specs.Connections.{numberOf, octetsOf, numbersIn, nobody, fullPath, askOf, asksIn, memberOf}
+use Rattle.desk_calls.specs.Connections.{cellIn, numberOf, octetsOf, numbersIn, nobody, fullPath, askOf, asksIn, memberOf}
 use Rattle.desk_calls.specs.Calls.{Request, requests, same, answered, Served, answers, served, handled, outcome, laid}
-use Rattle.desk_calls.specs.Steps.{laidAt, answeredAt, servedIn, leftFrom, Turns}
+use Rattle.desk_calls.specs.Steps.{laidAt, answeredAt, servedIn, leftFrom, Takes}
 use Rattle.routing.specs.Figures.{side}
 use Rattle.desk_calls.proofs.Items.{in-length, in-kind, in-parent, in-first, in-second, in-third}
 use Rattle.desk_calls.proofs.Sources.{append-again}
@@ -81,14 +81,14 @@ module _ (f : Figures) (path : List ℕ) (rows : Rows) (count : ℕ) (s : List �
       there : i < length es
       there = omega (arith, k, in-length s rows count c)
 
-      pub turn-other : (kind ≡ 8 → ⊥) → Turns f path rows count s i n lent cells n lent cells
-      turn-other d =
+      pub entry-other : (kind ≡ 8 → ⊥) → Takes f path rows count s i n lent cells n lent cells
+      entry-other d =
           ap (λ (z : Served). laidAt n z lent)
           (serve-other (requests side f) path es i cells there (λ z. d (e ∙ sym (in-kind s rows count c i k) ∙ z)))
 
-      pub turn-one : kind ≡ 8 → n < length lent → (x : ℕ) (after : Cells) → answeredAt f path rows count s i cells ≡ answer x after
-          → Turns f path rows count s i n lent cells (n + 1) (set lent n x) after
-      turn-one d l x after a =
+      pub entry-asks : kind ≡ 8 → n < length lent → (x : ℕ) (after : Cells) → answeredAt f path rows count s i cells ≡ answer x after
+          → Takes f path rows count s i n lent cells (n + 1) (set lent n x) after
+      entry-asks d l x after a =
           ap (λ (z : Served). laidAt n z lent)
           (serve-one (requests side f) path es i cells there (in-kind s rows count c i k ∙ sym e ∙ d) x after a)
           ∙ laid-more n x _ _ lent l
@@ -110,7 +110,7 @@ module _ (request : Request) (path : List ℕ) (s : List ℕ) (rows : Rows) (cou
     other-matrix h = rw (matrix-is, h)
 
     pub own-matrix : same (fullPath items p) path ≡ true → (target operation : ℕ) (t o v : Cell)
-        → t ≡ cellAt (getD rows i []) 0 → o ≡ cellAt (getD rows i []) 2 → v ≡ cellAt (getD rows i []) 1
+        → t ≡ cellIn rows i 0 → o ≡ cellIn rows i 2 → v ≡ cellIn rows i 1
         → numberOf (contentOf s t) ≡ target → numberOf (contentOf s o) ≡ operation
         → (a : Answer) → request target (numbersIn (octetsOf (contentOf s v))) operation cells ≡ a
         → answered request path (askOf items here) cells ≡ a

@@ -1,14 +1,23 @@
 -- What a message's connections ask (document 01, "Desk"), from its entries by content, in message order.
-use Prim.Native.Nat.{ℕ, zero, suc, _+_, _-_}
+use Prim.Native.Nat.{ℕ, zero, suc, _+_, _-_, _≤_}
+use mathlib.Core.Path.{_≡_}
 use mathlib.Core.List.{List, [], _∷_, _++_}
 use mathlib.Core.Bool.{Bool}
 use lib.ListN.{length, getD}
 use lib.Dec.{leb, ltb, eqb}
 use Rattle.integers.specs.Digits.{pick}
-use Rattle.identifiers.specs.Identifier.{Arcs, bad, over, numbers, arcs}
+use Rattle.identifiers.specs.Identifier.{Arcs, bad, over, numbers, arcs, arcsFrom}
+use Rattle.entries.specs.Entry.{Rows}
+use Rattle.entries.specs.declared.Cell.{Cell}
+use Rattle.entries.specs.Cell.{absent}
 use Rattle.grammar.specs.Grammar.{qualifiedParameter, qualifiedMatrix, connection}
 use Rattle.grammar.specs.Leaf.{both}
+use Rattle.forest.specs.Rows.{entryOf}
 use Rattle.forest.specs.Content.{Content, nothing, word, bytes, wrong, Item, item}
+
+-- what the entry in row i keeps of its member c, "an absent one as absent"
+unfoldable pub cellIn : Rows → ℕ → ℕ → Cell
+cellIn rows i c = getD (entryOf (getD rows i []) .cells) c absent
 
 -- A member's number (an integer, universal 2), and the octets of a relative identifier (13). Trees that the reader accepts have what is asked for; else
 -- anything serves.
@@ -32,6 +41,14 @@ listOf (numbers ns) = ns
 -- the numbers of a relative identifier: a path, or the sources of a connection
 unfoldable pub numbersIn : List ℕ → List ℕ
 numbersIn bs = listOf (arcs bs 0 (length bs))
+
+-- One by one: the numbers from p up to `end` are xs. f is no fewer than the octets left, so it ends nothing early.
+abbrev pub Left : List ℕ → ℕ → ℕ → List ℕ → Type 0
+Left bs p end xs = (f : ℕ) × ((end - p ≤ f) × (arcsFrom bs f p end ≡ numbers xs))
+
+-- The first of xs is n, and the others are those from `next` on.
+abbrev pub Goes : List ℕ → ℕ → List ℕ → ℕ → ℕ → Type 0
+Goes bs end xs n next = (ys : List ℕ) × ((xs ≡ n ∷ ys) × Left bs next end ys)
 
 -- a qualified element has a full path, any other a number
 unfoldable pub isQualified : ℕ → Bool

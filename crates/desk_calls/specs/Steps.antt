@@ -1,12 +1,11 @@
 -- For the functions of this crate.
-use Prim.Native.Nat.{ℕ, _+_, _-_, _≤_}
+use Prim.Native.Nat.{ℕ, _+_}
 use mathlib.Core.Path.{_≡_}
 use mathlib.Core.List.{List, [], _∷_, _++_}
 use mathlib.Core.Bool.{Bool, true, false}
 use lib.ListN.{length, take, drop, getD}
 use lib.Dec.{eqb}
 use Rattle.integers.specs.Digits.{pick}
-use Rattle.identifiers.specs.Identifier.{numbers, arcsFrom}
 use Rattle.routing.specs.declared.Figures.{Figures}
 use Rattle.entries.specs.Entry.{Rows}
 use Rattle.entries.specs.declared.Cell.{Cell}
@@ -17,14 +16,6 @@ use Rattle.routing.specs.Crosspoints.{Cells, count, Answer}
 use Rattle.routing.specs.Request.{named}
 use Rattle.desk_calls.specs.Connections.{octetsOf, numbersIn, nobody, askOf, asksIn}
 use Rattle.desk_calls.specs.Calls.{requests, answered, Served, served, handled, Outcome, outcome, laid}
-
--- the numbers of an identifier from p up to end are xs
-abbrev pub Left : List ℕ → ℕ → ℕ → List ℕ → Type 0
-Left bs p end xs = (f : ℕ) × ((end - p ≤ f) × (arcsFrom bs f p end ≡ numbers xs))
-
--- the first of them is n, and the others follow from `next` on
-abbrev pub Goes : List ℕ → ℕ → List ℕ → ℕ → ℕ → Type 0
-Goes bs end xs n next = (ys : List ℕ) × ((xs ≡ n ∷ ys) × Left bs next end ys)
 
 unfoldable pub has : List ℕ → ℕ → Bool
 has [] x = false
@@ -64,8 +55,8 @@ unfoldable pub laidAt : ℕ → Served → List ℕ → Outcome
 laidAt k z lent = outcome 0 (k + length (z .answers)) (take k lent ++ (z .answers ++ drop (k + length (z .answers)) lent)) (z .cells)
 
 -- the entry at place i takes the call from k answers to m
-abbrev pub Turns : Figures → List ℕ → Rows → ℕ → List ℕ → ℕ → ℕ → List ℕ → Cells → ℕ → List ℕ → Cells → Type 0
-Turns f path rows n s i k lent cells m lent′ cells′ =
+abbrev pub Takes : Figures → List ℕ → Rows → ℕ → List ℕ → ℕ → ℕ → List ℕ → Cells → ℕ → List ℕ → Cells → Type 0
+Takes f path rows n s i k lent cells m lent′ cells′ =
     laidAt k (leftFrom f path rows n s i cells) lent ≡ laidAt m (leftFrom f path rows n s (i + 1) cells′) lent′
 
 -- all of them

@@ -8,12 +8,13 @@ ghost use mathlib.Core.List.{List, []};
 ghost use Prim.Native.Nat.{ℕ, _+_, _-_, _≤_, _<_};
 ghost use lib.ListN.{length, getD, take, drop};
 ghost use Rattle.forest.specs.Content.{contentOf};
-ghost use Rattle.forest.specs.Rows.{cellAt, itemsIn};
+ghost use Rattle.entries.specs.Cell.{absent};
+ghost use Rattle.forest.specs.Rows.{itemsIn};
 ghost use Rattle.routing.specs.Figures.{side};
 ghost use Rattle.routing.specs.Crosspoints.{clear, answer};
-ghost use Rattle.desk_calls.specs.Connections.{numberOf, octetsOf, numbersIn, isQualified, fullPath};
+ghost use Rattle.desk_calls.specs.Connections.{cellIn, numberOf, octetsOf, numbersIn, Left, Goes, isQualified, fullPath};
 ghost use Rattle.desk_calls.specs.Calls.{pathFits, deskLegal, deskOpened, same, called, outcome, told};
-ghost use Rattle.desk_calls.specs.Steps.{Left, Goes, once, Kept, Handed, askedOf, answeredAt, servedIn, Turns};
+ghost use Rattle.desk_calls.specs.Steps.{once, Kept, Handed, askedOf, answeredAt, servedIn, Takes};
 
 // 1 SETUP, or how many connections were answered.
 pub enum Called {
@@ -87,10 +88,26 @@ fn word_at(rows: &[[u64; 50]], i: usize, j: usize) -> u64
     rows[i][j]
 }
 
-fn cell_at(rows: &[[u64; 50]], i: usize, c: usize) -> Cell
-    requires { ⌜ (i < length (now rows)) × (c < 16) ⌝ }
-    ensures { λ r. ⌜ r ≡ cellAt (getD (now (rows .entry)) i []) c ⌝ }
+fn no_cell() -> Cell
+    ensures { λ r. ⌜ r ≡ absent ⌝ }
 {
+    Cell {
+        kind: 0,
+        first: 0,
+        second: 0,
+    }
+}
+
+// The cell c of the entry in row i; an absent one past the rows' end, or past the sixteen cells.
+pub fn cell_at(rows: &[[u64; 50]], i: usize, c: usize) -> Cell
+    ensures { λ r. ⌜ r ≡ cellIn (now (rows .entry)) i c ⌝ }
+{
+    if rows.len() <= i {
+        return no_cell();
+    }
+    if 16 <= c {
+        return no_cell();
+    }
     let j = 2 + c * 3;
     Cell {
         kind: rows[i][j],
@@ -100,7 +117,7 @@ fn cell_at(rows: &[[u64; 50]], i: usize, c: usize) -> Cell
 }
 
 // The number of a member, 0 where it has none.
-fn number_of(v: Cell) -> u64
+pub fn number_of(v: Cell) -> u64
     ensures { λ r. ⌜ ((s : List ℕ) → numberOf (contentOf s v) ≡ r) ⌝ }
 {
     if v.kind != 2 {
@@ -148,7 +165,7 @@ fn part_of(s: &[u8], v: Cell) -> Part
 }
 
 // The end of an identifier's numbers: that of its octets, or 0 where these are none.
-fn list_end(octets: &[u8]) -> usize
+pub fn list_end(octets: &[u8]) -> usize
     ensures { λ r. ⌜ Left (now (octets .entry)) 0 r (numbersIn (now (octets .entry))) ⌝ }
 {
     match identifiers::read_oid(octets, 0, octets.len()) {
@@ -164,10 +181,10 @@ pub struct Step {
     pub next: usize,
 }
 
-fn next_number(octets: &[u8], p: usize, end: usize) -> Step
-    requires { ⌜ p < end ⌝ }
-    ensures { λ r. ⌜ ((xs : List ℕ) → Left (now (octets .entry)) p end xs → Goes (now (octets .entry)) end xs (r .number) (r .next)) ⌝ }
-    ensures { λ r. ⌜ (p < r .next) × (r .next ≤ end) ⌝ }
+// The number at p, where numbers are left before `end`.
+pub fn next_number(octets: &[u8], p: usize, end: usize) -> Step
+    ensures { λ r. ⌜ (p < end → (xs : List ℕ) → Left (now (octets .entry)) p end xs → Goes (now (octets .entry)) end xs (r .number) (r .next)) ⌝ }
+    ensures { λ r. ⌜ (p < end → (p < r .next) × (r .next ≤ end)) ⌝ }
 {
     match identifiers::read_number(octets, p, end) {
         Arc::Number { number, next } => Step { number, next },
@@ -326,7 +343,7 @@ fn answer_to(
 }
 
 // The entry at place i: a connection is answered at place n of the answers. The place for the next answer.
-fn turn(
+fn take_entry(
     f: Figures,
     path: &[u64],
     rows: &[[u64; 50]],
@@ -339,7 +356,7 @@ fn turn(
 ) -> usize
     requires { ⌜ (f .sources ≤ 64) × ((length (now path) ≤ 16) × ((count ≤ length (now rows)) × (i < count))) ⌝ }
     requires { ⌜ n < length (now answers) ⌝ }
-    ensures { λ r. ⌜ Turns f (now (path .entry)) (now (rows .entry)) count (now (s .entry)) i n (now (answers .entry)) (now (cells .entry))
+    ensures { λ r. ⌜ Takes f (now (path .entry)) (now (rows .entry)) count (now (s .entry)) i n (now (answers .entry)) (now (cells .entry))
         r (now (answers .exit)) (now (cells .exit)) ⌝ }
     ensures { λ r. ⌜ r ≤ n + 1 ⌝ }
 {
@@ -367,7 +384,7 @@ fn serve(
     let mut i: usize = 0;
     let mut n: usize = 0;
     while i < count {
-        n = turn(f, path, rows, count, i, s, cells, answers, n);
+        n = take_entry(f, path, rows, count, i, s, cells, answers, n);
         i += 1;
     }
     n

@@ -1,14 +1,10 @@
--- P8 of document 01, "Samples", its two keep-alives, and where a message is cut, by computation.
+-- The two keep-alives of document 01's listing, and where a message is cut, by computation. P8 is in one table with the other samples:
+-- crates/turns/specs/Samples.antt.
 use mathlib.Core.Bool.{true}
 use mathlib.Core.Path.{_≡_, refl}
 use mathlib.Core.List.{[], _∷_, map}
 use Rattle.framing.specs.Checksum.{table, crcStep, crcFrom, checksum}
 use Rattle.framing_writer.specs.Written.{escape, escapes, frame, requestBody, responseBody, header, packetBody, earlier}
-
--- P8: "data FF 00 F9 01 frames as FE FD DF 00 FD D9 01 95 83 FF."
-pub p8 : frame (0xff ∷ 0x00 ∷ 0xf9 ∷ 0x01 ∷ []) ≡ 0xfe ∷ 0xfd ∷ 0xdf ∷ 0x00 ∷ 0xfd ∷ 0xd9 ∷ 0x01 ∷ 0x95 ∷ 0x83 ∷ 0xff ∷ []
-unfolding frame escapes escape checksum crcFrom crcStep table
-p8 = refl
 
 -- "FE000E010194E4FF" and "FE000E0201FDDCCEFF", the listing program's input
 pub request-bytes : frame requestBody ≡ 0xfe ∷ 0x00 ∷ 0x0e ∷ 0x01 ∷ 0x01 ∷ 0x94 ∷ 0xe4 ∷ 0xff ∷ []

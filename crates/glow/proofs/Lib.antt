@@ -1,5 +1,5 @@
 -- For what stands above: Answers (`answer-by-bytes`, `refused-as-was`, `past-untouched`, `rows-kept`, `count-bounded`, `place-within`, `parts-within`), over
--- Places and Within. Samples, P12 among them: Vectors. What a set's marks mean: Marks. The rest is what the proofs of the code share.
+-- Places and Within. Samples: Vectors. What a set's marks mean: Marks. The rest is what the proofs of the code share.
 pub mod Laws
 pub mod Ways
 pub mod Rooted

@@ -1,4 +1,4 @@
--- Samples, by computation. P12 is document 01's.
+-- Samples, by computation. Document 01's own, P12 among them, are one table: crates/turns/specs/Samples.antt.
 use Prim.Native.Nat.{ℕ, zero, suc}
 use mathlib.Core.Path.{_≡_, refl}
 use mathlib.Core.List.{List, [], _∷_}
@@ -24,18 +24,6 @@ use Rattle.glow.specs.Message.{rootKind, topAt, finished, walk, setup, r
 -- an entry with a number in cell 0, by kind and parent's place and 1
 abbrev one : ℕ → ℕ → ℕ → Entry
 one kind parent n = withCell (blank kind parent) 0 (cell 2 n 0)
-
--- "60 0B 6B 09 A0 07 62 05 A0 03 02 01 20 is one command, 32"; the row after it is as it was
-pub P12 : (r q : List ℕ)
-    → readAt (0x60 ∷ 0x0B ∷ 0x6B ∷ 0x09 ∷ 0xA0 ∷ 0x07 ∷ 0x62 ∷ 0x05 ∷ 0xA0 ∷ 0x03 ∷ 0x02 ∷ 0x01 ∷ 0x20 ∷ []) (r ∷ q ∷ [])
-    ≡ result (Read 0 1) (row (one 2 0 32) ∷ q ∷ [])
-unfolding headAt tagNumber longNumber stop cut lengthAt sized horner signed nineFree twos integer integerAt boolean boolAt isListed kindAt contentAt
-    arcIs arcFrom arcAt arcsFrom zeroAt closingAt standingAt deep enterAt firstAt lastAt isTag skipped crossAt throughBy passedAt
-    members ruleOf requirements required isSet contentsRows contentsOf applications holds kindAmong kindIn innerClass innerNumber collectionOf rootOf
-    expects least most inRange isLetter noSlash isName allPositive isPath numberLeaf textLeaf numbersAt leafAt blanks withCell putCell words overlay
-    marked mark due inOrder again afterListed afterOther column plainAt innerAt listedAt ruledAt memberAt kindOf itemAt closed membersBy itemsBy
-    rootKind topAt finished walk setup readAt
-P12 r q = refl
 
 -- A message, the count of the table's rows, the answer, and the entries whose rows are the table's first ones after it.
 pub record Sample : Type 0 where

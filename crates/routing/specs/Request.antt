@@ -59,12 +59,12 @@ unfoldable pub result : ℕ → Figures → ℕ → List ℕ → ℕ → Cells �
 result w f target sources operation cells =
     withRow w (others w f sources operation cells) target (becomes w f sources operation (rowAt w cells target))
 
--- "43 MANY: result over the target's limit (1:N, 1:1: list over one)"
+-- 43 MANY: "result over the target's or total limit (1:N, 1:1: list over one)"
 unfoldable pub many : ℕ → Figures → List ℕ → ℕ → Cells → Bool
 many w f sources operation old =
     pick (eqb (f .kind) nToN) (ltb (mostEach f) (count (becomes w f sources operation old))) (ltb 1 (count (named w sources)))
 
--- "44 TOTAL: result over the total limit"; only N:N heeds it
+-- 44 TOTAL; "only N:N heeds them"
 unfoldable pub overTotal : ℕ → Figures → ℕ → List ℕ → ℕ → Cells → Bool
 overTotal w f target sources operation cells =
     both (eqb (f .kind) nToN) (ltb (mostTotal f) (count (result w f target sources operation cells)))

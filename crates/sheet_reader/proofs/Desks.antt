@@ -1,36 +1,35 @@
 -- A desk from entries: opened, its connections applied, handed over.
-use Prim.Native.Nat.{ℕ, _+_, _*_, _≤_, _<_}
+use Prim.Native.Nat.{ℕ, _*_, _≤_, _<_}
 use mathlib.Core.Path.{_≡_, refl, sym, ap, subst, _∙_}
 use mathlib.Core.List.{List, [], _∷_, _++_, append-nil}
 use mathlib.Core.Bool.{Bool, true, false, true≢false}
 use native.Mathlib.Omega.{arith}
-use borrow.Author.Tests.{eq-eqb, ne-eqb, lt-leb}
+use borrow.Author.Tests.{eq-eqb, ne-eqb}
 use lib.ListN.{length, take, drop, getD, length-append, drop-of-length-le}
 use lib.Seq.{take-at}
-use lib.Dec.{leb, eqb}
+use lib.Dec.{eqb}
 use Rattle.integers.specs.Digits.{pick}
 use Rattle.entries.specs.Entry.{Rows}
 use Rattle.entries.specs.declared.Cell.{Cell}
 use Rattle.forest.specs.Content.{Item, contentOf}
-use Rattle.forest.specs.Rows.{cellAt, itemsIn}
+use Rattle.forest.specs.Rows.{itemsIn}
 use Rattle.glow_writer.specs.Accepted.{accepted}
 use Rattle.routing.specs.declared.Figures.{Figures}
-use Rattle.routing.specs.Figures.{side, both, figuresFit}
+use Rattle.routing.specs.Figures.{both, figuresFit}
 use Rattle.routing.specs.Crosspoints.{Cells, clear, Answer, answer, opened}
 use Rattle.routing.proofs.Rows.{clear-length}
 use Rattle.desk_calls.specs.declared.Called.{Called}
 use Rattle.desk_calls.specs.declared.Called.the-variants.{Setup as Unready, Done}
-use Rattle.desk_calls.specs.Connections.{numberOf, octetsOf, numbersIn, nobody}
+use Rattle.desk_calls.specs.Connections.{cellIn, octetsOf, numbersIn, nobody}
 use Rattle.desk_calls.specs.Calls.{pathFits, deskLegal, deskOpened, Served, handled, Outcome, laid, called, told as answered}
 use Rattle.desk_calls.proofs.Items.{in-at}
 use Rattle.desk_calls.proofs.Setup.{ready-from, path-short, opened-not}
 use Rattle.desk_calls.proofs.Claims.{desk-opened-legal}
-use Rattle.sheets.specs.Sheet.{desk}
 use Rattle.sheets.specs.Reading as reading
-use Rattle.sheets.specs.Reading.{refused, read, firstRefused, applied, begun, opens, figuresIn, modeIn, pathIn, ofEntries}
+use Rattle.sheets.specs.Reading.{refused, firstRefused, applied, begun, opens, figuresIn, modeIn, pathIn, ofEntries}
 use Rattle.sheet_reader.specs.declared.Sheet.{Sheet}
-use Rattle.sheet_reader.specs.declared.Sheet.the-variants.{Setup, Refused, Read}
-use Rattle.sheet_reader.specs.Calls.{leaves, told}
+use Rattle.sheet_reader.specs.declared.Sheet.the-variants.{Refused, Read}
+use Rattle.sheet_reader.specs.Calls.{leaves}
 use Rattle.sheet_reader.specs.Steps.{firstOf, isSheet, Taken, sheetBy, Tells}
 use Rattle.sheet_reader.proofs.Members.{sheet-some, first-member}
 
@@ -160,7 +159,7 @@ module _ (w : ℕ) (s : List ℕ) (rows : Rows) (n : ℕ) (h : n ≤ length rows
       entries-are w (itemsIn s rows n) sheet
       ∙ ap (λ (e : Item). opens w (figuresIn e) (pathIn e) (modeIn e) (itemsIn s rows n)) (in-at s rows n h 0 (sheet-some s rows n h sheet))
 
-  module _ (v : Cell) (e : v ≡ cellAt (getD rows 0 []) 0) (r : ℕ) (list : List ℕ) (t : Taken (numbersIn (octetsOf (contentOf s v))) r list) where
+  module _ (v : Cell) (e : v ≡ cellIn rows 0 0) (r : ℕ) (list : List ℕ) (t : Taken (numbersIn (octetsOf (contentOf s v))) r list) where
     path-first : pathIn first ≡ numbersIn (octetsOf (contentOf s v))
     path-first =
         ap (λ (c : Rattle.forest.specs.Content.Content). numbersIn (octetsOf c)) (first-member s rows)

@@ -2,6 +2,5 @@ pub mod Members
 pub mod Numbers
 pub mod Desks
 pub mod Messages
-pub mod Bounds
 pub mod Whole
 pub mod Theorems

@@ -1,25 +1,22 @@
 -- What the rows say: limits, figures, and which entries they are.
 use Prim.Native.Nat.{ℕ, suc, _+_, _≤_, _<_}
-use mathlib.Core.Path.{_≡_, refl, sym, ap, subst, _∙_}
+use mathlib.Core.Path.{_≡_, refl, sym, ap, _∙_}
 use mathlib.Core.List.{List, [], _∷_}
 use mathlib.Core.Bool.{Bool, true, false, true≢false}
 use native.Mathlib.Omega.{arith}
 use borrow.Author.Tests.{eq-eqb, ne-eqb, eqb-true, lt-ltb}
 use lib.ListN.{length, take, drop, getD, drop-of-length-le}
 use lib.Seq.{drop-cons}
-use lib.Dec.{leb, ltb, eqb}
+use lib.Dec.{leb, eqb}
 use Rattle.integers.specs.Digits.{pick}
 use Rattle.entries.specs.Entry.{Rows}
 use Rattle.entries.specs.declared.Cell.{Cell}
-use Rattle.entries.specs.Cell.{cell}
-use Rattle.forest.specs.Content.{Content, nothing, word, bytes, wrong, Item, contentOf, contentsOf, itemsOf, isPart, isWord}
-use Rattle.forest.specs.Rows.{cellAt, cellsFrom, entriesOf, itemsIn}
+use Rattle.forest.specs.Content.{nothing, bytes, wrong, Item, contentOf, contentsOf, itemsOf, isPart, isWord}
+use Rattle.forest.specs.Rows.{cellsFrom, entriesOf, itemsIn}
 use Rattle.routing.specs.declared.Limit.{Limit}
 use Rattle.routing.specs.declared.Limit.the-variants.{Absent, Most}
-use Rattle.routing.specs.declared.Figures.{Figures}
-use Rattle.routing.specs.Figures.{both}
-use Rattle.desk_calls.specs.Connections.{numberOf, memberOf, nobody}
-use Rattle.desk_calls.proofs.Items.{in-length, in-at, in-kind, cell-words}
+use Rattle.desk_calls.specs.Connections.{cellIn, numberOf, memberOf, nobody}
+use Rattle.desk_calls.proofs.Items.{in-length, in-kind}
 use Rattle.sheets.specs.Reading.{limitIn, figuresIn, modeIn, allLinks}
 use Rattle.sheet_reader.specs.Steps.{firstOf, isSheet}
 
@@ -61,13 +58,13 @@ module _ (s : List ℕ) (v : Cell) where
 -- ---- the figures
 
 pub figures-is : (rows : Rows) (v3 v5 v6 v7 v8 : Cell) (kind targets sources : ℕ) (total each : Limit)
-    → v3 ≡ cellAt (getD rows 0 []) 3 → v5 ≡ cellAt (getD rows 0 []) 5 → v6 ≡ cellAt (getD rows 0 []) 6
-    → v7 ≡ cellAt (getD rows 0 []) 7 → v8 ≡ cellAt (getD rows 0 []) 8
+    → v3 ≡ cellIn rows 0 3 → v5 ≡ cellIn rows 0 5 → v6 ≡ cellIn rows 0 6
+    → v7 ≡ cellIn rows 0 7 → v8 ≡ cellIn rows 0 8
     → ((s : List ℕ) → numberOf (contentOf s v3) ≡ kind) → ((s : List ℕ) → numberOf (contentOf s v5) ≡ targets)
     → ((s : List ℕ) → numberOf (contentOf s v6) ≡ sources)
     → ((s : List ℕ) → limitIn (contentOf s v7) ≡ total) → ((s : List ℕ) → limitIn (contentOf s v8) ≡ each)
     → (s : List ℕ) → figuresIn (firstOf s rows) ≡ record { kind = kind; targets = targets; sources = sources; total = total; each = each }
-unfolding contentsOf cellsFrom
+unfolding contentsOf cellsFrom cellIn
 figures-is rows v3 v5 v6 v7 v8 kind targets sources total each e3 e5 e6 e7 e8 a b c d e s =
     rw (
       ap (λ (v : Cell). numberOf (contentOf s v)) (sym e3) ∙ a s,
@@ -77,14 +74,14 @@ figures-is rows v3 v5 v6 v7 v8 kind targets sources total each e3 e5 e6 e7 e8 a 
       ap (λ (v : Cell). limitIn (contentOf s v)) (sym e8) ∙ e s,
     )
 
-pub mode-is : (rows : Rows) (v : Cell) (mode : ℕ) → v ≡ cellAt (getD rows 0 []) 4 → ((s : List ℕ) → numberOf (contentOf s v) ≡ mode)
+pub mode-is : (rows : Rows) (v : Cell) (mode : ℕ) → v ≡ cellIn rows 0 4 → ((s : List ℕ) → numberOf (contentOf s v) ≡ mode)
     → (s : List ℕ) → modeIn (firstOf s rows) ≡ mode
-unfolding contentsOf cellsFrom
+unfolding contentsOf cellsFrom cellIn
 mode-is rows v mode e a s = ap (λ (x : Cell). numberOf (contentOf s x)) (sym e) ∙ a s
 
 -- the path's member
-pub first-member : (s : List ℕ) (rows : Rows) → memberOf (firstOf s rows) 0 ≡ contentOf s (cellAt (getD rows 0 []) 0)
-unfolding contentsOf cellsFrom
+pub first-member : (s : List ℕ) (rows : Rows) → memberOf (firstOf s rows) 0 ≡ contentOf s (cellIn rows 0 0)
+unfolding contentsOf cellsFrom cellIn
 first-member s rows = refl
 
 -- ---- which entries

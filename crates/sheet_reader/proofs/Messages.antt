@@ -1,12 +1,12 @@
 -- From a message to its entries, as they stand in the table's first rows.
-use Prim.Native.Nat.{ℕ, _≤_, _<_}
+use Prim.Native.Nat.{ℕ, suc, _≤_, _<_}
 use mathlib.Core.Path.{_≡_, refl, sym, ap, subst, _∙_}
-use mathlib.Core.List.{List}
+use mathlib.Core.List.{List, [], _∷_}
 use mathlib.Core.Bool.{Bool, true, false}
 use native.Mathlib.Omega.{arith}
 use borrow.Author.Tests.{le-ltb}
 use lib.Dec.{ltb}
-use lib.ListN.{length}
+use lib.ListN.{length, getD}
 use Rattle.integers.specs.Digits.{pick}
 use Rattle.integers.proofs.Radix.{Below}
 use Rattle.containers.specs.declared.Onto.{Onto}
@@ -15,7 +15,7 @@ use Rattle.entries.specs.Entry.{Entries, Rows, overlay}
 use Rattle.glow.specs.declared.Answer.{Answer}
 use Rattle.glow.specs.declared.Answer.the-variants as glow
 use Rattle.glow.specs.Message.{Result, result, readOf, readAt, setup, walk}
-use Rattle.forest.specs.Content.{Item, itemsOf}
+use Rattle.forest.specs.Content.{itemsOf}
 use Rattle.forest.specs.Rows.{itemsIn}
 use Rattle.glow_writer.specs.Accepted.{accepted}
 use Rattle.read_trees.proofs.Message.{is-legal}
@@ -27,8 +27,13 @@ use Rattle.sheets.specs.Reading as reading
 use Rattle.sheets.specs.Reading.{refused, ofEntries, ofAnswer, ofMessage}
 use Rattle.sheet_reader.specs.declared.Sheet.{Sheet}
 use Rattle.sheet_reader.specs.declared.Sheet.the-variants.{Setup, Refused, Read}
-use Rattle.sheet_reader.specs.Calls.{leaves, told}
+use Rattle.sheet_reader.specs.Calls.{leaves}
 use Rattle.sheet_reader.specs.Steps.{Tells}
+
+-- the bytes of a slice are octets
+pub octets-all : (s : List ℕ) → ((i : ℕ) → getD s i 0 < 256) → Below 256 s
+octets-all [] h = tt
+octets-all (x ∷ xs) h = (h 0, octets-all xs (λ i. h (suc i)))
 
 module _ (w : ℕ) (m : List ℕ) (table : Rows) (few : length m ≤ 16384) (sized : length table ≡ 256) where
   -- by the tree reader's answer

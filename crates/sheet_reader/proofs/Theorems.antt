@@ -1,15 +1,14 @@
 -- The theorems of the route sheet reader, over the equation of its contract (`sheetRead side text store table path cells ≡ told r ..`): the sheet of every
 -- legal desk is read back as that desk, a desk that was read is legal, and a refusal leaves path and crosspoints as they were.
 use Prim.Native.Nat.{ℕ, _*_}
-use mathlib.Core.Path.{_≡_, refl, sym, ap, subst, _∙_}
+use mathlib.Core.Path.{_≡_, refl, sym, ap, _∙_}
 use mathlib.Core.List.{List, [], _∷_, _++_}
-use mathlib.Core.Bool.{Bool, true, false}
+use mathlib.Core.Bool.{true}
 use native.Mathlib.Omega.{arith}
 use borrow.Author.Tests.{eq-eqb, eqb-true}
 use lib.Dec.{ltb, eqb}
 use lib.ListN.{length, take, drop}
 use lib.Seq.{take-at, drop-at}
-use Rattle.integers.specs.Digits.{pick}
 use Rattle.containers.specs.declared.Onto.{Onto}
 use Rattle.containers.specs.declared.Onto.the-variants.{Next, Refused as Stopped}
 use Rattle.containers.proofs.Heads.{pick-by}
@@ -18,8 +17,8 @@ use Rattle.forest.specs.Content.{Item, itemsOf}
 use Rattle.glow.specs.Message.{walk}
 use Rattle.routing.specs.declared.Figures.{Figures}
 use Rattle.routing.specs.Figures.{side, both}
-use Rattle.routing.specs.Crosspoints.{Cells, clear, Answer}
-use Rattle.desk_calls.specs.Calls.{deskLegal, deskOpened, Served, handled}
+use Rattle.routing.specs.Crosspoints.{Cells, clear}
+use Rattle.desk_calls.specs.Calls.{deskLegal, deskOpened, handled}
 use Rattle.desk_calls.proofs.Setup.{desk-fits, desk-legal, desk-rest}
 use Rattle.desk_calls.proofs.Claims.{desk-opened-legal, handled-legal}
 use Rattle.sheets.specs.Sheet.{Desk, desk, sheetOf}
@@ -30,7 +29,7 @@ use Rattle.sheets.specs.Reading.{ofAnswer, ofMessage, heldIn, ofHeld, readSheet
 use Rattle.sheets.proofs.Theorems.{sheet-read}
 use Rattle.sheet_reader.specs.declared.Sheet.{Sheet}
 use Rattle.sheet_reader.specs.declared.Sheet.the-variants.{Setup, Refused, Read}
-use Rattle.sheet_reader.specs.Calls.{Given, Lent, Outcome, outcome, none, scratch, kept, leaves, isReady, sheetRead, told}
+use Rattle.sheet_reader.specs.Calls.{Given, Outcome, outcome, none, scratch, kept, leaves, isReady, sheetRead, told}
 use Rattle.sheet_reader.specs.Calls as calls
 
 -- What is lent has the lengths that the reader asks.

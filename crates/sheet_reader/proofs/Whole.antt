@@ -1,10 +1,10 @@
 -- The whole call: what is lent, what the text holds, and the message.
 use Prim.Native.Nat.{ℕ, _*_, _≤_}
-use mathlib.Core.Path.{_≡_, refl, sym, ap, subst, _∙_}
+use mathlib.Core.Path.{_≡_, refl, sym, ap, _∙_}
 use mathlib.Core.List.{List}
 use mathlib.Core.Bool.{Bool, true, false}
 use native.Mathlib.Omega.{arith}
-use borrow.Author.Tests.{eq-eqb, ne-eqb, eqb-true}
+use borrow.Author.Tests.{eq-eqb, ne-eqb}
 use lib.Dec.{eqb}
 use lib.ListN.{length, take}
 use Rattle.integers.specs.Digits.{pick}
@@ -12,16 +12,15 @@ use Rattle.entries.specs.Entry.{Rows}
 use Rattle.framing.specs.Numbers.{storeLength}
 use Rattle.routing.specs.Figures.{both}
 use Rattle.sheets.specs.Lines.{linesIn}
-use Rattle.sheets.specs.Reading as reading
 use Rattle.sheets.specs.Reading.{Held, refusal, message, heldIn, ofHeld, ofMessage, readSheet}
 use Rattle.sheet_stream.specs.declared.Found.{Found}
 use Rattle.sheet_stream.specs.declared.Found.the-variants as found
-use Rattle.sheet_stream.specs.Finding.{Outcome as Finding, setup, holds, finds, foundBy}
+use Rattle.sheet_stream.proofs.Messages.{held-short}
+use Rattle.sheet_stream.specs.Finding.{setup, holds, finds, foundBy}
 use Rattle.sheet_reader.specs.declared.Sheet.{Sheet}
-use Rattle.sheet_reader.specs.declared.Sheet.the-variants.{Setup, Refused, Read}
+use Rattle.sheet_reader.specs.declared.Sheet.the-variants.{Setup, Refused}
 use Rattle.sheet_reader.specs.Calls.{none, kept, Outcome, outcome, leaves, isReady, sheetRead, told}
 use Rattle.sheet_reader.specs.Steps.{Tells}
-use Rattle.sheet_reader.proofs.Bounds.{held-short}
 
 both-no : (a b : Bool) → b ≡ false → both a b ≡ false
 both-no true b h = h
@@ -115,7 +114,3 @@ module _ (w : ℕ) (text store : List ℕ) (table : Rows) (path cells : List ℕ
             pub message-told : (x : Sheet) (path′ cells′ : List ℕ) → Tells (ofMessage w (take k store′)) path cells x path′ cells′
                 → (s : List ℕ) (rows : Rows) → whole ≡ told x s rows path′ cells′
             message-told x path′ cells′ t s rows = holds-message .1 ∙ t s rows
-
--- a message is a part of the store
-pub front-all : (t : List ℕ) (n : ℕ) → length t ≤ n → take (length t) t ≡ take n t
-front-all t n h = lib.Seq.take-length t ∙ sym (lib.Seq.take-all n t h)

@@ -1,7 +1,7 @@
 -- The call that reads a route sheet (document 01, "Desk"): what it answers, and what it leaves of what is lent. `readSheet` (crates/sheets/specs/Reading.antt)
 -- is what reading a byte string gives.
 use Prim.Native.Nat.{ℕ, _*_}
-use mathlib.Core.List.{List, [], _++_}
+use mathlib.Core.List.{List, _++_}
 use mathlib.Core.Bool.{Bool}
 use lib.ListN.{length, drop}
 use lib.Dec.{eqb}

@@ -2,22 +2,19 @@
 use desk_calls::Called;
 use entries::Cell;
 use glow::Answer;
-use identifiers::Arc;
-use identifiers::Oid;
 use routing::Figures;
 use routing::Limit;
 use sheet_stream::Found;
 ghost use mathlib.Core.Path.{_≡_};
 ghost use mathlib.Core.Bool.{true};
-ghost use mathlib.Core.List.{List, [], _++_};
-ghost use Prim.Native.Nat.{ℕ, _≤_, _<_};
-ghost use lib.ListN.{length, getD, take, drop};
+ghost use mathlib.Core.List.{List, _++_};
+ghost use Prim.Native.Nat.{ℕ, _≤_};
+ghost use lib.ListN.{length, drop};
 ghost use Rattle.forest.specs.Content.{contentOf, isWord};
-ghost use Rattle.forest.specs.Rows.{cellAt, itemsIn};
+ghost use Rattle.forest.specs.Rows.{itemsIn};
 ghost use Rattle.glow_writer.specs.Accepted.{accepted};
 ghost use Rattle.routing.specs.Figures.{side};
-ghost use Rattle.desk_calls.specs.Connections.{numberOf, octetsOf, numbersIn};
-ghost use Rattle.desk_calls.specs.Steps.{Left, Goes};
+ghost use Rattle.desk_calls.specs.Connections.{octetsOf, numbersIn};
 ghost use Rattle.sheets.specs.Reading.{firstRefused, limitIn, figuresIn, opens, ofEntries, ofMessage};
 ghost use Rattle.sheet_reader.specs.Calls.{sheetRead, told};
 ghost use Rattle.sheet_reader.specs.Steps.{firstOf, isSheet, Taken, sheetBy, Tells};
@@ -39,32 +36,6 @@ fn index(x: u64) -> usize
     ensures { λ r. ⌜ r ≡ x ⌝ }
 {
     x as usize
-}
-
-// The cell c of the first row.
-fn cell_at(rows: &[[u64; 50]], c: usize) -> Cell
-    requires { ⌜ (0 < length (now rows)) × (c < 16) ⌝ }
-    ensures { λ r. ⌜ r ≡ cellAt (getD (now (rows .entry)) 0 []) c ⌝ }
-{
-    let j = 2 + c * 3;
-    Cell {
-        kind: rows[0][j],
-        first: rows[0][j + 1],
-        second: rows[0][j + 2],
-    }
-}
-
-// The number of a member, 0 where it has none.
-fn number_of(v: Cell) -> u64
-    ensures { λ r. ⌜ ((s : List ℕ) → numberOf (contentOf s v) ≡ r) ⌝ }
-{
-    if v.kind != 2 {
-        return 0;
-    }
-    if v.second != 0 {
-        return 0;
-    }
-    v.first
 }
 
 fn is_word(kind: u64) -> bool
@@ -94,14 +65,13 @@ fn limit_of(v: Cell) -> Limit
 
 // The figures of the entry in the first row: "type 2, .. targets 4, sources 5, total limit 6, limit per target 7".
 fn figures_of(rows: &[[u64; 50]]) -> Figures
-    requires { ⌜ 0 < length (now rows) ⌝ }
     ensures { λ r. ⌜ ((s : List ℕ) → figuresIn (firstOf s (now (rows .entry))) ≡ r) ⌝ }
 {
-    let kind = number_of(cell_at(rows, 3));
-    let targets = number_of(cell_at(rows, 5));
-    let sources = number_of(cell_at(rows, 6));
-    let total = limit_of(cell_at(rows, 7));
-    let each = limit_of(cell_at(rows, 8));
+    let kind = desk_calls::number_of(desk_calls::cell_at(rows, 0, 3));
+    let targets = desk_calls::number_of(desk_calls::cell_at(rows, 0, 5));
+    let sources = desk_calls::number_of(desk_calls::cell_at(rows, 0, 6));
+    let total = limit_of(desk_calls::cell_at(rows, 0, 7));
+    let each = limit_of(desk_calls::cell_at(rows, 0, 8));
     Figures {
         kind,
         targets,
@@ -132,51 +102,16 @@ fn is_sheet(rows: &[[u64; 50]], count: usize) -> bool
     true
 }
 
-// The end of an identifier's numbers: that of its octets, or 0 where these are none.
-fn list_end(octets: &[u8]) -> usize
-    ensures { λ r. ⌜ Left (now (octets .entry)) 0 r (numbersIn (now (octets .entry))) ⌝ }
-{
-    match identifiers::read_oid(octets, 0, octets.len()) {
-        Oid::Numbers(_) => octets.len(),
-        Oid::Range => 0,
-        Oid::Refused => 0,
-    }
-}
-
-// A number of an identifier, and where the next one begins.
-struct Step {
-    number: u64,
-    next: usize,
-}
-
-fn next_number(octets: &[u8], p: usize, end: usize) -> Step
-    requires { ⌜ p < end ⌝ }
-    ensures { λ r. ⌜ ((xs : List ℕ) → Left (now (octets .entry)) p end xs → Goes (now (octets .entry)) end xs (r .number) (r .next)) ⌝ }
-    ensures { λ r. ⌜ (p < r .next) × (r .next ≤ end) ⌝ }
-{
-    match identifiers::read_number(octets, p, end) {
-        Arc::Number { number, next } => Step { number, next },
-        Arc::Range { next: _ } => Step {
-            number: 0,
-            next: end,
-        },
-        Arc::Refused => Step {
-            number: 0,
-            next: end,
-        },
-    }
-}
-
 // The numbers of an identifier, at the start of `list`: how many; 17 where there are more than 16.
 fn numbers_of(octets: &[u8], list: &mut [u64]) -> usize
     requires { ⌜ length (now list) ≡ 16 ⌝ }
     ensures { λ r. ⌜ Taken (numbersIn (now (octets .entry))) r (now (list .exit)) ⌝ }
 {
-    let end = list_end(octets);
+    let end = desk_calls::list_end(octets);
     let mut p: usize = 0;
     let mut k: usize = 0;
     while p < end {
-        let x = next_number(octets, p, end);
+        let x = desk_calls::next_number(octets, p, end);
         if 16 <= k {
             return 17;
         }
@@ -315,12 +250,12 @@ fn of_entries(
         return Sheet::Refused { number: 33 };
     }
     let mut numbers = [0u64; 16];
-    let n = path_of(s, cell_at(rows, 0), &mut numbers);
+    let n = path_of(s, desk_calls::cell_at(rows, 0, 0), &mut numbers);
     if 16 < n {
         return Sheet::Refused { number: 45 };
     }
     let f = figures_of(rows);
-    let mode = number_of(cell_at(rows, 4));
+    let mode = desk_calls::number_of(desk_calls::cell_at(rows, 0, 4));
     let mut cells = [0u8; 4096];
     let number = apply(f, mode, &numbers[..n], rows, count, root, s, &mut cells);
     hand_over(number, f, &numbers[..n], &cells, path, crosspoints)
@@ -338,17 +273,6 @@ fn of_message(m: &[u8], table: &mut [[u64; 50]], path: &mut [u64], crosspoints: 
         Answer::Room { count: _ } => Sheet::Refused { number: 38 },
         Answer::Read { root, count } => of_entries(table, count, root, m, path, crosspoints),
     }
-}
-
-// A message of n bytes is a part of the store.
-fn front(store: &[u8], n: usize) -> usize
-    ensures { λ r. ⌜ take r (now (store .entry)) ≡ take n (now (store .entry)) ⌝ }
-    ensures { λ r. ⌜ r ≤ length (now (store .entry)) ⌝ }
-{
-    if n < store.len() {
-        return n;
-    }
-    store.len()
 }
 
 // Reads a route sheet: a desk, with its path in the first `length` words of `path` and its crosspoints in `crosspoints`; or the first refusal, with both as
@@ -377,7 +301,7 @@ pub fn read(
         Found::Setup => Sheet::Setup,
         Found::Refused { number } => Sheet::Refused { number },
         Found::Message { length } => {
-            let n = front(store, length);
+            let n = turns::front(store, length);
             of_message(&store[..n], table, path, crosspoints)
         }
     }

@@ -11,7 +11,7 @@ use lib.Seq.{drop-cons}
 use lib.Dec.{ltb, eqb}
 use Rattle.integers.specs.Digits.{pick}
 use Rattle.sheets.specs.Lines.{digitOf, Stream, bad, stream, push, Come, fresh, pairs, half, linesFrom, linesIn}
-use Rattle.sheets.specs.Steps.{isBad}
+use Rattle.sheets.specs.Lines.{isBad}
 use Rattle.sheet_stream.specs.Steps.{bytesFrom}
 
 push-bad : (b : ℕ) (x : Stream) → isBad (push b x) ≡ isBad x

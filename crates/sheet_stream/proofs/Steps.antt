@@ -27,7 +27,7 @@ use Rattle.framing.proofs.Lists.{take-sets-le}
 use Rattle.framing.proofs.Laws.{legal-true, true-legal, Bounded, bounded-state, Within, within-step, kept-state, legal-next, number-high}
 use Rattle.sheets.specs.Lines.{Stream, linesIn}
 use Rattle.sheets.specs.Reading.{refusal, message, inFrame, somethingOpen, ofEvents, heldIn}
-use Rattle.sheets.specs.Steps.{isBad}
+use Rattle.sheets.specs.Lines.{isBad}
 use Rattle.sheet_stream.specs.declared.Tally.{Tally}
 use Rattle.sheet_stream.specs.Finding.{setup, holds, finds}
 use Rattle.sheet_stream.specs.Steps.{frameOpen, partOpen, openIn, bytesFrom, another, collects, left, Sound, Taken}

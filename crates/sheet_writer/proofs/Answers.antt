@@ -15,8 +15,9 @@ use Rattle.routing.specs.declared.Figures.{Figures}
 use Rattle.routing.specs.Crosspoints.{Cells}
 use Rattle.desk_calls.specs.Calls.{deskLegal}
 use Rattle.sheets.specs.Sheet.{desk, sheetMessage, sheetOf}
-use Rattle.sheets.specs.Steps.{breaksInto}
+use Rattle.sheets.specs.Sheet.{breaksInto}
 use Rattle.sheets.proofs.Suited.{sheet-legal}
+use Rattle.sheets.proofs.Theorems.{bytes-of}
 use Rattle.sheets.proofs.Sizes.{sheet-octets, sheet-size}
 use Rattle.sheets.proofs.Reals.{sheet-below}
 use Rattle.sheets.proofs.Breaks.{message-break}
@@ -25,10 +26,6 @@ use Rattle.sheet_writer.specs.declared.Answer.the-variants.{Setup}
 use Rattle.sheet_writer.specs.Calls.{told, writesSheet}
 use Rattle.sheet_writer.specs.Steps.{said}
 use Rattle.sheet_writer.proofs.Packets.{frames-length, text-length}
-
-bytes-of : (xs : List ℕ) → Below 256 xs → Bytes xs
-bytes-of [] h = tt
-bytes-of (x ∷ xs) h = (h .0, bytes-of xs (h .1))
 
 said-told : (r : Written) (o : List ℕ) → outcome r o ≡ told (said r) o
 said-told (written.Done n) o = refl

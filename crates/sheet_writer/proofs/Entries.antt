@@ -14,7 +14,6 @@ use Rattle.integers.specs.declared.Wrote.the-variants.{Next}
 use Rattle.integers.specs.Digits as digit
 use Rattle.integers.proofs.Radix.{count-least}
 use Rattle.tags.specs.Write.{septets}
-use Rattle.tags.proofs.Septets.{length-septets}
 use Rattle.identifiers.specs.Identifier.{oidOctets, inRange, putOid}
 use Rattle.entries.specs.Cell.{absent, numbersCell}
 use Rattle.entries.specs.Entry.{Entry, Entries, blanks, row, Rows, overlay}
@@ -42,7 +41,7 @@ use Rattle.desk_calls.specs.Calls.{deskLegal}
 use Rattle.sheets.specs.Sheet.{desk, sourcesFrom, sourcesAt, number, list, limit, leftOut, linkMembers, matrixMembers, links, sheetTree, sheetMessage}
 use Rattle.sheets.proofs.Asked.{flat-sheet, path-ok, cells-ok, path-small}
 use Rattle.sheets.proofs.Suited.{path-short, total-fits, each-fits, sheet-legal, sheet-count}
-use Rattle.sheets.proofs.Sizes.{sheet-size}
+use Rattle.sheets.proofs.Sizes.{sheet-size, path-size as path-octets}
 use Rattle.sheet_writer.specs.Steps.{numberCell, limitCell, listCell, matrixEntry, linkEntry, Filled, filled, withLink, withLinks}
 
 -- ---- the octets of identifiers
@@ -73,22 +72,6 @@ sources-few s (c ∷ cs) = go (eqb c 0) (sources-few (suc s) cs)
     go : (u : Bool) → length (sourcesFrom (suc s) cs) ≤ length cs → length (pick u (sourcesFrom (suc s) cs) (s ∷ sourcesFrom (suc s) cs)) ≤ suc (length cs)
     go true r = omega arith
     go false r = omega arith
-
--- a path: five octets a number at most
-septets-five : (n : ℕ) → n ≤ 2147483647 → length (septets n) ≤ 5
-septets-five n h =
-    let c : digit.count 128 (n / 128) ≤ 4 = count-least 128 (omega arith) (n / 128) (n / 128) 4 (omega arith) (omega arith) in
-    omega (arith, length-septets n, c)
-
-pub path-few : (ns : List ℕ) → inRange ns ≡ true → length (oidOctets ns) ≤ 5 * length ns
-unfolding oidOctets
-path-few [] r = omega arith
-path-few (n ∷ ns) r = go (leb n 2147483647) refl r (path-few ns)
-  where
-    go : (u : Bool) → leb n 2147483647 ≡ u → pick u (inRange ns) false ≡ true → (inRange ns ≡ true → length (oidOctets ns) ≤ 5 * length ns)
-        → length (septets n ++ oidOctets ns) ≤ 5 * suc (length ns)
-    go true e k q = omega (arith, length-append (septets n) (oidOctets ns), septets-five n (leb-true n 2147483647 e), q k)
-    go false e k q = let z : false ≡ true = k in let y : _≡_ {A = ℕ} 0 1 = cc in absurd (omega arith)
 
 -- ---- cells by content
 
@@ -248,7 +231,7 @@ module _ (w : ℕ) (f : Figures) (path : List ℕ) (cells : Cells) (few : w ≤ 
 
   pub path-size : length ps ≤ 80
   path-size =
-      let a = path-few path (path-small w f path cells few ok) in
+      let a = path-octets path (path-small w f path cells few ok) in
       let b = path-short path (path-ok w f path cells few ok) in
       omega (arith, a, b)
 

@@ -8,7 +8,6 @@ use borrow.Author.Tests.{le-leb}
 use lib.ListN.{length, take, drop}
 use Rattle.integers.specs.Digits.{pick}
 use Rattle.framing_writer.specs.Written.{Outcome, into}
-use Rattle.framing_writer.specs.declared.Written.the-variants as written
 use Rattle.framing_writer.proofs.Laws.{into-back}
 use Rattle.routing.specs.declared.Figures.{Figures}
 use Rattle.routing.specs.Figures.{side}

@@ -15,8 +15,7 @@ use Rattle.framing.specs.Checksum.{checksum, octetsOf}
 use Rattle.framing_writer.specs.Written.{escape, escapes, sealed, frame, flags, header, packetBody, packet, packets, payloadLimit, earlier, inPackets}
 use Rattle.framing_writer.specs.Read.{Bytes}
 use Rattle.framing_writer.proofs.Laws.{escape-plain, escape-high}
-use Rattle.sheets.specs.Sheet.{hexText, lineOf, packetLines, messageLines}
-use Rattle.sheets.specs.Steps.{broken, breaks}
+use Rattle.sheets.specs.Sheet.{hexText, broken, breaks, lineOf, packetLines, messageLines}
 use Rattle.sheets.proofs.Stream.{bytes-append, bytes-take, bytes-drop, checksum-small, flags-small}
 
 -- bytes below EOF

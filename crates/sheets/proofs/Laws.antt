@@ -13,7 +13,7 @@ use lib.Dec.{ltb, eqb}
 use Rattle.integers.specs.Digits.{pick}
 use Rattle.sheets.specs.Sheet.{glyphOf}
 use Rattle.sheets.specs.Lines.{digitOf, Stream, bad, stream, push, Come, fresh, pairs, half, linesFrom, linesIn}
-use Rattle.sheets.specs.Steps.{broken, breaks, isBad, stepLine, badFrom, comes}
+use Rattle.sheets.specs.Steps.{stepLine, badFrom, comes}
 
 -- ---- a byte's digits
 

@@ -70,7 +70,7 @@ septets-five n h =
     omega (arith, length-septets n, c)
 
 -- a path: five octets a number at most
-path-size : (ns : List ℕ) → inRange ns ≡ true → length (oidOctets ns) ≤ 5 * length ns
+pub path-size : (ns : List ℕ) → inRange ns ≡ true → length (oidOctets ns) ≤ 5 * length ns
 unfolding oidOctets
 path-size [] r = omega arith
 path-size (n ∷ ns) r = go (leb n 2147483647) refl r (path-size ns)

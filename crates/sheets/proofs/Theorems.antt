@@ -32,7 +32,7 @@ use Rattle.sheets.proofs.Suited.{sheet-legal, sheet-count}
 use Rattle.sheets.proofs.Reals.{sheet-below}
 use Rattle.sheets.proofs.Sizes.{sheet-octets, sheet-size}
 
-bytes-of : (xs : List ℕ) → Below 256 xs → Bytes xs
+pub bytes-of : (xs : List ℕ) → Below 256 xs → Bytes xs
 bytes-of [] h = tt
 bytes-of (x ∷ xs) h = (h .0, bytes-of xs (h .1))
 

@@ -53,3 +53,8 @@ linesFrom (half d) (b ∷ bs) =
 
 abbrev pub linesIn : List ℕ → Stream
 linesIn text = linesFrom fresh text
+
+-- whether there is a bad line
+abbrev pub isBad : Stream → Bool
+isBad bad = true
+isBad (stream bs) = false

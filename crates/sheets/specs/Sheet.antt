@@ -11,7 +11,7 @@ use Rattle.grammar.specs.Grammar.{qualifiedMatrix, connection}
 use Rattle.forest.specs.Content.{Content, nothing, word, bytes}
 use Rattle.forest.specs.Trees.{Trees, none, tree}
 use Rattle.forest.specs.Written.{messageOctets, writtenReal}
-use Rattle.framing_writer.specs.Written.{packet, payloadLimit, earlier}
+use Rattle.framing_writer.specs.Written.{packet, payloadLimit, earlier, Outcome, limited}
 use Rattle.routing.specs.declared.Limit.{Limit}
 use Rattle.routing.specs.declared.Limit.the-variants.{Absent, Most}
 use Rattle.routing.specs.declared.Figures.{Figures}
@@ -102,3 +102,17 @@ messageLines m = packetLines (earlier (length m)) true m
 -- The sheet.
 unfoldable pub sheetOf : ℕ → Desk → List ℕ
 sheetOf w d = messageLines (sheetMessage w d)
+
+-- ---- frames as lines (`write_lines`), whatever message they hold
+
+-- A byte in two digits; EOF ends a frame, and 0A its line. So frames, one after another, are written as lines (`message-break`).
+unfoldable pub broken : ℕ → List ℕ
+broken b = glyphOf (b / 16) ∷ glyphOf (b % 16) ∷ pick (eqb b 255) (10 ∷ []) []
+
+unfoldable pub breaks : List ℕ → List ℕ
+breaks [] = []
+breaks (b ∷ bs) = broken b ++ breaks bs
+
+-- frames of at most 65,536 bytes as lines, or 46
+abbrev pub breaksInto : List ℕ → List ℕ → Outcome
+breaksInto bs o = limited (length bs) 65536 (breaks bs) o

@@ -1,4 +1,4 @@
-// Route sheets: what a desk's sheet is, what reading a sheet gives, and that the one undoes the other. The code so far is the text of sheets: frames into
+// Route sheets: what a desk's sheet is, what reading a sheet gives, and that the one undoes the other. The code here is the text of sheets: frames into
 // lines, and whether lines are right.
 use framing_writer::Written;
 ghost use mathlib.Core.Path.{_≡_};
@@ -7,9 +7,9 @@ ghost use mathlib.Core.List.{List, [], _∷_};
 ghost use lib.ListN.{length};
 ghost use Rattle.framing_writer.specs.Written.{outcome};
 ghost use Rattle.framing_writer.specs.Stores.{wrote};
-ghost use Rattle.sheets.specs.Sheet.{glyphOf};
-ghost use Rattle.sheets.specs.Lines.{digitOf, linesIn};
-ghost use Rattle.sheets.specs.Steps.{broken, breaks, breaksInto, room, isBad, stepLine};
+ghost use Rattle.sheets.specs.Sheet.{glyphOf, broken, breaks, breaksInto};
+ghost use Rattle.sheets.specs.Lines.{digitOf, linesIn, isBad};
+ghost use Rattle.sheets.specs.Steps.{room, stepLine};
 
 // A byte, stored only where the output has a place for it. So over an output of no bytes the functions below count.
 fn emit(out: &mut [u8], at: usize, b: u8) -> usize
@@ -59,7 +59,7 @@ fn emit_lines(out: &mut [u8], at: usize, s: &[u8]) -> usize
     next
 }
 
-// Frames as lines: upper-case hexadecimal, one frame and 0A a line.
+// Frames as lines: upper-case hexadecimal, one frame and 0A a line. 46 where the output is too short, or the frames have more than 65,536 bytes.
 pub fn write_lines(frames: &[u8], out: &mut [u8]) -> Written
     ensures { λ r. ⌜ breaksInto (now (frames .entry)) (now (out .entry)) ≡ outcome r (now (out .exit)) ⌝ }
 {

@@ -1,5 +1,5 @@
 -- THE CLAIM for the function `turn`: whatever list of its calls is made, from a fresh session, any store of the right length and a desk in any legal state,
--- it tells what the rules tell for the bytes consumed so far, and leaves what they keep.
+-- an answer lent for each row of the table, it tells what the rules tell for the bytes consumed so far, and leaves what they keep.
 use mathlib.Core.Bool.{true}
 use mathlib.Core.List.{List, [], append-nil}
 use mathlib.Core.Path.{_≡_, sym, ap, subst, _∙_}

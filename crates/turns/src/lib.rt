@@ -29,8 +29,8 @@ pub struct Turned {
     pub after: After,
 }
 
-// A message of n bytes is a part of the store.
-fn front(store: &[u8], n: usize) -> usize
+// How many of its first n bytes a store has: n, or its length where that is less.
+pub fn front(store: &[u8], n: usize) -> usize
     ensures { λ r. ⌜ take r (now (store .entry)) ≡ take n (now (store .entry)) ⌝ }
     ensures { λ r. ⌜ r ≤ length (now (store .entry)) ⌝ }
 {

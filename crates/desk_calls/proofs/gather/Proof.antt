@@ -5,8 +5,8 @@ use mathlib.Core.List.{List, _++_}
 use Prim.Native.Nat.{ℕ, _-_}
 use lib.ListN.{length-set}
 use lib.ListN.{length, take}
-use Rattle.desk_calls.specs.Steps.{Left, Kept}
-use Rattle.desk_calls.specs.Connections.{numbersIn}
+use Rattle.desk_calls.specs.Steps.{Kept}
+use Rattle.desk_calls.specs.Connections.{numbersIn, Left}
 use Rattle.desk_calls.proofs.Numbers.{left-none}
 use Rattle.desk_calls.proofs.Sources.{Alike, kept-none, kept-le, gather-more, gather-end, gather-out}
 use Rattle.desk_calls.proofs.gather.Statement.{statement}
@@ -30,9 +30,7 @@ loop-holds c =
     (_, (the-list-end .ensures, (kept-none _ _ (the-Start .pre .1 .0) (the-Start .pre .1 .1), (λ x. refl, (refl, refl)))))
 
 next-number-requires : tie.Need-next-number-requires Inv-loop μ-loop
-next-number-requires c κs =
-    let the-loop-test = c .loop-test in
-    the-loop-test .taken
+next-number-requires c κs = search needs
 
 slice-write-list : tie.Need-slice-write-list Inv-loop μ-loop
 slice-write-list c =
@@ -53,11 +51,12 @@ same-length-2 c =
 returns : tie.Need-returns Inv-loop μ-loop
 returns c =
     let the-loop = c .before .before .before .before .loop in
+    let the-loop-test = c .before .before .before .loop-test in
     let the-next-number = c .before .before .next-number in
     let the-if1 = c .if1 in
     let i = the-loop .inv in
     let r = i .1 .1 .0 .room in
-    let g = the-next-number .ensures .0 (i .0) (i .1 .0) in (
+    let g = the-next-number .ensures .0 (the-loop-test .taken) (i .0) (i .1 .0) in (
       gather-out _ (take (the-loop .k) (the-loop .list)) (i .0) (g .0) _ (the-loop .list) _ (g .1 .0)
           (i .1 .1 .1 .0) (omega (arith, the-if1 .taken)) (omega (arith, r)),
       omega arith,
@@ -72,16 +71,18 @@ keep-requires c κs =
 
 loop-less : tie.Need-loop-less Inv-loop μ-loop
 loop-less c =
+    let the-loop-test = c .before .before .before .before .before .before .before .before .before .before .loop-test in
     let the-next-number = c .before .before .before .before .before .before .before .before .before .next-number in
-    let w = the-next-number .ensures .1 in omega arith
+    let w = the-next-number .ensures .1 (the-loop-test .taken) in omega arith
 
 loop-again : tie.Need-loop-again Inv-loop μ-loop
 loop-again c =
     let the-loop = c .before .before .before .before .before .before .before .before .before .before .before .loop in
+    let the-loop-test = c .before .before .before .before .before .before .before .before .before .before .loop-test in
     let the-next-number = c .before .before .before .before .before .before .before .before .before .next-number in
     let the-keep = c .before .before .before .before .keep in
     let i = the-loop .inv in
-    let g = the-next-number .ensures .0 (i .0) (i .1 .0) in (
+    let g = the-next-number .ensures .0 (the-loop-test .taken) (i .0) (i .1 .0) in (
       g .0,
       (
         g .1 .1,

@@ -36,11 +36,7 @@ index-requires : tie.Need-index-requires Inv-loop μ-loop
 index-requires c κs = search needs
 
 cell-at-requires : tie.Need-cell-at-requires Inv-loop μ-loop
-cell-at-requires c κs =
-    let the-wide = c .before .before .wide in
-    let the-index = c .index in
-    let the-Start = c .before .before .before .before .before .before .before in
-    let w = the-wide .ensures in let a = the-index .ensures in let b = the-Start .pre .1 in (omega arith, omega arith)
+cell-at-requires c κs = search needs
 
 word-at-requires : tie.Need-word-at-requires Inv-loop μ-loop
 word-at-requires c κs =

@@ -22,24 +22,21 @@ returns : tie.Need-returns
 returns c =
     let the-number = c .before .number in
     let the-read-number = c .before .before .before .read-number in
-    let the-Start = c .before .before .before .before .before in
     let w = subst (ArcWithin _ _) (the-number .given .1) (the-read-number .ensures .1) in
-    (goes-number _ _ _ _ _ (the-Start .pre) (sym (the-read-number .ensures .0 .is) ∙ the-number .given .1) (w .0), w)
+    (λ h. goes-number _ _ _ _ _ h (sym (the-read-number .ensures .0 .is) ∙ the-number .given .1) (w .0), λ h. w)
 
 returns-2 : tie.Need-returns-2
 returns-2 c =
     let the-enum-told = c .enum-told in
     let the-read-number = c .before .before .read-number in
-    let the-Start = c .before .before .before .before in
     let w = subst (ArcWithin _ _) (the-enum-told .given .1) (the-read-number .ensures .1) in
-    (goes-over _ _ _ _ _ _ (the-Start .pre) (sym (the-read-number .ensures .0 .is) ∙ the-enum-told .given .1) (w .0), (the-Start .pre, omega arith))
+    (λ h. goes-over _ _ _ _ _ _ h (sym (the-read-number .ensures .0 .is) ∙ the-enum-told .given .1) (w .0), λ h. (h, omega arith))
 
 returns-3 : tie.Need-returns-3
 returns-3 c =
-    let the-Start = c .before .before .before .before in
     let the-read-number = c .before .before .read-number in
     let the-enum-told2 = c .enum-told2 in
-    (goes-bad _ _ _ _ _ (the-Start .pre) (sym (the-read-number .ensures .0 .is) ∙ the-enum-told2 .given .1), (the-Start .pre, omega arith))
+    (λ h. goes-bad _ _ _ _ _ h (sym (the-read-number .ensures .0 .is) ∙ the-enum-told2 .given .1), λ h. (h, omega arith))
 
 pub next-number-spec : {M : Type 1} → statement M
 next-number-spec =

@@ -4,9 +4,8 @@ use mathlib.Core.Path.{_≡_, refl, _∙_}
 use mathlib.Core.List.{List}
 use Prim.Native.Nat.{ℕ, _-_}
 use lib.ListN.{drop}
-use Rattle.desk_calls.specs.Steps.{Left}
 use Rattle.desk_calls.specs.Calls.{same}
-use Rattle.desk_calls.specs.Connections.{numbersIn}
+use Rattle.desk_calls.specs.Connections.{numbersIn, Left}
 use Rattle.desk_calls.proofs.Numbers.{left-none, same-none, same-short, same-other, same-more}
 use Rattle.desk_calls.proofs.same_numbers.Statement.{statement}
 use Rattle.desk_calls.proofs.same_numbers.Tie as tie
@@ -26,17 +25,16 @@ loop-holds c =
     (_, (the-list-end .ensures, refl))
 
 next-number-requires : tie.Need-next-number-requires Inv-loop μ-loop
-next-number-requires c κs =
-    let the-loop-test = c .loop-test in
-    the-loop-test .taken
+next-number-requires c κs = search needs
 
 returns : tie.Need-returns Inv-loop μ-loop
 returns c =
     let the-loop = c .before .before .before .loop in
+    let the-loop-test = c .before .before .loop-test in
     let the-next-number = c .before .next-number in
     let the-if1 = c .if1 in
     let i = the-loop .inv in
-    let g = the-next-number .ensures .0 (i .0) (i .1 .0) in
+    let g = the-next-number .ensures .0 (the-loop-test .taken) (i .0) (i .1 .0) in
     i .1 .1 ∙ same-short (i .0) _ (the-loop .j) _ (g .0) (g .1 .0) (the-if1 .taken)
 
 mul-if2 : tie.Need-mul-if2 Inv-loop μ-loop
@@ -50,11 +48,12 @@ shared-slice-read-if2 c =
 returns-2 : tie.Need-returns-2 Inv-loop μ-loop
 returns-2 c =
     let the-loop = c .before .before .before .before .before .before .loop in
+    let the-loop-test = c .before .before .before .before .before .loop-test in
     let the-next-number = c .before .before .before .before .next-number in
     let the-if1 = c .before .before .before .if1 in
     let the-if2 = c .if2 in
     let i = the-loop .inv in
-    let g = the-next-number .ensures .0 (i .0) (i .1 .0) in
+    let g = the-next-number .ensures .0 (the-loop-test .taken) (i .0) (i .1 .0) in
     i .1 .1 ∙ same-other (i .0) _ (the-loop .j) _ (g .0) (g .1 .0) (the-if1 .left) (the-if2 .taken)
 
 add-j : tie.Need-add-j Inv-loop μ-loop
@@ -62,17 +61,19 @@ add-j c = omega arith
 
 loop-less : tie.Need-loop-less Inv-loop μ-loop
 loop-less c =
+    let the-loop-test = c .before .before .before .before .before .loop-test in
     let the-next-number = c .before .before .before .before .next-number in
-    let w = the-next-number .ensures .1 in omega arith
+    let w = the-next-number .ensures .1 (the-loop-test .taken) in omega arith
 
 loop-again : tie.Need-loop-again Inv-loop μ-loop
 loop-again c =
     let the-loop = c .before .before .before .before .before .before .loop in
+    let the-loop-test = c .before .before .before .before .before .loop-test in
     let the-next-number = c .before .before .before .before .next-number in
     let the-if1 = c .before .before .before .if1 in
     let the-if2 = c .if2 in
     let i = the-loop .inv in
-    let g = the-next-number .ensures .0 (i .0) (i .1 .0) in
+    let g = the-next-number .ensures .0 (the-loop-test .taken) (i .0) (i .1 .0) in
     (g .0, (g .1 .1, i .1 .1 ∙ same-more (i .0) _ (the-loop .j) _ (g .0) (g .1 .0) (the-if1 .left) (the-if2 .left)))
 
 returns-3 : tie.Need-returns-3 Inv-loop μ-loop

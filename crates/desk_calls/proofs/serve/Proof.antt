@@ -20,8 +20,8 @@ loop-holds c =
     let the-Start = c .before .before .before .before in
     (serve-start _ _ _ _ _ (the-Start .pre .1 .1 .0) _ _, (omega arith, (refl, refl)))
 
-turn-requires : tie.Need-turn-requires Inv-loop μ-loop
-turn-requires c κs =
+take-entry-requires : tie.Need-take-entry-requires Inv-loop μ-loop
+take-entry-requires c κs =
     let the-loop = c .before .before .before .loop in
     let the-Start = c .before .before .before .before .before .before .before .before in
     let the-loop-test = c .before .before .loop-test in
@@ -38,10 +38,10 @@ loop-less c = omega arith
 loop-again : tie.Need-loop-again Inv-loop μ-loop
 loop-again c =
     let the-loop = c .before .before .before .before .before .before .before .before .loop in
-    let the-turn = c .before .before .before .before .turn in
+    let the-entry = c .before .before .before .before .take-entry in
     let i = the-loop .inv in
-    let t = the-turn .ensures in
-    (i .0 ∙ t .0, (omega (arith, i .1 .0, t .1), (the-turn .kept .1 .1 .1 .1 .1 .1 .0 ∙ i .1 .1 .0, the-turn .kept .1 .1 .1 .1 .1 .1 .1 .0 ∙ i .1 .1 .1)))
+    let t = the-entry .ensures in
+    (i .0 ∙ t .0, (omega (arith, i .1 .0, t .1), (the-entry .kept .1 .1 .1 .1 .1 .1 .0 ∙ i .1 .1 .0, the-entry .kept .1 .1 .1 .1 .1 .1 .1 .0 ∙ i .1 .1 .1)))
 
 same-length : tie.Need-same-length Inv-loop μ-loop
 same-length c =
@@ -67,7 +67,7 @@ serve-spec =
     Inv-loop
     μ-loop
     loop-holds
-    turn-requires
+    take-entry-requires
     add-i
     loop-less
     loop-again

@@ -3,7 +3,7 @@ use Rattle.sheet_reader.proofs.Numbers.{copy-more, copy-end, copy-lengt
 use lib.ListN.{length, take, drop, set, getD}
 use Prim.Native.Nat.{_-_, _≤_}
 use mathlib.Core.List.{_++_}
-use mathlib.Core.Path.{_≡_, refl, sym, ap, _∙_}
+use mathlib.Core.Path.{_≡_, refl, ap, _∙_}
 use native.Mathlib.Omega.{arith}
 use Rattle.sheet_reader.proofs.copy_bytes.Statement.{statement}
 use Rattle.sheet_reader.proofs.copy_bytes.Tie as tie

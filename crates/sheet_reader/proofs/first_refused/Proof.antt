@@ -3,7 +3,7 @@ use Rattle.sheet_reader.proofs.Numbers.{refused-none, refused-one, refu
 use Rattle.sheets.specs.Reading.{firstRefused}
 use lib.ListN.{length, drop}
 use Prim.Native.Nat.{_-_}
-use mathlib.Core.Path.{_≡_, refl, sym, ap, _∙_}
+use mathlib.Core.Path.{_≡_, refl, _∙_}
 use native.Mathlib.Omega.{arith}
 use Rattle.sheet_reader.proofs.first_refused.Statement.{statement}
 use Rattle.sheet_reader.proofs.first_refused.Tie as tie

@@ -3,10 +3,10 @@ use Rattle.sheet_reader.proofs.Members.{sheet-none, sheet-other, sheet-
 use Rattle.sheet_reader.specs.Steps.{isSheet}
 use Rattle.sheets.specs.Reading.{allLinks}
 use Rattle.forest.specs.Rows.{itemsIn}
-use lib.ListN.{length, drop}
-use Prim.Native.Nat.{ℕ, _-_, _≤_}
+use lib.ListN.{drop}
+use Prim.Native.Nat.{ℕ, _-_}
 use mathlib.Core.List.{List}
-use mathlib.Core.Path.{_≡_, refl, sym, ap, _∙_}
+use mathlib.Core.Path.{_≡_, _∙_}
 use native.Mathlib.Omega.{arith}
 use Rattle.sheet_reader.proofs.is_sheet.Statement.{statement}
 use Rattle.sheet_reader.proofs.is_sheet.Tie as tie

@@ -1,12 +1,11 @@
 use borrow.Author.Needs.{needs}
 use Rattle.sheet_reader.proofs.Numbers.{taken-end, taken-more, taken-over}
 use Rattle.desk_calls.proofs.Numbers.{left-none}
-use Rattle.desk_calls.specs.Steps.{Left}
-use Rattle.desk_calls.specs.Connections.{numbersIn}
+use Rattle.desk_calls.specs.Connections.{numbersIn, Left}
 use lib.ListN.{length, take, length-set}
 use Prim.Native.Nat.{ℕ, _-_, _≤_}
 use mathlib.Core.List.{List, _++_}
-use mathlib.Core.Path.{_≡_, refl, sym, ap, _∙_}
+use mathlib.Core.Path.{_≡_, refl, _∙_}
 use native.Mathlib.Omega.{arith}
 use Rattle.sheet_reader.proofs.numbers_of.Statement.{statement}
 use Rattle.sheet_reader.proofs.numbers_of.Tie as tie
@@ -26,9 +25,7 @@ loop-holds c =
     (_, (the-list-end .ensures, (refl, (refl, omega arith))))
 
 next-number-requires : tie.Need-next-number-requires Inv-loop μ-loop
-next-number-requires c κs =
-    let the-loop-test = c .loop-test in
-    the-loop-test .taken
+next-number-requires c κs = search needs
 
 same-length : tie.Need-same-length Inv-loop μ-loop
 same-length c =
@@ -39,8 +36,9 @@ returns : tie.Need-returns Inv-loop μ-loop
 returns c =
     let the-Start = c .before .before .before .before .before .before .before in
     let the-loop = c .before .before .before .loop in
+    let the-loop-test = c .before .before .loop-test in
     let the-next-number = c .before .next-number in
-    let i = the-loop .inv in let l = i .1 .1 .1 .1 in let g = the-next-number .ensures .0 (i .0) (i .1 .0) in taken-over _ _ (i .0) (the-loop .k) (i .1 .1 .1 .0 ∙ the-Start .pre) (i .1 .1 .0) _ (g .0) (g .1 .0) (omega arith)
+    let i = the-loop .inv in let l = i .1 .1 .1 .1 in let g = the-next-number .ensures .0 (the-loop-test .taken) (i .0) (i .1 .0) in taken-over _ _ (i .0) (the-loop .k) (i .1 .1 .1 .0 ∙ the-Start .pre) (i .1 .1 .0) _ (g .0) (g .1 .0) (omega arith)
 
 mul-list : tie.Need-mul-list Inv-loop μ-loop
 mul-list c = search needs
@@ -56,16 +54,18 @@ add-k c = omega arith
 
 loop-less : tie.Need-loop-less Inv-loop μ-loop
 loop-less c =
+    let the-loop-test = c .before .before .loop-test in
     let the-next-number = c .before .next-number in
-    let w = the-next-number .ensures .1 in omega arith
+    let w = the-next-number .ensures .1 (the-loop-test .taken) in omega arith
 
 loop-again : tie.Need-loop-again Inv-loop μ-loop
 loop-again c =
     let the-Start = c .before .before .before .before .before .before .before in
     let the-loop = c .before .before .before .loop in
+    let the-loop-test = c .before .before .loop-test in
     let the-next-number = c .before .next-number in
     let i = the-loop .inv in
-    let g = the-next-number .ensures .0 (i .0) (i .1 .0) in
+    let g = the-next-number .ensures .0 (the-loop-test .taken) (i .0) (i .1 .0) in
     (g .0, (g .1 .1, (taken-more _ _ (i .0) (the-loop .k) (i .1 .1 .1 .0 ∙ the-Start .pre) (i .1 .1 .0) _ (g .0) (g .1 .0) (omega arith), (length-set (the-loop .list) (the-loop .k) (the-next-number .result .number) ∙ i .1 .1 .1 .0, omega arith))))
 
 same-length-2 : tie.Need-same-length-2 Inv-loop μ-loop

@@ -3,7 +3,7 @@ use borrow.Author.Tests.{not-true, not-false}
 use mathlib.Core.Path.{_≡_, refl, sym, _∙_}
 use lib.ListN.{length}
 use lib.Seq.{length-take-le}
-use Rattle.sheet_reader.proofs.Members.{sheet-some, mode-is}
+use Rattle.sheet_reader.proofs.Members.{mode-is}
 use Rattle.sheet_reader.proofs.Desks.{tells-not, tells-long, tells-opened}
 use borrow.Author.Needs.{needs}
 use Rattle.sheet_reader.proofs.of_entries.Statement.{statement}
@@ -22,13 +22,7 @@ returns c =
     tells-not 64 _ _ _ (the-is-sheet .ensures (the-Start .args .s .now) ∙ not-true _ (the-if1 .taken))
 
 cell-at-requires : tie.Need-cell-at-requires
-cell-at-requires c κs =
-    let the-Start = c .before .before .before .before .before in
-    let the-is-sheet = c .before .is-sheet in
-    let the-if1 = c .if1 in
-    let w = the-Start .pre .0 .1 .1 .1 in
-    let z = sheet-some (the-Start .args .s .now) _ _ w (the-is-sheet .ensures (the-Start .args .s .now) ∙ not-false _ (the-if1 .left)) in
-    (omega (arith, w, z), omega arith)
+cell-at-requires c κs = search needs
 
 slice-aggregate-path-of : tie.Need-slice-aggregate-path-of
 slice-aggregate-path-of c = search needs
@@ -48,22 +42,10 @@ returns-2 c =
     tells-long 64 _ _ _ w (the-is-sheet .ensures (the-Start .args .s .now) ∙ not-false _ (the-if1 .left)) _ (the-cell-at .ensures) _ _ (the-path-of .ensures) (the-if2 .taken) _ _
 
 figures-of-requires : tie.Need-figures-of-requires
-figures-of-requires c κs =
-    let the-Start = c .before .before .before .before .before .before .before .before .before .before in
-    let the-is-sheet = c .before .before .before .before .before .before .is-sheet in
-    let the-if1 = c .before .before .before .before .before .if1 in
-    let w = the-Start .pre .0 .1 .1 .1 in
-    let z = sheet-some (the-Start .args .s .now) _ _ w (the-is-sheet .ensures (the-Start .args .s .now) ∙ not-false _ (the-if1 .left)) in
-    omega (arith, w, z)
+figures-of-requires c κs = search needs
 
 cell-at-requires-2 : tie.Need-cell-at-requires-2
-cell-at-requires-2 c κs =
-    let the-Start = c .before .before .before .before .before .before .before .before .before .before .before in
-    let the-is-sheet = c .before .before .before .before .before .before .before .is-sheet in
-    let the-if1 = c .before .before .before .before .before .before .if1 in
-    let w = the-Start .pre .0 .1 .1 .1 in
-    let z = sheet-some (the-Start .args .s .now) _ _ w (the-is-sheet .ensures (the-Start .args .s .now) ∙ not-false _ (the-if1 .left)) in
-    (omega (arith, w, z), omega arith)
+cell-at-requires-2 c κs = search needs
 
 number-of-requires : tie.Need-number-of-requires
 number-of-requires c κs = search needs

@@ -1,6 +1,5 @@
 use native.Mathlib.Omega.{arith}
-use Rattle.sheet_reader.proofs.Bounds.{octets-all}
-use Rattle.sheet_reader.proofs.Messages.{never-setup, tells-refused, tells-room, entries-accepted, entries-few, tells-entries}
+use Rattle.sheet_reader.proofs.Messages.{octets-all, never-setup, tells-refused, tells-room, entries-accepted, entries-few, tells-entries}
 use borrow.Author.Needs.{needs}
 use Rattle.sheet_reader.proofs.of_message.Statement.{statement}
 use Rattle.sheet_reader.proofs.of_message.Tie as tie

@@ -3,7 +3,7 @@ use Prim.Native.Nat.{_≤_, _+_, _-_, _*_}
 use mathlib.Core.Path.{_≡_, refl, _∙_}
 use native.Mathlib.Omega.{arith}
 use lib.ListN.{length, drop}
-use Rattle.sheets.specs.Steps.{breaks}
+use Rattle.sheets.specs.Sheet.{breaks}
 use Rattle.sheets.proofs.Laws.{breaks-more, breaks-end}
 use Rattle.framing_writer.specs.Stores.{wrote}
 use Rattle.framing_writer.proofs.Laws.{wrote-none, wrote-then}

@@ -5,7 +5,8 @@ use native.Mathlib.Omega.{arith}
 use borrow.Author.Needs.{needs}
 use lib.ListN.{length, drop}
 use Rattle.sheets.specs.Lines.{linesIn}
-use Rattle.sheets.specs.Steps.{isBad, badFrom}
+use Rattle.sheets.specs.Lines.{isBad}
+use Rattle.sheets.specs.Steps.{badFrom}
 use Rattle.sheets.proofs.Laws.{bad-start, bad-yes, bad-on, bad-end}
 use Rattle.sheets.proofs.has_bad_line.Statement.{statement}
 use Rattle.sheets.proofs.has_bad_line.Tie as tie

@@ -1,8 +1,8 @@
 use native.Mathlib.Omega.{arith}
-use Rattle.desk_calls.proofs.Served.{turn-other, turn-one}
+use Rattle.desk_calls.proofs.Served.{entry-other, entry-asks}
 use borrow.Author.Needs.{needs}
-use Rattle.desk_calls.proofs.turn.Statement.{statement}
-use Rattle.desk_calls.proofs.turn.Tie as tie
+use Rattle.desk_calls.proofs.take_entry.Statement.{statement}
+use Rattle.desk_calls.proofs.take_entry.Tie as tie
 
 word-at-requires : tie.Need-word-at-requires
 word-at-requires c κs = search needs
@@ -12,7 +12,7 @@ returns c =
     let the-Start = c .before .before .before .before .before .before in
     let the-word-at = c .before .word-at in
     let the-if1 = c .if1 in
-    (turn-other _ _ _ _ _ (the-Start .pre .0 .1 .1 .0) _ _ _ _ (the-Start .pre .0 .1 .1 .1) _ (the-word-at .ensures) (the-if1 .taken), omega arith)
+    (entry-other _ _ _ _ _ (the-Start .pre .0 .1 .1 .0) _ _ _ _ (the-Start .pre .0 .1 .1 .1) _ (the-word-at .ensures) (the-if1 .taken), omega arith)
 
 answer-to-requires : tie.Need-answer-to-requires
 answer-to-requires c κs = search needs
@@ -38,13 +38,13 @@ returns-2 c =
     let the-word-at = c .before .before .before .before .before .word-at in
     let the-if1 = c .before .before .before .before .if1 in
     let the-answer-to = c .before .before .answer-to in (
-      turn-one _ _ _ _ _ (the-Start .pre .0 .1 .1 .0) _ _ _ _ (the-Start .pre .0 .1 .1 .1) _ (the-word-at .ensures) (the-if1 .left) (the-Start .pre .1) _ _
+      entry-asks _ _ _ _ _ (the-Start .pre .0 .1 .1 .0) _ _ _ _ (the-Start .pre .0 .1 .1 .1) _ (the-word-at .ensures) (the-if1 .left) (the-Start .pre .1) _ _
           (the-answer-to .ensures),
       omega arith,
     )
 
-pub turn-spec : {M : Type 1} → statement M
-turn-spec =
+pub take-entry-spec : {M : Type 1} → statement M
+take-entry-spec =
     tie.close
     (tie.spec
     word-at-requires
