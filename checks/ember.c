@@ -595,7 +595,7 @@ static void sheets(void)
         expect("words of the answer", ember_sheet_write(figures, EMBER_FIGURES_WORDS, path, EMBER_PATH_MAX, crosspoints, EMBER_CROSSPOINTS, sheet, sizeof sheet, length, EMBER_SHEET_WORDS + more),
                more == 0 ? EMBER_DONE : EMBER_SETUP);
     expect("the longest sheet fits", length[0] <= EMBER_SHEET_MAX, 1);
-    expect("and is long", length[0] > EMBER_SHEET_MAX / 2, 1);
+    expect("and is long", length[0] > EMBER_SHEET_MAX / 3, 1);
     expect("one byte less", ember_sheet_write(figures, EMBER_FIGURES_WORDS, path, EMBER_PATH_MAX, crosspoints, EMBER_CROSSPOINTS, sheet, length[0] - 1, length, EMBER_SHEET_WORDS), EMBER_OUT);
     expect("no length", length[0], 0);
     expect("written", ember_sheet_write(figures, EMBER_FIGURES_WORDS, path, EMBER_PATH_MAX, crosspoints, EMBER_CROSSPOINTS, sheet, sizeof sheet, length, EMBER_SHEET_WORDS), EMBER_DONE);

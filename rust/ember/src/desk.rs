@@ -250,8 +250,13 @@ impl Desk {
             _ => Type::NToN,
         };
         let given = |flag: u64, value: u64| (flag == 1).then_some(value);
-        let figures =
-            Figures { kind, targets: words[1], sources: words[2], total: given(words[3], words[4]), each: given(words[5], words[6]) };
+        let figures = Figures {
+            kind,
+            targets: words[1],
+            sources: words[2],
+            total: given(words[3], words[4]),
+            each: given(words[5], words[6]),
+        };
         if number == number::DONE {
             Ok(Desk { figures, path, numbers: answer[0] as usize, crosspoints })
         } else {
