@@ -47,7 +47,7 @@ fn put_part(
 }
 
 // The six figures from a place of a line on, each with a space after it. Where they end; 0 where one is none.
-pub(crate) fn read(line: &[u8], start: usize, numbers: &mut [u64], given: &mut [u64]) -> usize {
+fn read(line: &[u8], start: usize, numbers: &mut [u64], given: &mut [u64]) -> usize {
     let mut from = start;
     let mut i: usize = 0;
     while i < 6 {
@@ -78,16 +78,32 @@ fn limit(numbers: &[u64], given: &[u64], i: usize) -> Limit {
     Limit::Most(at(numbers, i))
 }
 
-pub(crate) fn mode(numbers: &[u64]) -> u64 {
-    at(numbers, 1)
-}
-
-pub(crate) fn figures(numbers: &[u64], given: &[u64]) -> Figures {
+fn figures(numbers: &[u64], given: &[u64]) -> Figures {
     Figures {
         kind: at(numbers, 0),
         targets: at(numbers, 2),
         sources: at(numbers, 3),
         total: limit(numbers, given, 4),
         each: limit(numbers, given, 5),
+    }
+}
+
+// What an `open` line has before its path: the figures and the mode, and where the path begins, 0 where a figure is none.
+pub struct Opening {
+    pub figures: Figures,
+    pub mode: u64,
+    pub path: usize,
+}
+
+pub(crate) fn given(line: &[u8], start: usize) -> Opening {
+    let mut room = [0u64; 6];
+    let numbers: &mut [u64] = &mut room;
+    let mut marks = [0u64; 6];
+    let given: &mut [u64] = &mut marks;
+    let path = read(line, start, numbers, given);
+    Opening {
+        figures: figures(numbers, given),
+        mode: at(numbers, 1),
+        path,
     }
 }

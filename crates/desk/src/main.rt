@@ -25,7 +25,6 @@ use requests::text;
 use requests::text::Hex;
 use routing::Figures;
 use routing::Limit;
-use words::Listed;
 use words::Word;
 
 // The desk that is there, if one is: its figures, how many numbers its path has, and its stream's session.
@@ -91,8 +90,9 @@ fn open_with(f: Figures, mode: u64, given: &[u64], path: &mut [u64], cells: &mut
     }
 }
 
-// .. with the first n numbers of a list as its path.
+// .. with the first n numbers of a list as its path. A bad line, with more than the list has, leaves the desk that is there.
 fn open_path(
+    desk: Desk,
     f: Figures,
     mode: u64,
     list: &[u64],
@@ -103,100 +103,82 @@ fn open_path(
     if n <= list.len() {
         return open_with(f, mode, &list[..n], path, cells);
     }
-    no_desk()
+    refuse(desk)
 }
 
-// .. with the path that a word is. A bad line leaves the desk that is there.
+// .. with the path that a word is.
 fn open_word(
     desk: Desk,
     f: Figures,
     mode: u64,
     word: &[u8],
-    list: &mut [u64],
     path: &mut [u64],
     cells: &mut [u8],
 ) -> Desk {
-    match words::list(word, list) {
-        Listed::Numbers(n) => open_path(f, mode, list, n, path, cells),
-        Listed::Bad => refuse(desk),
-    }
+    let mut room = [0u64; 1024];
+    let list: &mut [u64] = &mut room;
+    let n = words::list(word, list);
+    open_path(desk, f, mode, list, n, path, cells)
 }
 
-fn open(desk: Desk, line: &[u8], list: &mut [u64], path: &mut [u64], cells: &mut [u8]) -> Desk {
-    let mut room = [0u64; 6];
-    let numbers: &mut [u64] = &mut room;
-    let mut marks = [0u64; 6];
-    let given: &mut [u64] = &mut marks;
-    let from = figures::read(line, 5, numbers, given);
+fn open(desk: Desk, line: &[u8], path: &mut [u64], cells: &mut [u8]) -> Desk {
+    let o = figures::given(line, 5);
+    let from = o.path;
     if from == 0 {
         return refuse(desk);
     }
     if line.len() < from {
         return refuse(desk);
     }
-    let f = figures::figures(numbers, given);
-    open_word(
-        desk,
-        f,
-        figures::mode(numbers),
-        &line[from..],
-        list,
-        path,
-        cells,
-    )
+    open_word(desk, o.figures, o.mode, &line[from..], path, cells)
 }
 
-// A request with the first n numbers of a list as its sources.
+// A request with the first n numbers of a list as its sources. More than the list has make a bad line.
 fn ask(f: Figures, target: u64, list: &[u64], n: usize, operation: u64, cells: &mut [u8]) {
     if n <= list.len() {
         number_line(routing::request(f, target, &list[..n], operation, cells));
+        return;
     }
+    print::bad_line();
 }
 
-// .. with the sources and the operation that words are.
-fn ask_words(
-    f: Figures,
-    target: u64,
-    sources: &[u8],
-    operation: &[u8],
-    list: &mut [u64],
-    cells: &mut [u8],
-) {
-    let Listed::Numbers(n) = words::list(sources, list) else {
+// .. with the sources that a word is.
+fn ask_list(f: Figures, target: u64, sources: &[u8], operation: u64, cells: &mut [u8]) {
+    let mut room = [0u64; 1024];
+    let list: &mut [u64] = &mut room;
+    let n = words::list(sources, list);
+    ask(f, target, list, n, operation, cells);
+}
+
+// .. with an operation, 0 to 2. Another makes a bad line.
+fn ask_number(f: Figures, target: u64, sources: &[u8], operation: u64, cells: &mut [u8]) {
+    if 2 < operation {
         print::bad_line();
         return;
-    };
+    }
+    ask_list(f, target, sources, operation, cells);
+}
+
+// .. with the operation that a word is.
+fn ask_words(f: Figures, target: u64, sources: &[u8], operation: &[u8], cells: &mut [u8]) {
     match words::number(operation) {
-        Word::Absent => ask(f, target, list, n, 0, cells),
-        Word::Number(o) => {
-            if 2 < o {
-                print::bad_line();
-                return;
-            }
-            ask(f, target, list, n, o, cells)
-        }
+        Word::Absent => ask_list(f, target, sources, 0, cells),
+        Word::Number(o) => ask_number(f, target, sources, o, cells),
         Word::Bad => print::bad_line(),
     }
 }
 
 // .. with the target that a word is.
-fn ask_target(
-    f: Figures,
-    target: &[u8],
-    sources: &[u8],
-    operation: &[u8],
-    list: &mut [u64],
-    cells: &mut [u8],
-) {
+fn ask_target(f: Figures, target: &[u8], sources: &[u8], operation: &[u8], cells: &mut [u8]) {
     match words::number(target) {
-        Word::Number(t) => ask_words(f, t, sources, operation, list, cells),
+        Word::Number(t) => ask_words(f, t, sources, operation, cells),
         Word::Absent => print::bad_line(),
         Word::Bad => print::bad_line(),
     }
 }
 
 // A line's three words with its two spaces between.
-fn request(f: Figures, line: &[u8], list: &mut [u64], cells: &mut [u8]) {
+fn request(f: Figures, line: &[u8], cells: &mut [u8]) {
     if line.len() < 8 {
         print::bad_line();
         return;
@@ -218,36 +200,18 @@ fn request(f: Figures, line: &[u8], list: &mut [u64], cells: &mut [u8]) {
         &line[8..first],
         &line[from..second],
         &line[last..],
-        list,
         cells,
     );
 }
 
 // The chunk's turns with the desk's own path.
-fn offer(
-    desk: Desk,
-    chunk: &[u8],
-    store: &mut [u8],
-    table: &mut [[u64; 50]],
-    path: &[u64],
-    cells: &mut [u8],
-    answers: &mut [u64],
-) -> Desk {
+fn offer(desk: Desk, chunk: &[u8], store: &mut [u8], path: &[u64], cells: &mut [u8]) -> Desk {
     let n = desk.path;
     if path.len() < n {
         return desk;
     }
     let figures = desk.figures;
-    let session = stream::offer(
-        desk.session,
-        chunk,
-        store,
-        table,
-        figures,
-        &path[..n],
-        cells,
-        answers,
-    );
+    let session = stream::offer(desk.session, chunk, store, figures, &path[..n], cells);
     Desk {
         there: true,
         figures,
@@ -257,15 +221,13 @@ fn offer(
 }
 
 // The chunk whose bytes a line has from a position on: one at least.
-fn bytes(
+fn chunk(
     desk: Desk,
     line: &[u8],
     work: &mut [u8],
     store: &mut [u8],
-    table: &mut [[u64; 50]],
     path: &[u64],
     cells: &mut [u8],
-    answers: &mut [u64],
 ) -> Desk {
     let Hex::Octets(n) = text::octets(line, 6, work) else {
         return refuse(desk);
@@ -276,7 +238,13 @@ fn bytes(
     if work.len() < n {
         return desk;
     }
-    offer(desk, &work[..n], store, table, path, cells, answers)
+    offer(desk, &work[..n], store, path, cells)
+}
+
+fn bytes(desk: Desk, line: &[u8], store: &mut [u8], path: &[u64], cells: &mut [u8]) -> Desk {
+    let mut room = io::large_buffer();
+    let work: &mut [u8] = &mut room;
+    chunk(desk, line, work, store, path, cells)
 }
 
 fn is(line: &[u8], word: &[u8]) -> bool {
@@ -286,10 +254,17 @@ fn is(line: &[u8], word: &[u8]) -> bool {
     text::starts(line, word)
 }
 
+// The route sheet, with the desk's own path.
+fn sheet(f: Figures, path: &[u64], n: usize, cells: &[u8]) {
+    if n <= path.len() {
+        route::sheet(f, &path[..n], cells);
+    }
+}
+
 // A line that leaves the stream alone, on a desk that is there.
-fn look(f: Figures, line: &[u8], list: &mut [u64], cells: &mut [u8]) {
+fn look(f: Figures, line: &[u8], cells: &mut [u8]) {
     if text::starts(line, b"request ") {
-        request(f, line, list, cells);
+        request(f, line, cells);
         return;
     }
     if is(line, b"show") {
@@ -303,39 +278,27 @@ fn look(f: Figures, line: &[u8], list: &mut [u64], cells: &mut [u8]) {
     print::bad_line();
 }
 
-// The route sheet, with the desk's own path.
-fn sheet(f: Figures, path: &[u64], n: usize, cells: &[u8]) {
-    if n <= path.len() {
-        route::sheet(f, &path[..n], cells);
-    }
-}
-
-fn answer(
-    desk: Desk,
-    line: &[u8],
-    work: &mut [u8],
-    store: &mut [u8],
-    table: &mut [[u64; 50]],
-    list: &mut [u64],
-    path: &mut [u64],
-    cells: &mut [u8],
-    answers: &mut [u64],
-) -> Desk {
-    if text::starts(line, b"open ") {
-        return open(desk, line, list, path, cells);
-    }
-    if !desk.there {
-        return refuse(desk);
-    }
+// A line on a desk that is there.
+fn serve(desk: Desk, line: &[u8], store: &mut [u8], path: &[u64], cells: &mut [u8]) -> Desk {
     if text::starts(line, b"bytes ") {
-        return bytes(desk, line, work, store, table, path, cells, answers);
+        return bytes(desk, line, store, path, cells);
     }
     if is(line, b"sheet") {
         sheet(desk.figures, path, desk.path, cells);
         return desk;
     }
-    look(desk.figures, line, list, cells);
+    look(desk.figures, line, cells);
     desk
+}
+
+fn answer(desk: Desk, line: &[u8], store: &mut [u8], path: &mut [u64], cells: &mut [u8]) -> Desk {
+    if text::starts(line, b"open ") {
+        return open(desk, line, path, cells);
+    }
+    if !desk.there {
+        return refuse(desk);
+    }
+    serve(desk, line, store, path, cells)
 }
 
 // Answers the line that was found.
@@ -343,13 +306,9 @@ fn finish(
     desk: Desk,
     found: Input,
     line: &[u8],
-    work: &mut [u8],
     store: &mut [u8],
-    table: &mut [[u64; 50]],
-    list: &mut [u64],
     path: &mut [u64],
     cells: &mut [u8],
-    answers: &mut [u64],
 ) -> Desk {
     let n = found.len;
     if found.long {
@@ -358,36 +317,18 @@ fn finish(
     if line.len() < n {
         return desk;
     }
-    answer(
-        desk,
-        &line[..n],
-        work,
-        store,
-        table,
-        list,
-        path,
-        cells,
-        answers,
-    )
+    answer(desk, &line[..n], store, path, cells)
 }
 
 fn main() {
-    let mut space = [0u8; 65536];
+    let mut space = io::large_buffer();
     let line: &mut [u8] = &mut space;
-    let mut octets = [0u8; 32768];
-    let work: &mut [u8] = &mut octets;
     let mut bytes = [0u8; 17408];
     let store: &mut [u8] = &mut bytes;
-    let mut rows = [[0u64; 50]; 256];
-    let table: &mut [[u64; 50]] = &mut rows;
-    let mut numbers = [0u64; 1024];
-    let list: &mut [u64] = &mut numbers;
     let mut steps = [0u64; 16];
     let path: &mut [u64] = &mut steps;
     let mut points = [0u8; 4096];
     let cells: &mut [u8] = &mut points;
-    let mut given = [0u64; 256];
-    let answers: &mut [u64] = &mut given;
     let mut buffer = io::large_buffer();
     let block: &mut [u8] = &mut buffer;
     let mut found = input::start();
@@ -400,17 +341,6 @@ fn main() {
         if found.ended {
             break;
         }
-        desk = finish(
-            desk,
-            found,
-            line,
-            work,
-            store,
-            table,
-            list,
-            path,
-            cells,
-            answers,
-        );
+        desk = finish(desk, found, line, store, path, cells);
     }
 }

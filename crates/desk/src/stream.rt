@@ -1,11 +1,13 @@
 // A chunk of the stream: whole turns of session, tree reader and desk, and a line for each event.
 use desk_calls::Called;
 use framing::Event;
+use framing::Fed;
 use framing::Session;
 use glow::Answer;
 use requests::print;
 use routing::Figures;
 use turns::After;
+use turns::Turned;
 ghost use Prim.Native.Nat.{_≤_};
 
 fn space() {
@@ -77,11 +79,14 @@ fn after(a: After, answers: &[u64]) {
 }
 
 // An event's line. A call that used up its chunk without an event has none.
-fn report(event: Event, a: After, answers: &[u64]) {
+fn report(t: Turned, answers: &[u64]) {
+    let fed = t.fed;
+    let event = fed.event;
     if let Event::More = event {
         return;
     }
     print::decimal(events::number(event));
+    let a = t.after;
     after(a, answers);
     print::end();
 }
@@ -97,33 +102,51 @@ fn onward(from: usize, consumed: usize, end: usize) -> usize
     from + consumed
 }
 
-// Offers a chunk until it is consumed.
-pub(crate) fn offer(
-    start: Session,
-    chunk: &[u8],
+// A whole turn and its event's line.
+fn told(
+    session: Session,
     store: &mut [u8],
+    chunk: &[u8],
     table: &mut [[u64; 50]],
     f: Figures,
     path: &[u64],
     cells: &mut [u8],
     answers: &mut [u64],
+) -> Fed {
+    let t = turns::turn(session, store, chunk, table, f, path, cells, answers);
+    report(t, answers);
+    t.fed
+}
+
+// .. with a table and answers of its own.
+fn turn(
+    session: Session,
+    store: &mut [u8],
+    chunk: &[u8],
+    f: Figures,
+    path: &[u64],
+    cells: &mut [u8],
+) -> Fed {
+    let mut rows = [[0u64; 50]; 256];
+    let table: &mut [[u64; 50]] = &mut rows;
+    let mut room = [0u64; 256];
+    let answers: &mut [u64] = &mut room;
+    told(session, store, chunk, table, f, path, cells, answers)
+}
+
+// Offers a chunk until it is consumed.
+pub(crate) fn offer(
+    start: Session,
+    chunk: &[u8],
+    store: &mut [u8],
+    f: Figures,
+    path: &[u64],
+    cells: &mut [u8],
 ) -> Session {
     let mut session = start;
     let mut from = 0;
     while from < chunk.len() {
-        let t = turns::turn(
-            session,
-            store,
-            &chunk[from..],
-            table,
-            f,
-            path,
-            cells,
-            answers,
-        );
-        let fed = t.fed;
-        let a = t.after;
-        let event = fed.event;
+        let fed = turn(session, store, &chunk[from..], f, path, cells);
         let next = onward(from, fed.consumed, chunk.len());
         // Only 1 SETUP consumes nothing. It does not come here, and would end the chunk.
         if next <= from {
@@ -131,7 +154,6 @@ pub(crate) fn offer(
         }
         from = next;
         session = fed.session;
-        report(event, a, answers);
     }
     session
 }

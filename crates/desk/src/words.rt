@@ -10,12 +10,6 @@ pub enum Word {
     Bad,
 }
 
-// How many numbers a list has, or no list.
-pub enum Listed {
-    Numbers(usize),
-    Bad,
-}
-
 fn is_dash(word: &[u8]) -> bool {
     if word.len() != 1 {
         return false;
@@ -45,31 +39,31 @@ fn put(word: &[u8], from: usize, end: usize, list: &mut [u64], at: usize) -> boo
     true
 }
 
-// Numbers with dots between, put into a list.
-fn numbers(word: &[u8], list: &mut [u64]) -> Listed {
+// Numbers with dots between, put into a list: how many; more than a list can have where the word is none.
+fn numbers(word: &[u8], list: &mut [u64]) -> usize {
     let mut from: usize = 0;
     let mut n: usize = 0;
     while from < word.len() {
         let dot = text::find(word, from, b'.');
         if !put(word, from, dot, list, n) {
-            return Listed::Bad;
+            return usize::MAX;
         }
         if usize::MAX - 1 < n {
-            return Listed::Bad;
+            return usize::MAX;
         }
         n = n + 1;
         if word.len() <= dot {
-            return Listed::Numbers(n);
+            return n;
         }
         from = dot + 1;
     }
-    Listed::Bad
+    usize::MAX
 }
 
 // A list, `-` for no numbers.
-pub(crate) fn list(word: &[u8], list: &mut [u64]) -> Listed {
+pub(crate) fn list(word: &[u8], list: &mut [u64]) -> usize {
     if is_dash(word) {
-        return Listed::Numbers(0);
+        return 0;
     }
     numbers(word, list)
 }

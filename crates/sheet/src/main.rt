@@ -21,7 +21,7 @@ fn lines(out: &[u8], length: usize) {
 
 // Writes the sheet of a desk. 1 and 46 do not come here: the desk is legal, and the output has room for every sheet.
 fn write(f: Figures, path: &[u64], cells: &[u8]) {
-    let mut room = [0u8; 65536];
+    let mut room = io::large_buffer();
     let out: &mut [u8] = &mut room;
     match sheet_writer::write(f, path, cells, out) {
         Answer::Done { length } => lines(out, length),

@@ -11,8 +11,8 @@ use lib.ListN.{length, take, drop, getD, drop-of-length-le}
 use lib.Seq.{drop-cons}
 use lib.Dec.{ltb, eqb}
 use Rattle.integers.specs.Digits.{pick}
-use Rattle.sheets.specs.Sheet.{glyphOf}
-use Rattle.sheets.specs.Lines.{digitOf, Stream, bad, stream, push, Come, fresh, pairs, half, linesFrom, linesIn}
+use Rattle.sheets.specs.Sheet.{glyphOf, broken, breaks}
+use Rattle.sheets.specs.Lines.{digitOf, Stream, bad, stream, push, Come, fresh, pairs, half, linesFrom, linesIn, isBad}
 use Rattle.sheets.specs.Steps.{stepLine, badFrom, comes}
 
 -- ---- a byte's digits

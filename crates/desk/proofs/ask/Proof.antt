@@ -7,29 +7,34 @@ use Rattle.desk.proofs.ask.Tie as tie
 use Rattle.desk.proofs.ask.Reads as reads
 use Rattle.desk.proofs.ask.Lts as lts
 use Rattle.desk.proofs.number_line.Reads as number-line-reads
+use Rattle.requests.proofs.print.bad_line.Reads as bad-line-reads
 use Rattle.routing.proofs.request.Reads as request-reads
 
--- src/main.rt:143:49
+-- src/main.rt:139:49
 slice-aggregate-request : tie.Need-slice-aggregate-request
 slice-aggregate-request c = sym (length-take-le _ _ (omega arith))
 
--- src/main.rt:143:21
+-- src/main.rt:139:21
 request-requires : tie.Need-request-requires
 request-requires c κs = search needs
 
--- src/main.rt:143:9
+-- src/main.rt:139:9
 number-line-requires : tie.Need-number-line-requires
 number-line-requires c κs = search needs
 
--- src/main.rt:141:1
+-- src/main.rt:140:9
 same-length : tie.Need-same-length
 same-length c = search needs
 
--- src/main.rt:141:1
+-- src/main.rt:140:9
 returns : tie.Need-returns
 returns c = search needs
 
--- src/main.rt:141:1
+-- src/main.rt:142:5
+bad-line-requires : tie.Need-bad-line-requires
+bad-line-requires c κs = search needs
+
+-- src/main.rt:137:1
 returns-2 : tie.Need-returns-2
 returns-2 c = search needs
 
@@ -42,4 +47,5 @@ ask-spec =
     number-line-requires
     same-length
     returns
+    bad-line-requires
     returns-2)

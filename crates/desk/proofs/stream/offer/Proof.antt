@@ -7,12 +7,11 @@ use Rattle.desk.proofs.stream.offer.Statement.{statement}
 use Rattle.desk.proofs.stream.offer.Tie as tie
 
 abbrev Inv-loop : tie.InvT-loop
-Inv-loop chunk store₀ table₀ f path cells₀ answers₀ session₀ from₀ store table cells answers session from =
-    (length store ≡ length store₀)
-    × ((length table ≡ length table₀) × ((length cells ≡ length cells₀) × ((length answers ≡ length answers₀) × (from ≤ length chunk))))
+Inv-loop chunk store₀ f path cells₀ session₀ from₀ store cells session from =
+    (length store ≡ length store₀) × ((length cells ≡ length cells₀) × (from ≤ length chunk))
 
 abbrev μ-loop : tie.MeasureT-loop
-μ-loop chunk store₀ table₀ f path cells₀ answers₀ session₀ from₀ store table cells answers session from = length chunk - from
+μ-loop chunk store₀ f path cells₀ session₀ from₀ store cells session from = length chunk - from
 
 loop-holds : tie.Need-loop-holds Inv-loop μ-loop
 loop-holds c = search needs
@@ -38,50 +37,27 @@ same-length c = search needs
 same-length-2 : tie.Need-same-length-2 Inv-loop μ-loop
 same-length-2 c = search needs
 
+returns : tie.Need-returns Inv-loop μ-loop
+returns c = search needs
+
+loop-less : tie.Need-loop-less Inv-loop μ-loop
+loop-less c =
+    let the-if1 = c .before .if1 in
+    let the-onward = c .before .before .onward in
+    omega (arith, the-onward .ensures, the-if1 .left)
+
+loop-again : tie.Need-loop-again Inv-loop μ-loop
+loop-again c =
+    let the-onward = c .before .before .onward in
+    let the-turn = c .before .before .before .before .before .before .before .turn in
+    let the-loop = c .before .before .before .before .before .before .before .before .before .before .before .before .loop in
+    (the-turn .kept .1 .0 ∙ the-loop .inv .0, (the-turn .kept .1 .1 .1 .1 .1 .0 ∙ the-loop .inv .1 .0, the-onward .ensures))
+
 same-length-3 : tie.Need-same-length-3 Inv-loop μ-loop
 same-length-3 c = search needs
 
 same-length-4 : tie.Need-same-length-4 Inv-loop μ-loop
 same-length-4 c = search needs
-
-returns : tie.Need-returns Inv-loop μ-loop
-returns c = search needs
-
-report-requires : tie.Need-report-requires Inv-loop μ-loop
-report-requires c κs = search needs
-
-loop-less : tie.Need-loop-less Inv-loop μ-loop
-loop-less c =
-    let the-if1 = c .before .before .before .if1 in
-    let the-onward = c .before .before .before .before .onward in
-    omega (arith, the-onward .ensures, the-if1 .left)
-
-loop-again : tie.Need-loop-again Inv-loop μ-loop
-loop-again c =
-    let the-onward = c .before .before .before .before .onward in
-    let the-turn = c .before .before .before .before .before .before .before .before .before .before .before .before .before .turn in
-    let the-loop = c .before .before .before .before .before .before .before .before .before .before .before .before .before .before .before .before .before .before .before .before .loop in (
-      the-turn .kept .1 .0 ∙ the-loop .inv .0,
-      (
-        the-turn .kept .1 .1 .1 .0 ∙ the-loop .inv .1 .0,
-        (
-          the-turn .kept .1 .1 .1 .1 .1 .1 .0 ∙ the-loop .inv .1 .1 .0,
-          (the-turn .kept .1 .1 .1 .1 .1 .1 .1 .0 ∙ the-loop .inv .1 .1 .1 .0, the-onward .ensures),
-        ),
-      ),
-    )
-
-same-length-5 : tie.Need-same-length-5 Inv-loop μ-loop
-same-length-5 c = search needs
-
-same-length-6 : tie.Need-same-length-6 Inv-loop μ-loop
-same-length-6 c = search needs
-
-same-length-7 : tie.Need-same-length-7 Inv-loop μ-loop
-same-length-7 c = search needs
-
-same-length-8 : tie.Need-same-length-8 Inv-loop μ-loop
-same-length-8 c = search needs
 
 returns-2 : tie.Need-returns-2 Inv-loop μ-loop
 returns-2 c = search needs
@@ -100,14 +76,9 @@ offer-spec =
     onward-requires
     same-length
     same-length-2
-    same-length-3
-    same-length-4
     returns
-    report-requires
     loop-less
     loop-again
-    same-length-5
-    same-length-6
-    same-length-7
-    same-length-8
+    same-length-3
+    same-length-4
     returns-2)

@@ -2,8 +2,8 @@ use borrow.Author.Needs.{needs}
 use lib.Seq.{length-take-le}
 use native.Mathlib.Omega.{arith}
 use mathlib.Core.Path.{sym}
-use Rattle.desk.proofs.bytes.Statement.{statement}
-use Rattle.desk.proofs.bytes.Tie as tie
+use Rattle.desk.proofs.chunk.Statement.{statement}
+use Rattle.desk.proofs.chunk.Tie as tie
 
 octets-requires : tie.Need-octets-requires
 octets-requires c κs = search needs
@@ -56,17 +56,11 @@ same-length-5 c = search needs
 same-length-6 : tie.Need-same-length-6
 same-length-6 c = search needs
 
-same-length-7 : tie.Need-same-length-7
-same-length-7 c = search needs
-
-same-length-8 : tie.Need-same-length-8
-same-length-8 c = search needs
-
 returns-4 : tie.Need-returns-4
 returns-4 c = search needs
 
-pub bytes-spec : {M : Type 1} → statement M
-bytes-spec =
+pub chunk-spec : {M : Type 1} → statement M
+chunk-spec =
     tie.close
     (tie.spec
     octets-requires
@@ -86,6 +80,4 @@ bytes-spec =
     same-length-4
     same-length-5
     same-length-6
-    same-length-7
-    same-length-8
     returns-4)
