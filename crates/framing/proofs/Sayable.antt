@@ -1,4 +1,4 @@
--- Whatever the rules say at a byte, some case of the event enum says: no call is left without an answer.
+-- Whatever the rules say at a byte, some case of the event enum says: no call is left without an answer. No rule says 1: that is for what SETUP refuses alone.
 use Prim.Native.Nat.{ℕ, _+_}
 use mathlib.Core.Bool.{Bool, true, false}
 use mathlib.Core.List.{List, [], _∷_, _++_}
@@ -11,39 +11,56 @@ use Rattle.framing.specs.declared.Content.the-variants.{Refused, Request
 use Rattle.framing.specs.declared.Event.{Event}
 use Rattle.framing.specs.declared.Event.the-variants as ev
 use Rattle.framing.specs.declared.Fault.{Fault}
-use Rattle.framing.specs.declared.Fault.the-variants.{Stray, Cut, Byte, Long, Escape, Orphan, Big}
+use Rattle.framing.specs.declared.Session.{Session}
+use Rattle.framing.specs.declared.Fault.the-variants.{Stray, Cut, Byte, Long, Escape, Short, Crc, Header, Flags, Dtd, Orphan, Big}
 use Rattle.framing.specs.Content.{contentOf, payload}
-use Rattle.framing.specs.Numbers.{BOF, EOF, CE, contentLimit, messageLimit, storeLength, pick}
+use Rattle.framing.specs.Numbers.{BOF, EOF, CE, contentLimit, messageLimit, storeLength, number, pick}
 use Rattle.framing.specs.Rules.{Place, outside, stray, inside, escaped, badByte, tooLong, Message, none, part, isOpen, State, Said, Step}
 use Rattle.framing.specs.Rules.{goes, refuses, adds, joins, pieces, reads, ends, faulted, cuts, inPlace, step}
-use Rattle.framing.specs.Session.{saidBy, stateOf, sessionOf, held, kept, Whole, run}
-use Rattle.framing.proofs.Laws.{pick-by, Bounded, Within, within-step, bounded-next, kept-length, kept-message}
+use Rattle.framing.specs.Session.{saidBy, stateOf, sessionOf, held, kept, Legal, Whole, run, feeds}
+use Rattle.framing.proofs.Laws.{pick-by, true-legal, Bounded, Within, within-step, bounded-next, kept-length, kept-message}
 
 -- the message that a step leaves, or has finished
 abbrev messageAfter : Step → List ℕ
 messageAfter o = held (o .next .message) (o .said .message)
 
--- an event that says what the step says, in any store where that message stands
+fault-other : (f : Fault) → eqb (number f) 1 ≡ false
+fault-other Stray = refl
+fault-other Cut = refl
+fault-other Byte = refl
+fault-other Long = refl
+fault-other Escape = refl
+fault-other Short = refl
+fault-other Crc = refl
+fault-other Header = refl
+fault-other Flags = refl
+fault-other Dtd = refl
+fault-other Orphan = refl
+fault-other Big = refl
+
+-- an event that says what the step says, in any store where that message stands; and that this is not 1
 record Says (o : Step) : Type 0 where
   pub event : Event
   pub says : (u : List ℕ) → take (length (messageAfter o)) u ≡ messageAfter o → saidBy event u ≡ o .said
+  pub other : eqb (o .said .number) 1 ≡ false
 
 says-goes : (p : Place) (m : Message) → Says (goes p m)
-says-goes p m = record { event = ev.More; says = λ u h. refl }
+says-goes p m = record { event = ev.More; says = λ u h. refl; other = refl }
 
 says-refuses : (f : Fault) (p : Place) (m : Message) → Says (refuses f p m)
-says-refuses f p m = record { event = ev.Refused f (isOpen m); says = λ u h. refl }
+says-refuses f p m = record { event = ev.Refused f (isOpen m); says = λ u h. refl; other = fault-other f }
 
 says-adds : (xs : List ℕ) (x : ℕ) (m : Message) → Says (adds xs x m)
 unfolding adds
 says-adds xs x m = pick-by Says (ltb (length xs) contentLimit) (λ t. says-goes (inside (xs ++ x ∷ [])) m) (λ t. says-goes (tooLong xs) m)
 
 says-joins : (last d : Bool) (ys : List ℕ) → Says (joins last d ys)
-says-joins false d ys = record { event = ev.Piece d; says = λ u h. refl }
+says-joins false d ys = record { event = ev.Piece d; says = λ u h. refl; other = refl }
 says-joins true d ys =
     record {
       event = ev.Message (length ys) d;
       says = λ u h. ap (λ (zs : List ℕ). record { number = 3; discarded = d; message = zs }) h;
+      other = refl;
     }
 
 says-pieces : (first last : Bool) (p : List ℕ) (m : Message) → Says (pieces first last p m)
@@ -55,8 +72,8 @@ says-pieces false last p (part xs) =
 
 says-reads : (c : Content) (p : List ℕ) (m : Message) → Says (reads c p m)
 says-reads (Refused f) p m = says-refuses f outside m
-says-reads Request p m = record { event = ev.Request; says = λ u h. refl }
-says-reads Response p m = record { event = ev.Response; says = λ u h. refl }
+says-reads Request p m = record { event = ev.Request; says = λ u h. refl; other = refl }
+says-reads Response p m = record { event = ev.Response; says = λ u h. refl; other = refl }
 says-reads (Piece first last) p m = says-pieces first last p m
 
 says-faulted : (f : Fault) (p : Place) (m : Message) (b : ℕ) → Says (faulted f p m b)
@@ -108,3 +125,16 @@ run-sayable (b ∷ bs) s t i room h =
     pick-by (λ (x : Whole). Sayable (x .said) (x .store)) (eqb (o .said .number) 0)
     (λ e. run-sayable bs (o .next) (kept o t) (i + 1) (kept-length o t room w) (bounded-next o w))
     (λ e. step-sayable s b t room h)
+
+-- A call with a legal session is not answered with 1.
+run-other : (c : List ℕ) (s : State) (t : List ℕ) (i : ℕ) → eqb (run c s t i .said .number) 1 ≡ false
+unfolding run step
+run-other [] s t i = refl
+run-other (b ∷ bs) s t i =
+    let o = step s b in
+    pick-by (λ (x : Whole). eqb (x .said .number) 1 ≡ false) (eqb (o .said .number) 0) (λ e. run-other bs (o .next) (kept o t) (i + 1))
+    (λ e. says-place (s .place) (s .message) b .other)
+
+pub legal-answered : (s : Session) (t c : List ℕ) → Legal s t → eqb (feeds s t c .said .number) 1 ≡ false
+unfolding feeds
+legal-answered s t c l = rw (true-legal s t l) (run-other c (stateOf s t) t 0)
