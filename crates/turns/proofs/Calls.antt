@@ -1,5 +1,6 @@
 -- Calls of the functions: their contracts say what the claim speaks of. (framing::feed: crates/framing/proofs/Calls.antt.)
 use Prim.Native.Nat.{ℕ, suc, _≤_}
+use mathlib.Core.Bool.{Bool, false}
 use mathlib.Core.List.{List, [], _∷_, _++_}
 use mathlib.Core.Path.{_≡_, refl, ap}
 use contract.Lifetimes.{Lfts}
@@ -7,12 +8,17 @@ use denote.Ref.{RefT, now}
 use denote.Triple.Clauses as Clauses
 use borrow.Fn.World as World
 use borrow.Fn.Kinds as K
-use lib.ListN.{length, drop}
+use lib.ListN.{length, take, drop}
+use Rattle.framing.specs.declared.Event.{Event}
+use Rattle.framing.specs.declared.Event.the-variants as ev
+use Rattle.framing.specs.declared.Fed.{Fed}
 use Rattle.framing.specs.declared.Session.{Session}
 use Rattle.framing.specs.Session.{answers, feeds}
 use Rattle.framing.specs.Offers as offers
+use Rattle.framing.proofs.Calls as framing
 use Rattle.entries.specs.Entry.{Rows}
 use Rattle.glow.specs.declared.Answer.{Answer}
+use Rattle.glow.specs.declared.Answer.the-variants.{Read}
 use Rattle.glow.specs.Message.{result, readAt}
 use Rattle.glow.proofs.read
 use Rattle.glow.proofs.read.Kinds as read-kinds
@@ -26,9 +32,9 @@ use Rattle.desk_calls.proofs.call
 use Rattle.desk_calls.proofs.call.Kinds as call-kinds
 use Rattle.desk_calls.proofs.call.Reads as call-reads
 use Rattle.turns.specs.declared.Turned.{Turned}
-use Rattle.turns.specs.Rules.{Desk}
+use Rattle.turns.specs.Rules.{Desk, withCells}
 use Rattle.turns.specs.Turns as turns
-use Rattle.turns.specs.Turns.{Turn, Turns, calls}
+use Rattle.turns.specs.Turns.{Later, Turn, isMessage, isRead, Comes, Turns, calls}
 use Rattle.turns.specs.Whole.{deskAt, laterOf, gave, laterAt}
 use Rattle.turns.proofs.Comes.{said-at, function-turn}
 use Rattle.turns.proofs.turn
@@ -108,6 +114,47 @@ module _ (f : Figures) (path : List ℕ) (rows : Rows) (n root : ℕ) (s : List 
         lent-left = refl;
         ensured = e;
       }
+
+-- What comes after an event, call by call: the tree reader's call on the message, and after its 0 the desk's on those entries.
+pub data CallsCome (rows : ℕ) : Event → List ℕ → Desk → Later → Desk → Type 0 where
+  ends : {e : Event} {t : List ℕ} {d : Desk} → isMessage e ≡ false → CallsCome rows e t d turns.none d
+  reads : {t : List ℕ} {d : Desk} {n : ℕ} {b : Bool} (table : Rows) (a : Answer) (table′ : Rows) → length table ≡ rows
+      → ReadCall (take n t) table a table′ → isRead a ≡ false → CallsCome rows (ev.Message n b) t d (turns.read a table′) d
+  serves : {t : List ℕ} {d : Desk} {n : ℕ} {b : Bool} (table : Rows) (root count : ℕ) (table′ : Rows) (lent : List ℕ) (r : Called) (lent′ : List ℕ)
+      (cells′ : Cells) → length table ≡ rows → ReadCall (take n t) table (Read root count) table′ → count ≤ length lent
+      → DeskCall (d .figures) (d .path) table′ count root (take n t) (d .crosspoints) lent r cells′ lent′
+      → CallsCome rows (ev.Message n b) t d (turns.desk root count table′ (answered r lent′ cells′)) (withCells d cells′)
+
+calls-come : {rows : ℕ} {e : Event} {t : List ℕ} {d d′ : Desk} {x : Later} → CallsCome rows e t d x d′ → Comes rows e t d x d′
+calls-come (ends h) = turns.ends h
+calls-come (reads table a table′ k c h) = turns.reads table a table′ k (read-says c) h
+calls-come (serves table root count table′ lent r lent′ cells′ k c l y) = turns.serves table root count table′ lent r lent′ cells′ k (read-says c) l (call-says y)
+
+come-calls : {rows : ℕ} {e : Event} {t : List ℕ} {d d′ : Desk} {x : Later} → Comes rows e t d x d′ → CallsCome rows e t d x d′
+come-calls (turns.ends h) = ends h
+come-calls (turns.reads table a table′ k q h) = reads table a table′ k (read-called a q) h
+come-calls {d = d} (turns.serves {t = t} {n = n} table root count table′ lent r lent′ cells′ k q l p) =
+    serves table root count table′ lent r lent′ cells′ k (read-called (Read root count) q) l
+    (desk-called (d .figures) (d .path) table′ count root (take n t) (d .crosspoints) lent r cells′ lent′ p)
+
+-- Turns made call by call: calls of `framing::feed`, `glow::read` and `desk_calls::call`, by what their contracts have them ensure.
+pub data CallByCall (rows : ℕ) : Session → List ℕ → Desk → List ℕ → List Turn → Session → List ℕ → Desk → List ℕ → Type 0 where
+  end : {s : Session} {t : List ℕ} {d : Desk} {rest : List ℕ} → CallByCall rows s t d rest [] s t d rest
+  next : {s s″ : Session} {t t′ t″ : List ℕ} {d d′ d″ : Desk} {rest″ : List ℕ} {ts : List Turn} (c later : List ℕ) (r : Fed) (x : Later)
+      → framing.Call s t c r t′ → CallsCome rows (r .event) t′ d x d′
+      → CallByCall rows (r .session) t′ d′ (drop (r .consumed) (c ++ later)) ts s″ t″ d″ rest″
+      → CallByCall rows s t d (c ++ later) (record { offered = c; fed = r; store = t′; later = x } ∷ ts) s″ t″ d″ rest″
+
+-- They are turns, and every list of turns can be made so.
+pub calls-turns : {rows : ℕ} {s s″ : Session} {t t″ : List ℕ} {d d″ : Desk} {rest rest″ : List ℕ} {ts : List Turn}
+    → CallByCall rows s t d rest ts s″ t″ d″ rest″ → Turns rows s t d rest ts s″ t″ d″ rest″
+calls-turns end = turns.none
+calls-turns (next c later r x call come more) = turns.turn c later r x (framing.says call) (calls-come come) (calls-turns more)
+
+pub turns-calls : {rows : ℕ} {s s″ : Session} {t t″ : List ℕ} {d d″ : Desk} {rest rest″ : List ℕ} {ts : List Turn}
+    → Turns rows s t d rest ts s″ t″ d″ rest″ → CallByCall rows s t d rest ts s″ t″ d″ rest″
+turns-calls turns.none = end
+turns-calls (turns.turn c later r x e come more) = next c later r x (framing.called r e) (come-calls come) (turns-calls more)
 
 -- `turn`
 pub record TurnCall (s : Session) (t c : List ℕ) (table : Rows) (f : Figures) (path : List ℕ) (cells : Cells) (lent : List ℕ) (r : Turned)

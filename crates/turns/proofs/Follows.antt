@@ -36,7 +36,7 @@ use Rattle.turns.specs.Turns.{Later, read, desk, isMessage, isRead, Come
 use Rattle.turns.proofs.Trees.{tree-refused, tree-read}
 
 -- only event 3 is a message
-fault-other : (f : Fault) → eqb (number f) 3 ≡ false
+pub fault-other : (f : Fault) → eqb (number f) 3 ≡ false
 fault-other Stray = refl
 fault-other Cut = refl
 fault-other Byte = refl
@@ -155,3 +155,11 @@ comes-as {rows} {t = t} {d = d} (reads {n = n} {b = b} table a table′ k q h) g
 comes-as {rows} {t = t} {d = d} (serves {n = n} {b = b} table root count table′ lent r lent′ cells′ k q l p) g o =
     subst (λ (c : Cells). Agrees rows d (saidBy (ev.Message n b) t) (thenOf (desk root count table′ (answered r lent′ cells′)) (take n t)) (withCells d c))
     (cells-of r lent′ cells′) (is-read rows d g n b t o table k root count table′ q lent l (answered r lent′ cells′) p)
+
+-- A legal desk stays legal over a turn, whatever the message holds.
+pub comes-legal : {rows : ℕ} {e : Event} {t : List ℕ} {d d′ : Desk} {x : Later} → Comes rows e t d x d′ → isLegal d ≡ true → isLegal d′ ≡ true
+comes-legal (ends h) g = g
+comes-legal (reads table a table′ k q h) g = g
+comes-legal {d = d} (serves table root count table′ lent r lent′ cells′ k q l p) g =
+    subst (λ (c : Cells). deskLegal side (d .figures) (d .path) c ≡ true) (ap (λ (o : Outcome). o .cells) p ∙ cells-of r lent′ cells′)
+    (called-legal side (d .figures) (d .path) root table′ count _ lent (d .crosspoints) g)

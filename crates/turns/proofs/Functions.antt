@@ -1,5 +1,4 @@
--- THE CLAIM for the function `turn`: whatever list of its calls is made, from a fresh session, any store of the right length and a desk in any legal state,
--- an answer lent for each row of the table, it tells what the rules tell for the bytes consumed so far, and leaves what they keep.
+-- THE CLAIM for calls of the functions: for turns made call by call, and for the function `turn`.
 use mathlib.Core.Bool.{true}
 use mathlib.Core.List.{List, [], append-nil}
 use mathlib.Core.Path.{_≡_, sym, ap, subst, _∙_}
@@ -16,12 +15,20 @@ use Rattle.framing.proofs.Calls as framing
 use Rattle.entries.specs.Entry.{Rows}
 use Rattle.routing.specs.declared.Figures.{Figures}
 use Rattle.routing.specs.Crosspoints.{Cells}
-use Rattle.turns.specs.Rules.{isLegal, keep, tells, after}
+use Rattle.turns.specs.Rules.{Desk, isLegal, keep, tells, after}
 use Rattle.turns.specs.Turns.{Turn, calls, told, AsRules}
 use Rattle.turns.specs.Whole.{deskAt}
-use Rattle.turns.proofs.Calls.{Made, made-turns, some-made}
+use Rattle.turns.proofs.Calls.{CallByCall, calls-turns, Made, made-turns, some-made}
 use Rattle.turns.proofs.Claim.{claim}
 
+-- Whatever list of turns is made by calls of `framing::feed`, `glow::read` and `desk_calls::call`, from a fresh session, any store of the right length and a
+-- desk in any legal state, it tells what the rules tell for the bytes consumed so far, and leaves what they keep. (`turns-calls`: every list of turns can be
+-- made so, and there is one for every stream and every cut of it: `every-cut`, Some.antt.)
+pub calls-claim : {rows : ℕ} {s : Session} {t t′ : List ℕ} {d d′ : Desk} {bytes rest : List ℕ} {ts : List Turn} → length t ≡ storeLength
+    → isLegal d ≡ true → Below 256 bytes → CallByCall rows (sessionOf begin) t d bytes ts s t′ d′ rest → AsRules rows begin d 0 ts s t′ d′ bytes rest
+calls-claim room g b k = claim room g b (calls-turns k)
+
+-- Whatever list of calls of `turn` is made, an answer lent for each row of the table, the same.
 pub function-claim : {rows : ℕ} {f : Figures} {path : List ℕ} {s : Session} {t t′ : List ℕ} {cells cells′ : Cells} {bytes rest : List ℕ} {ts : List Turn}
     → length t ≡ storeLength → isLegal (deskAt f path cells) ≡ true → Below 256 bytes
     → Made rows f path (sessionOf begin) t cells bytes ts s t′ cells′ rest
