@@ -12,11 +12,9 @@ use Rattle.integers.specs.Digits.{pick}
 use Rattle.integers.proofs.Radix.{Below}
 use Rattle.framing.specs.declared.Event.{Event}
 use Rattle.framing.specs.declared.Event.the-variants as ev
-use Rattle.framing.specs.declared.Fault.{Fault}
-use Rattle.framing.specs.declared.Fault.the-variants.{Stray, Cut, Byte, Long, Escape, Short, Crc, Header, Flags, Dtd, Orphan, Big}
 use Rattle.framing.specs.declared.Fed.{Fed}
 use Rattle.framing.specs.declared.Session.{Session}
-use Rattle.framing.specs.Numbers.{number, storeLength}
+use Rattle.framing.specs.Numbers.{storeLength}
 use Rattle.framing.specs.Rules.{begin}
 use Rattle.framing.specs.Session.{sessionOf, saidBy, Whole, answers, feeds}
 use Rattle.framing.proofs.Calls.{some-call}
@@ -26,32 +24,20 @@ use Rattle.framing_c.proofs.Laws.{words-back}
 use Rattle.entries.specs.Entry.{Rows}
 use Rattle.routing.specs.Figures.{both}
 use Rattle.routing.specs.Crosspoints.{Cells}
+use Rattle.routing.proofs.Laws.{both-left, both-right}
 use Rattle.turns.specs.declared.After.{After}
 use Rattle.turns.specs.Rules.{Desk, isLegal}
 use Rattle.turns.specs.Turns as claim
 use Rattle.turns.specs.Whole.{deskAt, Left, laterAt, laterOf, gave}
+use Rattle.turns.proofs.Follows.{fault-other}
 use Rattle.turns.proofs.Comes.{said-at, function-turn}
 use Rattle.turns.proofs.Claim.{claim as rules-claim}
 use Rattle.ember.specs.Words.{figuresAt, isFigures}
 use Rattle.ember.specs.Calls.{lengthsFit, next, Turn, told, turnAfter, turned, turns}
-use Rattle.ember.specs.Rounds.{Rounds, none, round, Tells, AllTell, more}
+use Rattle.ember.specs.Rounds.{Round, Rounds, none, round, Tells, AllTell, more}
 use Rattle.ember.specs.Rounds as rounds
 
 -- ---- what comes after an event, by its number
-
-fault-other : (f : Fault) → eqb (number f) 3 ≡ false
-fault-other Stray = refl
-fault-other Cut = refl
-fault-other Byte = refl
-fault-other Long = refl
-fault-other Escape = refl
-fault-other Short = refl
-fault-other Crc = refl
-fault-other Header = refl
-fault-other Flags = refl
-fault-other Dtd = refl
-fault-other Orphan = refl
-fault-other Big = refl
 
 take-twice : (n : ℕ) (t : List ℕ) → take (length (take n t)) t ≡ take n t
 take-twice zero t = refl
@@ -59,7 +45,7 @@ take-twice (suc n) [] = refl
 take-twice (suc n) (b ∷ t) = ap (λ (bs : List ℕ). b ∷ bs) (take-twice n t)
 
 module _ (d : Desk) (t : List ℕ) (table : Rows) (lent : List ℕ) where
-  next-later : (e : Event) → next (saidBy e t .number) (take (length (saidBy e t .message)) t) d table lent ≡ laterAt d e t table lent
+  pub next-later : (e : Event) → next (saidBy e t .number) (take (length (saidBy e t .message)) t) d table lent ≡ laterAt d e t table lent
   unfolding next
   next-later ev.More = refl
   next-later ev.Setup = refl
@@ -69,15 +55,29 @@ module _ (d : Desk) (t : List ℕ) (table : Rows) (lent : List ℕ) where
   next-later ev.Response = refl
   next-later (ev.Refused f b) = rw (fault-other f) refl
 
+-- ---- what a call tells, where the session's call within it gave r and left the store t′
+
+module _ (d : Desk) (c : List ℕ) (table : Rows) (lent : List ℕ) (r : Fed) (t′ : List ℕ) where
+  -- what came after the session's call
+  abbrev pub comes : Left
+  comes = laterAt d (r .event) t′ table lent
+
+  abbrev pub comes-after : After
+  comes-after = said-at d lent (r .event) t′ table .0
+
+  pub tells-told : Tells (record { offered = c; left = told (framed (answers r t′)) comes })
+      (record { offered = c; fed = r; store = t′; later = laterOf comes-after (comes .table) (comes .lent) (comes .crosspoints) })
+  unfolding framed
+  tells-told =
+      record {
+        offered-is = refl;
+        store-is = refl;
+        number-is = refl;
+        later-is = (comes-after, refl);
+        words-are = ap (λ (w : Left). told (framed (answers r t′)) w .answer) (said-at d lent (r .event) t′ table .1);
+      }
+
 -- ---- lengths that fit: an answer is lent for each row
-
-both-left : (a b : Bool) → both a b ≡ true → a ≡ true
-both-left true b h = refl
-both-left false b h = h
-
-both-right : (a b : Bool) → both a b ≡ true → b ≡ true
-both-right true b h = h
-both-right false b h = absurd (let z : _≡_ {A = ℕ} 0 1 = cc in omega arith)
 
 fit-enough : (rows lents cells path words : ℕ) → lengthsFit rows lents cells path words ≡ true → rows ≤ lents
 unfolding lengthsFit
@@ -96,7 +96,7 @@ module _ (ws t c : List ℕ) (table : Rows) (fs path : List ℕ) (cells : Cells)
     pub feeds-is : feeds (sessionAt ws) t c ≡ answers fed (x .store)
     pub later-is : laterAt d (fed .event) (x .store) table lent ≡ gave after (x .table) (x .answers) (x .crosspoints)
     pub session-is : x .session ≡ wordsOf (fed .session)
-    pub tells : Tells x (record { offered = c; fed = fed; store = x .store; later = laterOf after (x .table) (x .answers) (x .crosspoints) })
+    pub tells : Tells (record { offered = c; left = x }) (record { offered = c; fed = fed; store = x .store; later = laterOf after (x .table) (x .answers) (x .crosspoints) })
 
   module _ (r : Fed) (t′ : List ℕ) (enough : length table ≤ length lent) (q : feeds (sessionAt ws) t c ≡ answers r t′) where
     abbrev called : Called
@@ -108,21 +108,14 @@ module _ (ws t c : List ℕ) (table : Rows) (fs path : List ℕ) (cells : Cells)
     taken-told : Taken (told called y)
     unfolding framed
     taken-told =
-        let z = said-at d lent (r .event) t′ table in
         record {
           fed = r;
-          after = z .0;
+          after = comes-after d c table lent r t′;
           enough = enough;
           feeds-is = q;
-          later-is = z .1;
+          later-is = said-at d lent (r .event) t′ table .1;
           session-is = refl;
-          tells =
-              record {
-                store-is = refl;
-                number-is = refl;
-                later-is = (z .0, refl);
-                words-are = ap (λ (w : Left). told called w .answer) (z .1);
-              };
+          tells = tells-told d c table lent r t′;
         }
 
     taken-after : {x : Turn} → turnAfter called d table lent a ≡ x → (x .number ≡ 1 → ⊥) → Taken x
@@ -165,12 +158,12 @@ module _ (ws t c : List ℕ) (table : Rows) (fs path : List ℕ) (cells : Cells)
 
 -- ---- so is every list of such calls
 
-pub record Made (rows : ℕ) (fs path ws t : List ℕ) (cells : Cells) (bytes : List ℕ) (xs : List Turn) (ws″ t″ : List ℕ) (cells″ : Cells) (rest : List ℕ) : Type 0 where
+pub record Made (rows : ℕ) (fs path ws t : List ℕ) (cells : Cells) (bytes : List ℕ) (xs : List Round) (ws″ t″ : List ℕ) (cells″ : Cells) (rest : List ℕ) : Type 0 where
   pub list : List claim.Turn
   pub tell : AllTell xs list
   pub made : claim.Turns rows (sessionAt ws) t (deskAt (figuresAt fs) path cells) bytes list (sessionAt ws″) t″ (deskAt (figuresAt fs) path cells″) rest
 
-pub rounds-made : {rows : ℕ} {fs path ws t : List ℕ} {cells : Cells} {bytes : List ℕ} {xs : List Turn} {ws″ t″ : List ℕ} {cells″ : Cells} {rest : List ℕ}
+pub rounds-made : {rows : ℕ} {fs path ws t : List ℕ} {cells : Cells} {bytes : List ℕ} {xs : List Round} {ws″ t″ : List ℕ} {cells″ : Cells} {rest : List ℕ}
     → Rounds rows fs path ws t cells bytes xs ws″ t″ cells″ rest → Made rows fs path ws t cells bytes xs ws″ t″ cells″ rest
 rounds-made none = record { list = []; tell = rounds.none; made = claim.none }
 rounds-made {rows} {fs} {path} {ws} {t} {cells} {ws″ = ws″} {t″} {cells″} {rest} (round c later table lent a x e n sized left) =
@@ -182,8 +175,8 @@ rounds-made {rows} {fs} {path} {ws} {t} {cells} {ws″ = ws″} {t″} {cells″
     f : Fed
     f = k .fed
 
-    joined : {xs : List Turn} → Made rows fs path (x .session) (x .store) (x .crosspoints) (drop (getD (x .answer) 1 0) (c ++ later)) xs ws″ t″ cells″ rest
-        → Made rows fs path ws t cells (c ++ later) (x ∷ xs) ws″ t″ cells″ rest
+    joined : {xs : List Round} → Made rows fs path (x .session) (x .store) (x .crosspoints) (drop (getD (x .answer) 1 0) (c ++ later)) xs ws″ t″ cells″ rest
+        → Made rows fs path ws t cells (c ++ later) (record { offered = c; left = x } ∷ xs) ws″ t″ cells″ rest
     joined m =
         let s : sessionAt (x .session) ≡ f .session = ap sessionAt (k .session-is) ∙ words-back (f .session) in
         let p : getD (x .answer) 1 0 ≡ f .consumed = ap (λ (w : List ℕ). getD w 1 0) (k .tells .words-are) in
@@ -202,14 +195,14 @@ rounds-made {rows} {fs} {path} {ws} {t} {cells} {ws″ = ws″} {t″} {cells″
 
 -- ---- THE CLAIM
 
-pub record Claimed (rows : ℕ) (fs path : List ℕ) (cells : Cells) (bytes : List ℕ) (xs : List Turn) (ws t : List ℕ) (cells′ : Cells) (rest : List ℕ) : Type 0 where
+pub record Claimed (rows : ℕ) (fs path : List ℕ) (cells : Cells) (bytes : List ℕ) (xs : List Round) (ws t : List ℕ) (cells′ : Cells) (rest : List ℕ) : Type 0 where
   pub list : List claim.Turn
   -- what the calls answered and left is what these turns told
   pub tell : AllTell xs list
   -- and that is what the rules tell and keep for the bytes consumed
   pub holds : claim.AsRules rows begin (deskAt (figuresAt fs) path cells) 0 list (sessionAt ws) t (deskAt (figuresAt fs) path cells′) bytes rest
 
-pub ember-claim : {rows : ℕ} {fs path t : List ℕ} {cells : Cells} {bytes : List ℕ} {xs : List Turn} {ws′ t′ : List ℕ} {cells′ : Cells} {rest : List ℕ}
+pub ember-claim : {rows : ℕ} {fs path t : List ℕ} {cells : Cells} {bytes : List ℕ} {xs : List Round} {ws′ t′ : List ℕ} {cells′ : Cells} {rest : List ℕ}
     → length t ≡ storeLength → isLegal (deskAt (figuresAt fs) path cells) ≡ true → Below 256 bytes
     → Rounds rows fs path (wordsOf (sessionOf begin)) t cells bytes xs ws′ t′ cells′ rest
     → Claimed rows fs path cells bytes xs ws′ t′ cells′ rest

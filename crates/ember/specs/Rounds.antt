@@ -13,24 +13,30 @@ use Rattle.turns.specs.Turns as claim
 use Rattle.turns.specs.Whole.{laterOf}
 use Rattle.ember.specs.Calls.{laterWords, Turn, turns}
 
+-- A call: what was offered, and what it answered and left.
+pub record Round : Type 0 where
+  pub offered : List ℕ
+  pub left : Turn
+
 -- A list of calls on one desk, none of them answered with 1: each takes the session's words, the store and the crosspoints that the call before it left, and is
 -- offered bytes from the first not yet consumed. The table's content, the answers lent and the answer's words may be any at each.
-pub data Rounds (rows : ℕ) (fs path : List ℕ) : List ℕ → List ℕ → Cells → List ℕ → List Turn → List ℕ → List ℕ → Cells → List ℕ → Type 0 where
+pub data Rounds (rows : ℕ) (fs path : List ℕ) : List ℕ → List ℕ → Cells → List ℕ → List Round → List ℕ → List ℕ → Cells → List ℕ → Type 0 where
   none : {ws t : List ℕ} {cells : Cells} {rest : List ℕ} → Rounds rows fs path ws t cells rest [] ws t cells rest
-  round : {ws ws″ t t″ : List ℕ} {cells cells″ : Cells} {rest″ : List ℕ} {xs : List Turn} (c later : List ℕ) (table : Rows) (lent a : List ℕ) (x : Turn)
+  round : {ws ws″ t t″ : List ℕ} {cells cells″ : Cells} {rest″ : List ℕ} {xs : List Round} (c later : List ℕ) (table : Rows) (lent a : List ℕ) (x : Turn)
       → turns ws t c table fs path cells lent a ≡ x → (x .number ≡ 1 → ⊥) → length table ≡ rows
       → Rounds rows fs path (x .session) (x .store) (x .crosspoints) (drop (getD (x .answer) 1 0) (c ++ later)) xs ws″ t″ cells″ rest″
-      → Rounds rows fs path ws t cells (c ++ later) (x ∷ xs) ws″ t″ cells″ rest″
+      → Rounds rows fs path ws t cells (c ++ later) (record { offered = c; left = x } ∷ xs) ws″ t″ cells″ rest″
 
--- What a call answered and left is what a turn told: the event's number, the store, what came after with the table, the answers and the crosspoints, and the nine
--- words.
-pub record Tells (x : Turn) (y : claim.Turn) : Type 0 where
-  pub store-is : x .store ≡ y .store
-  pub number-is : x .number ≡ saidBy (y .fed .event) (y .store) .number
-  pub later-is : (z : After) × (laterOf z (x .table) (x .answers) (x .crosspoints) ≡ y .later)
+-- What a call was offered, answered and left is what a turn tells: the bytes offered, the event's number, the store, what came after with the table, the answers
+-- and the crosspoints, and the nine words.
+pub record Tells (r : Round) (y : claim.Turn) : Type 0 where
+  pub offered-is : r .offered ≡ y .offered
+  pub store-is : r .left .store ≡ y .store
+  pub number-is : r .left .number ≡ saidBy (y .fed .event) (y .store) .number
+  pub later-is : (z : After) × (laterOf z (r .left .table) (r .left .answers) (r .left .crosspoints) ≡ y .later)
   pub words-are : let e : Said = saidBy (y .fed .event) (y .store) in
-      x .answer ≡ cond (e .discarded) 1 0 ∷ y .fed .consumed ∷ length (e .message) ∷ laterWords (y .later)
+      r .left .answer ≡ cond (e .discarded) 1 0 ∷ y .fed .consumed ∷ length (e .message) ∷ laterWords (y .later)
 
-pub data AllTell : List Turn → List claim.Turn → Type 0 where
+pub data AllTell : List Round → List claim.Turn → Type 0 where
   none : AllTell [] []
-  more : {x : Turn} {y : claim.Turn} {xs : List Turn} {ys : List claim.Turn} → Tells x y → AllTell xs ys → AllTell (x ∷ xs) (y ∷ ys)
+  more : {r : Round} {y : claim.Turn} {rs : List Round} {ys : List claim.Turn} → Tells r y → AllTell rs ys → AllTell (r ∷ rs) (y ∷ ys)

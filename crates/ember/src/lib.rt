@@ -39,7 +39,8 @@ pub extern "C" fn ember_feed(
     chunk: &[u8],
     answer: &mut [u64],
 ) -> u64
-    ensures { λ r. ⌜ calls (now (session .entry)) (now (store .entry)) (now (chunk .entry)) (now (answer .entry)) ≡ record { number = r; session = now (session .exit); store = now (store .exit); answer = now (answer .exit) } ⌝ }
+    ensures { λ r. ⌜ calls (now (session .entry)) (now (store .entry)) (now (chunk .entry)) (now (answer .entry))
+        ≡ record { number = r; session = now (session .exit); store = now (store .exit); answer = now (answer .exit) } ⌝ }
 {
     framing_c::framing_feed(session, store, chunk, answer)
 }
@@ -47,7 +48,8 @@ pub extern "C" fn ember_feed(
 // A frame around content without its CRC.
 #[no_mangle]
 pub extern "C" fn ember_write_frame(content: &[u8], out: &mut [u8], count: &mut u64) -> u64
-    ensures { λ r. ⌜ puts (frameInto (now (content .entry)) (now (out .entry))) (now (count .entry)) ≡ record { number = r; output = now (out .exit); count = now (count .exit) } ⌝ }
+    ensures { λ r. ⌜ puts (frameInto (now (content .entry)) (now (out .entry))) (now (count .entry))
+        ≡ record { number = r; output = now (out .exit); count = now (count .exit) } ⌝ }
 {
     framing_c::framing_write_frame(content, out, count)
 }
@@ -55,7 +57,8 @@ pub extern "C" fn ember_write_frame(content: &[u8], out: &mut [u8], count: &mut 
 // The keep-alive request.
 #[no_mangle]
 pub extern "C" fn ember_write_request(out: &mut [u8], count: &mut u64) -> u64
-    ensures { λ r. ⌜ puts (into (frame requestBody) (now (out .entry))) (now (count .entry)) ≡ record { number = r; output = now (out .exit); count = now (count .exit) } ⌝ }
+    ensures { λ r. ⌜ puts (into (frame requestBody) (now (out .entry))) (now (count .entry))
+        ≡ record { number = r; output = now (out .exit); count = now (count .exit) } ⌝ }
 {
     framing_c::framing_write_request(out, count)
 }
@@ -63,7 +66,8 @@ pub extern "C" fn ember_write_request(out: &mut [u8], count: &mut u64) -> u64
 // The keep-alive response.
 #[no_mangle]
 pub extern "C" fn ember_write_response(out: &mut [u8], count: &mut u64) -> u64
-    ensures { λ r. ⌜ puts (into (frame responseBody) (now (out .entry))) (now (count .entry)) ≡ record { number = r; output = now (out .exit); count = now (count .exit) } ⌝ }
+    ensures { λ r. ⌜ puts (into (frame responseBody) (now (out .entry))) (now (count .entry))
+        ≡ record { number = r; output = now (out .exit); count = now (count .exit) } ⌝ }
 {
     framing_c::framing_write_response(out, count)
 }
@@ -71,7 +75,8 @@ pub extern "C" fn ember_write_response(out: &mut [u8], count: &mut u64) -> u64
 // A message as packets.
 #[no_mangle]
 pub extern "C" fn ember_write_message(message: &[u8], out: &mut [u8], count: &mut u64) -> u64
-    ensures { λ r. ⌜ puts (messageInto (now (message .entry)) (now (out .entry))) (now (count .entry)) ≡ record { number = r; output = now (out .exit); count = now (count .exit) } ⌝ }
+    ensures { λ r. ⌜ puts (messageInto (now (message .entry)) (now (out .entry))) (now (count .entry))
+        ≡ record { number = r; output = now (out .exit); count = now (count .exit) } ⌝ }
 {
     framing_c::framing_write_message(message, out, count)
 }
@@ -96,7 +101,8 @@ pub extern "C" fn ember_write(
     out: &mut [u8],
     answer: &mut [u64],
 ) -> u64
-    ensures { λ r. ⌜ writeCalls (now (rows .entry)) count root (now (message .entry)) (now (out .entry)) (now (answer .entry)) ≡ writing r (now (out .exit)) (now (answer .exit)) ⌝ }
+    ensures { λ r. ⌜ writeCalls (now (rows .entry)) count root (now (message .entry)) (now (out .entry)) (now (answer .entry))
+        ≡ writing r (now (out .exit)) (now (answer .exit)) ⌝ }
 {
     glow_c::glow_write(rows, count, root, message, out, answer)
 }
@@ -150,7 +156,8 @@ pub extern "C" fn ember_desk_request(
     operation: u64,
     crosspoints: &mut [u8],
 ) -> u64
-    ensures { λ r. ⌜ requests (now (figures .entry)) target (now (sources .entry)) operation (now (crosspoints .entry)) ≡ answered r (now (crosspoints .exit)) ⌝ }
+    ensures { λ r. ⌜ requests (now (figures .entry)) target (now (sources .entry)) operation (now (crosspoints .entry))
+        ≡ answered r (now (crosspoints .exit)) ⌝ }
 {
     if words::is_figures(figures) {
         return routing::request(
@@ -191,7 +198,8 @@ pub extern "C" fn ember_desk_call(
     answers: &mut [u64],
     answer: &mut [u64],
 ) -> u64
-    ensures { λ r. ⌜ deskCalls (now (figures .entry)) (now (path .entry)) root (now (rows .entry)) count (now (message .entry)) (now (answers .entry)) (now (crosspoints .entry)) (now (answer .entry))
+    ensures { λ r. ⌜ deskCalls (now (figures .entry)) (now (path .entry)) root (now (rows .entry)) count (now (message .entry)) (now (answers .entry))
+        (now (crosspoints .entry)) (now (answer .entry))
         ≡ deskCall r (now (answers .exit)) (now (crosspoints .exit)) (now (answer .exit)) ⌝ }
 {
     if answer.len() != 1 {
@@ -295,8 +303,17 @@ fn go(
     answer: &mut [u64],
 ) -> u64
     requires { ⌜ length (now answer) ≡ 9 ⌝ }
-    ensures { λ r. ⌜ turned (now (session .entry)) (now (store .entry)) (now (chunk .entry)) (deskAt f (now (path .entry)) (now (crosspoints .entry))) (now (table .entry)) (now (answers .entry)) (now (answer .entry))
-        ≡ record { number = r; session = now (session .exit); store = now (store .exit); table = now (table .exit); crosspoints = now (crosspoints .exit); answers = now (answers .exit); answer = now (answer .exit) } ⌝ }
+    ensures { λ r. ⌜ turned (now (session .entry)) (now (store .entry)) (now (chunk .entry)) (deskAt f (now (path .entry)) (now (crosspoints .entry)))
+        (now (table .entry)) (now (answers .entry)) (now (answer .entry))
+        ≡ record {
+          number = r;
+          session = now (session .exit);
+          store = now (store .exit);
+          table = now (table .exit);
+          crosspoints = now (crosspoints .exit);
+          answers = now (answers .exit);
+          answer = now (answer .exit);
+        } ⌝ }
 {
     let mut fed = [0u64; 3];
     let number = framing_c::framing_feed(session, store, chunk, &mut fed);
@@ -323,8 +340,17 @@ pub extern "C" fn ember_turn(
     answers: &mut [u64],
     answer: &mut [u64],
 ) -> u64
-    ensures { λ r. ⌜ turns (now (session .entry)) (now (store .entry)) (now (chunk .entry)) (now (table .entry)) (now (figures .entry)) (now (path .entry)) (now (crosspoints .entry)) (now (answers .entry)) (now (answer .entry))
-        ≡ record { number = r; session = now (session .exit); store = now (store .exit); table = now (table .exit); crosspoints = now (crosspoints .exit); answers = now (answers .exit); answer = now (answer .exit) } ⌝ }
+    ensures { λ r. ⌜ turns (now (session .entry)) (now (store .entry)) (now (chunk .entry)) (now (table .entry)) (now (figures .entry))
+        (now (path .entry)) (now (crosspoints .entry)) (now (answers .entry)) (now (answer .entry))
+        ≡ record {
+          number = r;
+          session = now (session .exit);
+          store = now (store .exit);
+          table = now (table .exit);
+          crosspoints = now (crosspoints .exit);
+          answers = now (answers .exit);
+          answer = now (answer .exit);
+        } ⌝ }
 {
     if words::is_figures(figures) {
         if lengths_fit(
@@ -362,7 +388,8 @@ pub extern "C" fn ember_sheet_write(
     out: &mut [u8],
     answer: &mut [u64],
 ) -> u64
-    ensures { λ r. ⌜ sheetWrites (now (figures .entry)) (now (path .entry)) (now (crosspoints .entry)) (now (out .entry)) (now (answer .entry)) ≡ sheetPut r (now (out .exit)) (now (answer .exit)) ⌝ }
+    ensures { λ r. ⌜ sheetWrites (now (figures .entry)) (now (path .entry)) (now (crosspoints .entry)) (now (out .entry)) (now (answer .entry))
+        ≡ sheetPut r (now (out .exit)) (now (answer .exit)) ⌝ }
 {
     if answer.len() != 1 {
         return 1;
@@ -374,7 +401,8 @@ pub extern "C" fn ember_sheet_write(
     1
 }
 
-// Reads a sheet: 0 and a desk, its figures, path and crosspoints, with the path's length in the answer's one word; or the first refusal, and they stay as they were.
+// Reads a sheet: 0 and a desk, its figures, path and crosspoints, with the path's length in the answer's one word; or the first refusal, and they stay as
+// they were.
 #[no_mangle]
 pub extern "C" fn ember_sheet_read(
     text: &[u8],
@@ -385,9 +413,11 @@ pub extern "C" fn ember_sheet_read(
     crosspoints: &mut [u8],
     answer: &mut [u64],
 ) -> u64
-    ensures { λ r. ⌜ sheetReads (now (text .entry)) (now (store .entry)) (now (table .entry)) (now (figures .entry)) (now (path .entry)) (now (crosspoints .entry)) (now (answer .entry))
+    ensures { λ r. ⌜ sheetReads (now (text .entry)) (now (store .entry)) (now (table .entry)) (now (figures .entry)) (now (path .entry))
+        (now (crosspoints .entry)) (now (answer .entry))
         ≡ sheetCall r (now (figures .exit)) (now (path .exit)) (now (crosspoints .exit)) (now (answer .exit)) ⌝ }
-    ensures { λ _. ⌜ Holds (sheetLent (now (text .entry)) (now (store .entry)) (now (table .entry)) (now (figures .entry)) (now (path .entry)) (now (crosspoints .entry)) (now (answer .entry)))
+    ensures { λ _. ⌜ Holds (sheetLent (now (text .entry)) (now (store .entry)) (now (table .entry)) (now (figures .entry)) (now (path .entry))
+        (now (crosspoints .entry)) (now (answer .entry)))
         (now (store .exit)) (now (table .exit)) ⌝ }
 {
     if figures.len() != 7 {

@@ -1,0 +1,179 @@
+-- The claim for `ember_turn` speaks of something: for every stream, every way to cut it and every legal desk there is a list of calls.
+use Prim.Native.Nat.{ℕ, suc, _*_, _≤_}
+use mathlib.Core.Bool.{Bool, true, false}
+use mathlib.Core.List.{List, [], _∷_, append-nil}
+use mathlib.Core.Path.{_≡_, refl, sym, ap, subst, _∙_}
+use borrow.Author.Tests.{eqb-true, eqb-false, eq-eqb, leb-true, le-leb}
+use native.Mathlib.Omega.{arith}
+use lib.Dec.{leb, eqb}
+use lib.ListN.{length}
+use Rattle.integers.proofs.Radix.{Below}
+use Rattle.framing.specs.declared.Fed.{Fed}
+use Rattle.framing.specs.declared.Session.{Session}
+use Rattle.framing.specs.Numbers.{storeLength}
+use Rattle.framing.specs.Rules.{begin}
+use Rattle.framing.specs.Session.{stateOf, sessionOf, saidBy, legal as isFit, Legal, Whole, answers, feeds}
+use Rattle.framing.specs.Offers as offers
+use Rattle.framing.proofs.Laws.{true-legal}
+use Rattle.framing.proofs.Sayable.{legal-answered}
+use Rattle.framing.proofs.Chunks.{call-ran, fresh-legal}
+use Rattle.framing.proofs.Calls as framing
+use Rattle.framing_c.specs.Words.{wordsOf, sessionAt}
+use Rattle.framing_c.specs.Calls.{accepts, told as framed, calls}
+use Rattle.framing_c.proofs.Laws.{words-back, words-session}
+use Rattle.entries.specs.Entry.{Rows}
+use Rattle.routing.specs.declared.Figures.{Figures}
+use Rattle.routing.specs.Figures.{side, both, figuresFit}
+use Rattle.routing.specs.Crosspoints.{Cells, cellsFit, legal}
+use Rattle.routing.proofs.Laws.{both-left, both-right}
+use Rattle.desk_calls.specs.Calls.{pathFits, allNumbers}
+use Rattle.desk_calls.proofs.Setup.{desk-fits, desk-legal, path-short}
+use Rattle.turns.specs.Rules.{Desk, isLegal, keep, tells, after}
+use Rattle.turns.specs.Turns as claim
+use Rattle.turns.specs.Whole.{deskAt, laterOf}
+use Rattle.turns.proofs.Follows.{comes-legal}
+use Rattle.turns.proofs.Comes.{comes-at, said-at, function-turn}
+use Rattle.turns.proofs.Claim.{claim as rules-claim}
+use Rattle.ember.specs.Words.{figuresAt, isFigures}
+use Rattle.ember.specs.Calls.{lengthsFit, Turn, told, turnAfter, turned, turns}
+use Rattle.ember.specs.Rounds.{Round, Rounds, none, round, AllTell, more}
+use Rattle.ember.specs.Rounds as rounds
+use Rattle.ember.proofs.Claim.{next-later, comes, comes-after, tells-told}
+
+-- ---- a legal desk has lengths that fit
+
+legal-length : (w : ℕ) (f : Figures) (cells : Cells) → legal w f cells ≡ true → length cells ≡ w * w
+unfolding legal cellsFit
+legal-length w f cells h = eqb-true _ _ (both-left _ _ (both-right (figuresFit w f) _ h))
+
+path-some : (path : List ℕ) → pathFits path ≡ true → 1 ≤ length path
+unfolding pathFits
+path-some path h = leb-true _ _ (both-left _ _ (both-left _ (allNumbers path) h))
+
+fit : (rows lents cells path words : ℕ) → words ≡ 9 → rows ≤ 256 → rows ≤ lents → cells ≡ 4096 → 1 ≤ path → path ≤ 16
+    → lengthsFit rows lents cells path words ≡ true
+unfolding lengthsFit
+fit rows lents cells path words a b c d e f = rw (eq-eqb words 9 a, le-leb _ _ b, le-leb _ _ c, eq-eqb cells 4096 d, le-leb _ _ e, le-leb _ _ f) refl
+
+-- ---- a call with a legal session and a legal desk is a turn
+
+module _ (s : Session) (t c : List ℕ) (table : Rows) (fs path : List ℕ) (cells : Cells) (lent a : List ℕ) (r : Fed) (t′ : List ℕ)
+    (l : Legal s t) (e : feeds s t c ≡ answers r t′) where
+  abbrev d : Desk
+  d = deskAt (figuresAt fs) path cells
+
+  accepted : accepts (wordsOf s) (length t) 3 ≡ true
+  unfolding accepts
+  accepted = rw (words-session s) (ap (λ (v : Session). isFit v (length t)) (words-back s) ∙ true-legal s t l)
+
+  calls-are : calls (wordsOf s) t c (0 ∷ 0 ∷ 0 ∷ []) ≡ framed (answers r t′)
+  unfolding calls
+  calls-are = rw accepted (ap framed (ap (λ (v : Session). feeds v t c) (words-back s) ∙ e))
+
+  not-one : eqb (saidBy (r .event) t′ .number) 1 ≡ false
+  not-one = subst (λ (w : Whole). eqb (w .said .number) 1 ≡ false) e (legal-answered s t c l)
+
+  after-is : turnAfter (framed (answers r t′)) d table lent a ≡ told (framed (answers r t′)) (comes d c table lent r t′)
+  unfolding framed
+  after-is = rw (not-one, next-later d t′ table lent (r .event)) refl
+
+  made-told : isFigures fs ≡ true → lengthsFit (length table) (length lent) (length cells) (length path) (length a) ≡ true
+      → turns (wordsOf s) t c table fs path cells lent a ≡ told (framed (answers r t′)) (comes d c table lent r t′)
+  unfolding turns turned
+  made-told g h = rw (g, h, calls-are) after-is
+
+-- ---- so there are lists of them: a table, answers and the answer's words lent at each call
+
+module _ (rows : ℕ) (most : rows ≤ 256) (tables : ℕ → Rows) (sized : (i : ℕ) → length (tables i) ≡ rows) (lents : ℕ → List ℕ)
+    (enough : (i : ℕ) → rows ≤ length (lents i)) (words : ℕ → List ℕ) (nine : (i : ℕ) → length (words i) ≡ 9) (fs path : List ℕ)
+    (figures : isFigures fs ≡ true) where
+  abbrev desk : Cells → Desk
+  desk cells = deskAt (figuresAt fs) path cells
+
+  lengths : (i : ℕ) (cells : Cells) → isLegal (desk cells) ≡ true
+      → lengthsFit (length (tables i)) (length (lents i)) (length cells) (length path) (length (words i)) ≡ true
+  lengths i cells g =
+      let f = desk-fits side (figuresAt fs) path cells g in
+      let n : length (tables i) ≡ rows = sized i in
+      let m : rows ≤ length (lents i) = enough i in
+      fit _ _ _ _ _ (nine i) (omega arith) (omega arith) (legal-length side (figuresAt fs) cells (desk-legal side (figuresAt fs) path cells g)) (path-some path f)
+      (path-short path f)
+
+  record Some (s : Session) (t : List ℕ) (cells : Cells) (rest : List ℕ) (cs : List offers.Turn) (s″ : Session) (t″ rest″ : List ℕ) : Type 0 where
+    pub made : List Round
+    pub list : List claim.Turn
+    pub cells″ : Cells
+    pub calls-made : Rounds rows fs path (wordsOf s) t cells rest made (wordsOf s″) t″ cells″ rest″
+    pub turns-made : claim.Turns rows s t (desk cells) rest list s″ t″ (desk cells″) rest″
+    pub tell : AllTell made list
+    pub same : claim.calls list ≡ cs
+
+  some : {s s″ : Session} {t t″ rest rest″ : List ℕ} {cs : List offers.Turn} (i : ℕ) (cells : Cells) → isLegal (desk cells) ≡ true → Legal s t
+      → offers.Turns s t rest cs s″ t″ rest″ → Some s t cells rest cs s″ t″ rest″
+  unfolding framed
+  some i cells g l offers.none =
+      record { made = []; list = []; cells″ = cells; calls-made = none; turns-made = claim.none; tell = rounds.none; same = refl }
+  some {s} {t = t} i cells g l (offers.turn {t′ = t′} c later r e left) =
+      let d = desk cells in
+      let y = comes d c (tables i) (lents i) r t′ in
+      let z = comes-after d c (tables i) (lents i) r t′ in
+      let x = told (framed (answers r t′)) y in
+      let q = made-told s t c (tables i) fs path cells (lents i) (words i) r t′ l e figures (lengths i cells g) in
+      let n = not-one s t c (tables i) fs path cells (lents i) (words i) r t′ l e in
+      let legal′ = comes-legal (comes-at rows d t′ (tables i) (sized i) (lents i) (enough i) (r .event)) g in
+      let m = some (suc i) (y .crosspoints) legal′ (call-ran r e l .legal) left in
+      record {
+        made = record { offered = c; left = x } ∷ m .made;
+        list = record { offered = c; fed = r; store = t′; later = laterOf z (y .table) (y .lent) (y .crosspoints) } ∷ m .list;
+        cells″ = m .cells″;
+        calls-made = round c later (tables i) (lents i) (words i) x q (one-not _ n) (sized i) (m .calls-made);
+        turns-made =
+            function-turn c later (tables i) (lents i) (record { fed = r; after = z }) (y .table) (y .lent) (y .crosspoints) (sized i) (enough i) e
+            (said-at d (lents i) (r .event) t′ (tables i) .1) (m .turns-made);
+        tell = more (tells-told d c (tables i) (lents i) r t′) (m .tell);
+        same = ap (λ (xs : List offers.Turn). record { offered = c; fed = r; store = t′ } ∷ xs) (m .same);
+      }
+    where
+      one-not : (k : ℕ) → eqb k 1 ≡ false → k ≡ 1 → ⊥
+      one-not k h p = eqb-false k 1 h p
+
+  -- THE CLAIM, with nothing left open. For every stream of octets, every way to cut it, every store of the right length, every legal desk, and every table,
+  -- answers and answer's words at each call, there is a list of calls of `ember_turn` that offers the chunks, each until it is consumed; it tells exactly what the
+  -- rules tell for the stream, and leaves what they keep.
+  pub record Offered (t : List ℕ) (cells : Cells) (bytes : List ℕ) (chunks : List (List ℕ)) : Type 0 where
+    pub made : List Round
+    pub session : List ℕ
+    pub store : List ℕ
+    pub cells′ : Cells
+    pub calls-made : Rounds rows fs path (wordsOf (sessionOf begin)) t cells bytes made session store cells′ []
+    pub list : List claim.Turn
+    pub tell : AllTell made list
+    pub served : offers.Serves chunks (claim.calls list)
+    pub tells : claim.told list 0 ≡ tells rows (keep begin (desk cells)) 0 bytes
+    pub keeps : keep (stateOf (sessionAt session) store) (desk cells′) ≡ after rows (keep begin (desk cells)) bytes
+
+  pub ember-every-cut : (bytes : List ℕ) → Below 256 bytes → (chunks : List (List ℕ)) → offers.joined chunks ≡ bytes → (t : List ℕ)
+      → length t ≡ storeLength → (cells : Cells) → isLegal (desk cells) ≡ true → Offered t cells bytes chunks
+  ember-every-cut bytes b chunks e t room cells g =
+      let k = framing.some-turns chunks (sessionOf begin) t (fresh-legal room) in
+      let m = some 0 cells g (fresh-legal room) (k .made) in
+      let calls-made =
+      subst (λ (bs : List ℕ). Rounds rows fs path (wordsOf (sessionOf begin)) t cells bs (m .made) (wordsOf (k .session)) (k .store) (m .cells″) []) e (m .calls-made) in
+      let turns-made =
+      subst (λ (bs : List ℕ). claim.Turns rows (sessionOf begin) t (desk cells) bs (m .list) (k .session) (k .store) (desk (m .cells″)) []) e (m .turns-made) in
+      let f = rules-claim room g b turns-made in
+      let x : offers.eaten (claim.calls (m .list)) ≡ bytes = sym (append-nil (offers.eaten (claim.calls (m .list)))) ∙ f .bytes-are in
+      record {
+        made = m .made;
+        session = wordsOf (k .session);
+        store = k .store;
+        cells′ = m .cells″;
+        calls-made = calls-made;
+        list = m .list;
+        tell = m .tell;
+        served = subst (offers.Serves chunks) (sym (m .same)) (k .served);
+        tells = f .tells ∙ ap (tells rows (keep begin (desk cells)) 0) x;
+        keeps =
+            ap (λ (v : Session). keep (stateOf v (k .store)) (desk (m .cells″))) (words-back (k .session)) ∙ f .keeps
+            ∙ ap (after rows (keep begin (desk cells))) x;
+      }
