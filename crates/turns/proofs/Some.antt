@@ -55,9 +55,9 @@ module _ (rows : ℕ) (tables : ℕ → Rows) (sized : (i : ℕ) → length (tab
         served = subst (offers.Serves chunks) (sym (f .same)) (k .served);
       }
 
-  -- THE CLAIM, with nothing left open. For every stream of octets, every way to cut it, every store of the right length, every legal desk and every table
-  -- at each turn there is a list of turns from a fresh session that offers the chunks, each until it is consumed; it tells exactly what the rules tell for
-  -- the stream, and the frame, the message and the desk that it leaves are those that the rules keep.
+  -- THE CLAIM, with nothing left open. For every stream of octets, every way to cut it, every store of the right length, every legal desk, and whatever tables
+  -- of one length, and an answer for each row, the turns are given, there is a list of turns from a fresh session that offers the chunks, each until it is
+  -- consumed; it tells exactly what the rules tell for the stream, and the frame, the message and the desk that it leaves are those that the rules keep.
   pub every-cut : (bytes : List ℕ) → Below 256 bytes → (chunks : List (List ℕ)) → offers.joined chunks ≡ bytes → (t : List ℕ) → length t ≡ storeLength
       → (d : Desk) → isLegal d ≡ true
       → (k : Consumed rows (sessionOf begin) t d chunks)

@@ -59,10 +59,12 @@ treeOf s table =
 
 -- ---- what follows an event
 
--- after an event other than 3; after 3 and a tree answer other than 0; after 3 and 0: the entries, the desk's number and its answer to each connection
 pub data Then : Type 0 where
+  -- after an event other than 3
   nothing : Then
+  -- after 3: the tree reader's answer, other than 0
   refused : TreeSaid → Then
+  -- after 3: the tree reader's answer 0, the entries, the desk's number and its answer to each connection
   served : TreeSaid → List Item → ℕ → List ℕ → Then
 
 -- .. and the desk after it
@@ -94,7 +96,7 @@ pub record Told : Type 0 where
   pub event : Said
   pub after : Then
 
--- that of a byte, if it makes an event, before the later ones
+-- the list with a byte's event before the later ones, if it makes one (number 0: none)
 abbrev pub noted : Said → Then → ℕ → List Told → List Told
 noted e x n later = pick (eqb (e .number) 0) later (record { offset = n; event = e; after = x } ∷ later)
 

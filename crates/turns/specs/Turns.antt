@@ -107,7 +107,7 @@ pub record AsRules (rows : ℕ) (s : State) (d : Desk) (n : ℕ) (ts : List Turn
   pub keeps : keep (stateOf s″ t″) d″ ≡ after rows (keep s d) (offers.eaten (calls ts))
   -- the bytes consumed are the first of those to come
   pub bytes-are : offers.eaten (calls ts) ++ rest ≡ bytes
-  -- each session call consumed no more than it was offered, and all of it where it gave no event (the offset of one that did says where it stopped)
+  -- a session call that gave no event consumed all it was offered; one that gave an event stopped at its byte: `tells` has the offset
   pub counted : offers.Counted (calls ts)
   -- what the turns leave is fit for others
   pub legal : isLegal d″ ≡ true
