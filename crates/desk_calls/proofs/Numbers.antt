@@ -8,12 +8,13 @@ use borrow.Author.Tests.{eq-eqb, ne-eqb}
 use lib.ListN.{length, drop, getD, drop-of-length-le}
 use lib.Seq.{drop-cons}
 use lib.Dec.{leb}
+use Rattle.identifiers.specs.declared.Arc.{Arc}
 use Rattle.identifiers.specs.declared.Arc.the-variants.{Number, Range as Over, Refused as NoArc}
 use Rattle.identifiers.specs.declared.Oid.{Oid}
 use Rattle.identifiers.specs.declared.Oid.the-variants.{Numbers, Range, Refused}
 use Rattle.identifiers.specs.Identifier.{Arcs, bad, over, numbers, push, pass, judged, arcAt, arcs, arcsFrom, oidAt}
 use Rattle.identifiers.proofs.Laws.{arcs-done, arcs-number, arcs-over, arcs-bad, oid-within}
-use Rattle.desk_calls.specs.Connections.{listOf, numbersIn, Left, Goes}
+use Rattle.desk_calls.specs.Connections.{listOf, numbersIn, endOf, stepOf, Left, Goes}
 use Rattle.desk_calls.specs.Calls.{same}
 
 -- an answer by cases
@@ -39,6 +40,9 @@ unfolding isNumbers
 bad-not xs e = omega (arith, ap isNumbers e)
 
 module _ (bs : List ℕ) (p end : ℕ) where
+  pub step-is : (a : Arc) → arcAt bs p end ≡ a → stepOf (arcAt bs p end) end ≡ stepOf a end
+  step-is a e = ap (λ (x : Arc). stepOf x end) e
+
   pub left-none : (xs : List ℕ) → end ≤ p → Left bs p end xs → xs ≡ []
   left-none xs h k = sym (ap listOf (sym (arcs-done bs end p (k .0) h) ∙ k .1 .1))
 
@@ -77,6 +81,9 @@ unlisted (numbers ns) e = absurd (omega (arith, e))
 module _ (bs : List ℕ) where
   whole : judged (arcs bs 0 (length bs)) ≡ oidAt bs 0 (length bs)
   whole = oid-within bs 0 (length bs) (omega arith)
+
+  pub end-is : (a : Oid) → oidAt bs 0 (length bs) ≡ a → endOf (oidAt bs 0 (length bs)) (length bs) ≡ endOf a (length bs)
+  end-is a e = ap (λ (x : Oid). endOf x (length bs)) e
 
   pub end-list : (n : ℕ) → oidAt bs 0 (length bs) ≡ Numbers n → Left bs 0 (length bs) (numbersIn bs)
   unfolding numbersIn

@@ -6,6 +6,11 @@ use mathlib.Core.Bool.{Bool}
 use lib.ListN.{length, getD}
 use lib.Dec.{leb, ltb, eqb}
 use Rattle.integers.specs.Digits.{pick}
+use Rattle.identifiers.specs.declared.Arc.{Arc}
+use Rattle.identifiers.specs.declared.Arc.the-variants.{Number, Range as Over, Refused as NoArc}
+use Rattle.identifiers.specs.declared.Oid.{Oid}
+use Rattle.identifiers.specs.declared.Oid.the-variants.{Numbers, Range, Refused}
+use Rattle.desk_calls.specs.declared.Step.{Step}
 use Rattle.identifiers.specs.Identifier.{Arcs, bad, over, numbers, arcs, arcsFrom}
 use Rattle.entries.specs.Entry.{Rows}
 use Rattle.entries.specs.declared.Cell.{Cell}
@@ -41,6 +46,18 @@ listOf (numbers ns) = ns
 -- the numbers of a relative identifier: a path, or the sources of a connection
 unfoldable pub numbersIn : List ℕ → List ℕ
 numbersIn bs = listOf (arcs bs 0 (length bs))
+
+-- Where they end, from what the reader of identifiers answers: at the octets' end, or 0 where they are none.
+abbrev pub endOf : Oid → ℕ → ℕ
+endOf (Numbers n) end = end
+endOf Range end = 0
+endOf Refused end = 0
+
+-- A number and where the next one begins: 0 and the end where there is none.
+abbrev pub stepOf : Arc → ℕ → Step
+stepOf (Number n next) end = record { number = n; next = next }
+stepOf (Over next) end = record { number = 0; next = end }
+stepOf NoArc end = record { number = 0; next = end }
 
 -- One by one: the numbers from p up to `end` are xs. f is no fewer than the octets left, so it ends nothing early.
 abbrev pub Left : List ℕ → ℕ → ℕ → List ℕ → Type 0

@@ -12,7 +12,8 @@ ghost use Rattle.entries.specs.Cell.{absent};
 ghost use Rattle.forest.specs.Rows.{itemsIn};
 ghost use Rattle.routing.specs.Figures.{side};
 ghost use Rattle.routing.specs.Crosspoints.{clear, answer};
-ghost use Rattle.desk_calls.specs.Connections.{cellIn, numberOf, octetsOf, numbersIn, Left, Goes, isQualified, fullPath};
+ghost use Rattle.identifiers.specs.Identifier.{arcAt, oidAt};
+ghost use Rattle.desk_calls.specs.Connections.{cellIn, numberOf, octetsOf, numbersIn, endOf, stepOf, Left, Goes, isQualified, fullPath};
 ghost use Rattle.desk_calls.specs.Calls.{pathFits, deskLegal, deskOpened, same, called, outcome, told};
 ghost use Rattle.desk_calls.specs.Steps.{once, Kept, Handed, askedOf, answeredAt, servedIn, Takes};
 
@@ -166,6 +167,7 @@ fn part_of(s: &[u8], v: Cell) -> Part
 
 // The end of an identifier's numbers: that of its octets, or 0 where these are none.
 pub fn list_end(octets: &[u8]) -> usize
+    ensures { λ r. ⌜ endOf (oidAt (now (octets .entry)) 0 (length (now (octets .entry)))) (length (now (octets .entry))) ≡ r ⌝ }
     ensures { λ r. ⌜ Left (now (octets .entry)) 0 r (numbersIn (now (octets .entry))) ⌝ }
 {
     match identifiers::read_oid(octets, 0, octets.len()) {
@@ -181,8 +183,9 @@ pub struct Step {
     pub next: usize,
 }
 
-// The number at p, where numbers are left before `end`.
+// The number at p, where numbers are left before `end`; 0 and `end` where there is none.
 pub fn next_number(octets: &[u8], p: usize, end: usize) -> Step
+    ensures { λ r. ⌜ stepOf (arcAt (now (octets .entry)) p end) end ≡ r ⌝ }
     ensures { λ r. ⌜ (p < end → (xs : List ℕ) → Left (now (octets .entry)) p end xs → Goes (now (octets .entry)) end xs (r .number) (r .next)) ⌝ }
     ensures { λ r. ⌜ (p < end → (p < r .next) × (r .next ≤ end)) ⌝ }
 {

@@ -27,7 +27,7 @@ loop-holds : tie.Need-loop-holds Inv-loop μ-loop
 loop-holds c =
     let the-list-end = c .list-end in
     let the-Start = c .before .before .before .before in
-    (_, (the-list-end .ensures, (kept-none _ _ (the-Start .pre .1 .0) (the-Start .pre .1 .1), (λ x. refl, (refl, refl)))))
+    (_, (the-list-end .ensures .1, (kept-none _ _ (the-Start .pre .1 .0) (the-Start .pre .1 .1), (λ x. refl, (refl, refl)))))
 
 next-number-requires : tie.Need-next-number-requires Inv-loop μ-loop
 next-number-requires c κs = search needs
@@ -56,7 +56,7 @@ returns c =
     let the-if1 = c .if1 in
     let i = the-loop .inv in
     let r = i .1 .1 .0 .room in
-    let g = the-next-number .ensures .0 (the-loop-test .taken) (i .0) (i .1 .0) in (
+    let g = the-next-number .ensures .1 .0 (the-loop-test .taken) (i .0) (i .1 .0) in (
       gather-out _ (take (the-loop .k) (the-loop .list)) (i .0) (g .0) _ (the-loop .list) _ (g .1 .0)
           (i .1 .1 .1 .0) (omega (arith, the-if1 .taken)) (omega (arith, r)),
       omega arith,
@@ -73,7 +73,7 @@ loop-less : tie.Need-loop-less Inv-loop μ-loop
 loop-less c =
     let the-loop-test = c .before .before .before .before .before .before .before .before .before .before .loop-test in
     let the-next-number = c .before .before .before .before .before .before .before .before .before .next-number in
-    let w = the-next-number .ensures .1 (the-loop-test .taken) in omega arith
+    let w = the-next-number .ensures .1 .1 (the-loop-test .taken) in omega arith
 
 loop-again : tie.Need-loop-again Inv-loop μ-loop
 loop-again c =
@@ -82,7 +82,7 @@ loop-again c =
     let the-next-number = c .before .before .before .before .before .before .before .before .before .next-number in
     let the-keep = c .before .before .before .before .keep in
     let i = the-loop .inv in
-    let g = the-next-number .ensures .0 (the-loop-test .taken) (i .0) (i .1 .0) in (
+    let g = the-next-number .ensures .1 .0 (the-loop-test .taken) (i .0) (i .1 .0) in (
       g .0,
       (
         g .1 .1,

@@ -1,5 +1,5 @@
 use mathlib.Core.Path.{sym, _∙_}
-use Rattle.desk_calls.proofs.Numbers.{end-list, end-range, end-refused}
+use Rattle.desk_calls.proofs.Numbers.{end-is, end-list, end-range, end-refused}
 use borrow.Author.Needs.{needs}
 use Rattle.desk_calls.proofs.list_end.Statement.{statement}
 use Rattle.desk_calls.proofs.list_end.Tie as tie
@@ -20,19 +20,22 @@ returns : tie.Need-returns
 returns c =
     let the-read-oid = c .before .before .read-oid in
     let the-enum-told = c .enum-told in
-    end-list _ _ (sym (the-read-oid .ensures .is) ∙ the-enum-told .given .1)
+    let e = sym (the-read-oid .ensures .is) ∙ the-enum-told .given .1 in
+    (end-is _ _ e, end-list _ _ e)
 
 returns-2 : tie.Need-returns-2
 returns-2 c =
     let the-read-oid = c .before .before .read-oid in
     let the-enum-told2 = c .enum-told2 in
-    end-range _ (sym (the-read-oid .ensures .is) ∙ the-enum-told2 .given .1)
+    let e = sym (the-read-oid .ensures .is) ∙ the-enum-told2 .given .1 in
+    (end-is _ _ e, end-range _ e)
 
 returns-3 : tie.Need-returns-3
 returns-3 c =
     let the-read-oid = c .before .before .read-oid in
     let the-enum-told3 = c .enum-told3 in
-    end-refused _ (sym (the-read-oid .ensures .is) ∙ the-enum-told3 .given .1)
+    let e = sym (the-read-oid .ensures .is) ∙ the-enum-told3 .given .1 in
+    (end-is _ _ e, end-refused _ e)
 
 pub list-end-spec : {M : Type 1} → statement M
 list-end-spec =

@@ -22,7 +22,7 @@ list-end-requires c κs = search needs
 loop-holds : tie.Need-loop-holds Inv-loop μ-loop
 loop-holds c =
     let the-list-end = c .list-end in
-    (_, (the-list-end .ensures, refl))
+    (_, (the-list-end .ensures .1, refl))
 
 next-number-requires : tie.Need-next-number-requires Inv-loop μ-loop
 next-number-requires c κs = search needs
@@ -34,7 +34,7 @@ returns c =
     let the-next-number = c .before .next-number in
     let the-if1 = c .if1 in
     let i = the-loop .inv in
-    let g = the-next-number .ensures .0 (the-loop-test .taken) (i .0) (i .1 .0) in
+    let g = the-next-number .ensures .1 .0 (the-loop-test .taken) (i .0) (i .1 .0) in
     i .1 .1 ∙ same-short (i .0) _ (the-loop .j) _ (g .0) (g .1 .0) (the-if1 .taken)
 
 mul-if2 : tie.Need-mul-if2 Inv-loop μ-loop
@@ -53,7 +53,7 @@ returns-2 c =
     let the-if1 = c .before .before .before .if1 in
     let the-if2 = c .if2 in
     let i = the-loop .inv in
-    let g = the-next-number .ensures .0 (the-loop-test .taken) (i .0) (i .1 .0) in
+    let g = the-next-number .ensures .1 .0 (the-loop-test .taken) (i .0) (i .1 .0) in
     i .1 .1 ∙ same-other (i .0) _ (the-loop .j) _ (g .0) (g .1 .0) (the-if1 .left) (the-if2 .taken)
 
 add-j : tie.Need-add-j Inv-loop μ-loop
@@ -63,7 +63,7 @@ loop-less : tie.Need-loop-less Inv-loop μ-loop
 loop-less c =
     let the-loop-test = c .before .before .before .before .before .loop-test in
     let the-next-number = c .before .before .before .before .next-number in
-    let w = the-next-number .ensures .1 (the-loop-test .taken) in omega arith
+    let w = the-next-number .ensures .1 .1 (the-loop-test .taken) in omega arith
 
 loop-again : tie.Need-loop-again Inv-loop μ-loop
 loop-again c =
@@ -73,7 +73,7 @@ loop-again c =
     let the-if1 = c .before .before .before .if1 in
     let the-if2 = c .if2 in
     let i = the-loop .inv in
-    let g = the-next-number .ensures .0 (the-loop-test .taken) (i .0) (i .1 .0) in
+    let g = the-next-number .ensures .1 .0 (the-loop-test .taken) (i .0) (i .1 .0) in
     (g .0, (g .1 .1, i .1 .1 ∙ same-more (i .0) _ (the-loop .j) _ (g .0) (g .1 .0) (the-if1 .left) (the-if2 .left)))
 
 returns-3 : tie.Need-returns-3 Inv-loop μ-loop

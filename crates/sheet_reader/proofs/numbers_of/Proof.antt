@@ -22,7 +22,7 @@ list-end-requires c κs = search needs
 loop-holds : tie.Need-loop-holds Inv-loop μ-loop
 loop-holds c =
     let the-list-end = c .list-end in
-    (_, (the-list-end .ensures, (refl, (refl, omega arith))))
+    (_, (the-list-end .ensures .1, (refl, (refl, omega arith))))
 
 next-number-requires : tie.Need-next-number-requires Inv-loop μ-loop
 next-number-requires c κs = search needs
@@ -38,7 +38,7 @@ returns c =
     let the-loop = c .before .before .before .loop in
     let the-loop-test = c .before .before .loop-test in
     let the-next-number = c .before .next-number in
-    let i = the-loop .inv in let l = i .1 .1 .1 .1 in let g = the-next-number .ensures .0 (the-loop-test .taken) (i .0) (i .1 .0) in taken-over _ _ (i .0) (the-loop .k) (i .1 .1 .1 .0 ∙ the-Start .pre) (i .1 .1 .0) _ (g .0) (g .1 .0) (omega arith)
+    let i = the-loop .inv in let l = i .1 .1 .1 .1 in let g = the-next-number .ensures .1 .0 (the-loop-test .taken) (i .0) (i .1 .0) in taken-over _ _ (i .0) (the-loop .k) (i .1 .1 .1 .0 ∙ the-Start .pre) (i .1 .1 .0) _ (g .0) (g .1 .0) (omega arith)
 
 mul-list : tie.Need-mul-list Inv-loop μ-loop
 mul-list c = search needs
@@ -56,7 +56,7 @@ loop-less : tie.Need-loop-less Inv-loop μ-loop
 loop-less c =
     let the-loop-test = c .before .before .loop-test in
     let the-next-number = c .before .next-number in
-    let w = the-next-number .ensures .1 (the-loop-test .taken) in omega arith
+    let w = the-next-number .ensures .1 .1 (the-loop-test .taken) in omega arith
 
 loop-again : tie.Need-loop-again Inv-loop μ-loop
 loop-again c =
@@ -65,7 +65,7 @@ loop-again c =
     let the-loop-test = c .before .before .loop-test in
     let the-next-number = c .before .next-number in
     let i = the-loop .inv in
-    let g = the-next-number .ensures .0 (the-loop-test .taken) (i .0) (i .1 .0) in
+    let g = the-next-number .ensures .1 .0 (the-loop-test .taken) (i .0) (i .1 .0) in
     (g .0, (g .1 .1, (taken-more _ _ (i .0) (the-loop .k) (i .1 .1 .1 .0 ∙ the-Start .pre) (i .1 .1 .0) _ (g .0) (g .1 .0) (omega arith), (length-set (the-loop .list) (the-loop .k) (the-next-number .result .number) ∙ i .1 .1 .1 .0, omega arith))))
 
 same-length-2 : tie.Need-same-length-2 Inv-loop μ-loop
