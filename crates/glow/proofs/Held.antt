@@ -13,11 +13,11 @@ use Rattle.entries.specs.Entry.{Entries, Rows, blank, putCell, overlay}
 use Rattle.entries.specs.Row.{cellPut, blanked}
 use Rattle.entries.proofs.Laws.{overlay-put, overlay-new, length-put}
 use Rattle.grammar.specs.Grammar.{contentsOf}
-use Rattle.glow.specs.declared.Member.the-variants.{Done, Over, Leaf, Contents, Items, Refused as NoMember}
-use Rattle.glow.specs.declared.Item.the-variants.{Done as NoMore, Element, Refused as NoItem}
+use Rattle.members.specs.declared.Member.the-variants.{Done, Over, Leaf, Contents, Items, Refused as NoMember}
+use Rattle.members.specs.declared.Item.the-variants.{Done as NoMore, Element, Refused as NoItem}
 use Rattle.glow.specs.declared.Walked.{Walked}
 use Rattle.glow.specs.declared.Walked.the-variants.{Read, Refused as NotRead}
-use Rattle.glow.specs.Members.{memberAt, itemAt}
+use Rattle.members.specs.Members.{memberAt, itemAt}
 use Rattle.glow.specs.Tree.{Out, out, closed, MembersGive, ItemsGive}
 use Rattle.glow.specs.Progress.{counted, Closes, Fills, MembersFill, ItemsFill}
 use Rattle.glow.proofs.Ways.{members-done, members-no, members-over, members-leaf, contents-no, contents-in, list-no, list-in}

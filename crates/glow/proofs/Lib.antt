@@ -1,12 +1,9 @@
 -- For what stands above: Answers (`answer-by-bytes`, `refused-as-was`, `past-untouched`, `rows-kept`, `count-bounded`, `place-within`, `parts-within`), over
--- Places and Within. Samples: Vectors. What a set's marks mean: Marks. The rest is what the proofs of the code share.
-pub mod Laws
+-- Places and Within. Samples: Vectors. The rest is what the proofs of the code share.
 pub mod Ways
 pub mod Rooted
 pub mod Held
 pub mod Vectors
 pub mod Places
 pub mod Within
-pub mod Marks
 pub mod Answers
-pub mod Quick

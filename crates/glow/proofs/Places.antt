@@ -49,12 +49,12 @@ use Rattle.grammar.specs.declared.Leaf.the-variants.{Kept, Refused as Unfit}
 use Rattle.grammar.specs.Grammar.{any, step, path, name, body, ruleOf, innerClass, innerNumber}
 use Rattle.grammar.specs.Leaf.{expects, inRange, isName, isPath, numberLeaf, textLeaf, valueLeaf, judged, pathLeaf, listLeaf, numbersAt, leafAt}
 use Rattle.grammar.proofs.Bounds.{isPart, kept-part}
-use Rattle.glow.specs.declared.Member.{Member}
-use Rattle.glow.specs.declared.Member.the-variants.{Done, Over, Leaf as Cell-of, Contents, Items, Refused as NoMember}
-use Rattle.glow.specs.declared.Item.{Item}
-use Rattle.glow.specs.declared.Item.the-variants.{Done as NoMore, Element, Refused as NoItem}
-use Rattle.glow.specs.Members.{due, inOrder, again, afterListed, afterOther, column, overOf, keptOf, leafOf, plainAt, innerAt, valueOf, listedAt, ruledAt}
-use Rattle.glow.specs.Members.{memberOf, memberAt, kindOf, elementOf, itemOf, itemAt}
+use Rattle.members.specs.declared.Member.{Member}
+use Rattle.members.specs.declared.Member.the-variants.{Done, Over, Leaf as Cell-of, Contents, Items, Refused as NoMember}
+use Rattle.members.specs.declared.Item.{Item}
+use Rattle.members.specs.declared.Item.the-variants.{Done as NoMore, Element, Refused as NoItem}
+use Rattle.members.specs.Members.{due, inOrder, again, afterListed, afterOther, column, overOf, keptOf, leafOf, plainAt, innerAt, valueOf, listedAt, ruledAt}
+use Rattle.members.specs.Members.{memberOf, memberAt, kindOf, elementOf, itemOf, itemAt}
 
 module _ (s : List ℕ) where
   -- heads

@@ -1,4 +1,4 @@
--- Laws of Root and of the whole message, and of the small tables that the walk reads.
+-- Laws of the whole message.
 use Prim.Native.Nat.{ℕ, suc, _+_, _-_, _*_, _/_, _%_, _^_, _≤_, _<_}
 use mathlib.Core.Path.{_≡_, refl, sym, ap, subst, _∙_}
 use mathlib.Core.List.{List, [], _∷_, _++_}
@@ -11,102 +11,21 @@ use Rattle.integers.specs.Digits.{pick}
 use Rattle.containers.specs.declared.No.{No}
 use Rattle.containers.specs.declared.Open.{Open}
 use Rattle.containers.specs.declared.Tag.{Tag}
-use Rattle.containers.specs.declared.Stands.the-variants.{Ended, Here, Refused}
-use Rattle.containers.specs.declared.Found.the-variants.{Value, Refused as NotFound}
 use Rattle.containers.specs.declared.Onto.{Onto}
 use Rattle.containers.specs.declared.Onto.the-variants.{Next, Refused as Stopped}
-use Rattle.containers.specs.Ends.{no, enterAt, firstAt, isTag}
+use Rattle.containers.specs.Ends.{no}
 use Rattle.entries.specs.Entry.{Entries, Rows, overlay}
-use Rattle.grammar.specs.Grammar.{innerClass, innerNumber, collectionOf, rootOf}
 use Rattle.glow.specs.declared.Walked.{Walked}
 use Rattle.glow.specs.declared.Walked.the-variants.{Read, Refused as NotRead}
-use Rattle.glow.specs.declared.Top.the-variants.{Root, Refused as NoRoot}
+use Rattle.members.specs.declared.Top.the-variants.{Root, Refused as NoRoot}
 use Rattle.glow.specs.declared.Whole.{Whole}
 use Rattle.glow.specs.declared.Whole.the-variants.{Read as ReadWhole, Refused as NotWhole}
 use Rattle.glow.specs.Tree.{Out, out, closed, itemsBy, ItemsGive}
 use Rattle.glow.specs.declared.Answer.the-variants.{Setup, Refused as NoTree, Room, Read as ReadTree}
-use Rattle.glow.specs.Message.{unbounded, rootKind, topAt, finished, walk, setup, result, readOf, readAt}
+use Rattle.members.specs.Root.{topAt}
+use Rattle.glow.specs.Message.{finished, walk, setup, result, readOf, readAt}
 use Rattle.glow.specs.Progress.{counted, whole, Closes, Finishes, Fills, MessageFill}
 use Rattle.glow.proofs.Ways.{counted-no, counted-read}
-
-module _ (what : ℕ) where
-  pub collection-kids : what ≡ 14 → collectionOf what ≡ 1
-  unfolding collectionOf
-  collection-kids h = simp (eq-eqb _ _ h)
-
-  pub collection-links : (what ≡ 14 → ⊥) → collectionOf what ≡ 2
-  unfolding collectionOf
-  collection-links h = simp (ne-eqb _ _ h)
-
-  pub class-kids : what ≡ 14 → innerClass what ≡ 1
-  unfolding innerClass
-  class-kids h = simp (eq-eqb _ _ h)
-
-  pub class-other : (what ≡ 14 → ⊥) → innerClass what ≡ 0
-  unfolding innerClass
-  class-other h = simp (ne-eqb _ _ h)
-
-  pub number-body : what ≡ 13 → innerNumber what ≡ 17
-  unfolding innerNumber
-  number-body h = simp (eq-eqb _ _ h)
-
-  pub number-kids : (what ≡ 13 → ⊥) → what ≡ 14 → innerNumber what ≡ 4
-  unfolding innerNumber
-  number-kids h i = simp (ne-eqb _ _ h, eq-eqb _ _ i)
-
-  pub number-links : (what ≡ 13 → ⊥) → (what ≡ 14 → ⊥) → innerNumber what ≡ 16
-  unfolding innerNumber
-  number-links h i = simp (ne-eqb _ _ h, ne-eqb _ _ i)
-
-module _ (number : ℕ) where
-  pub root-elements : number ≡ 11 → rootOf number ≡ 0
-  unfolding rootOf
-  root-elements h = simp (eq-eqb _ _ h)
-
-  pub root-streams : (number ≡ 11 → ⊥) → number ≡ 5 → rootOf number ≡ 3
-  unfolding rootOf
-  root-streams h i = simp (ne-eqb _ _ h, eq-eqb _ _ i)
-
-  pub root-none : (number ≡ 11 → ⊥) → (number ≡ 5 → ⊥) → rootOf number ≡ 4
-  unfolding rootOf
-  root-none h i = simp (ne-eqb _ _ h, ne-eqb _ _ i)
-
-module _ (g : Tag) where
-  pub root-other : isTag g 1 1 (g .number) ≡ false → rootKind g ≡ 4
-  unfolding rootKind
-  root-other i = simp i
-
-  pub root-held : isTag g 1 1 (g .number) ≡ true → rootKind g ≡ rootOf (g .number)
-  unfolding rootKind
-  root-held i = simp i
-
-module _ (s : List ℕ) where
-  pub top-no : {e : No} → enterAt s 0 unbounded 64 ≡ Refused e → topAt s ≡ NoRoot e
-  unfolding topAt
-  top-no h = rw h
-
-  pub top-ended : {n : ℕ} → enterAt s 0 unbounded 64 ≡ Ended n → topAt s ≡ NoRoot (no 33 0)
-  unfolding topAt
-  top-ended h = rw h
-
-  module _ {t : Tag} (h : enterAt s 0 unbounded 64 ≡ Here t) where
-    pub top-other : isTag t 1 1 0 ≡ false → topAt s ≡ NoRoot (no 33 0)
-    unfolding topAt
-    top-other i = simp (h, i)
-
-    module _ (i : isTag t 1 1 0 ≡ true) where
-      pub top-missing : {e : No} → firstAt s (t .start) (t .inner) 63 ≡ NotFound e → topAt s ≡ NoRoot e
-      unfolding topAt
-      top-missing f = simp (h, i, f)
-
-      module _ {g : Tag} (f : firstAt s (t .start) (t .inner) 63 ≡ Value g) {which : ℕ} (e : rootKind g ≡ which) where
-        pub top-none : which ≡ 4 → topAt s ≡ NoRoot (no 33 (t .start))
-        unfolding topAt
-        top-none z = simp (h, i, f, eq-eqb _ _ (e ∙ z))
-
-        pub top-root : (which ≡ 4 → ⊥) → topAt s ≡ Root which (t .inner) g
-        unfolding topAt
-        top-root z = rw (← e) (simp (h, i, f, ne-eqb _ _ (λ q. z (sym e ∙ q))))
 
 module _ (s : List ℕ) (which : ℕ) {w : Walked} (a : Onto) (n : ℕ) (h : counted a n ≡ w) where
   pub finish-no : {e : No} → w ≡ NotRead e → whole which (finished s a) n ≡ NotWhole e

@@ -16,10 +16,11 @@ use Rattle.grammar.specs.Grammar.{innerClass, innerNumber, collectionOf, rootOf
 use Rattle.grammar.specs.Leaf.{expects, least, most, inRange, isLetter, noSlash, isName, allPositive, isPath, numberLeaf, textLeaf, numbersAt, leafAt}
 use Rattle.glow.specs.declared.Answer.{Answer}
 use Rattle.glow.specs.declared.Answer.the-variants.{Setup, Refused as No, Room, Read}
-use Rattle.glow.specs.Members.{marked, mark, due, inOrder, again, afterListed, afterOther, column}
-use Rattle.glow.specs.Members.{plainAt, innerAt, listedAt, ruledAt, memberAt, kindOf, itemAt}
+use Rattle.members.specs.Members.{marked, mark, due, inOrder, again, afterListed, afterOther, column}
+use Rattle.members.specs.Members.{plainAt, innerAt, listedAt, ruledAt, memberAt, kindOf, itemAt}
 use Rattle.glow.specs.Tree.{closed, membersBy, itemsBy}
-use Rattle.glow.specs.Message.{rootKind, topAt, finished, walk, setup, result, readAt}
+use Rattle.members.specs.Root.{rootKind, topAt}
+use Rattle.glow.specs.Message.{finished, walk, setup, result, readAt}
 
 -- an entry with a number in cell 0, by kind and parent's place and 1
 abbrev one : ℕ → ℕ → ℕ → Entry

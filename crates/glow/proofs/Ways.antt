@@ -13,11 +13,11 @@ use Rattle.containers.specs.Ends.{lastAt}
 use Rattle.entries.specs.declared.Cell.{Cell}
 use Rattle.entries.specs.Entry.{Entries, blank, putCell}
 use Rattle.grammar.specs.Grammar.{contentsOf}
-use Rattle.glow.specs.declared.Member.the-variants.{Done, Over, Leaf, Contents, Items, Refused as NoMember}
-use Rattle.glow.specs.declared.Item.the-variants.{Done as NoMore, Element, Refused as NoItem}
+use Rattle.members.specs.declared.Member.the-variants.{Done, Over, Leaf, Contents, Items, Refused as NoMember}
+use Rattle.members.specs.declared.Item.the-variants.{Done as NoMore, Element, Refused as NoItem}
 use Rattle.glow.specs.declared.Walked.{Walked}
 use Rattle.glow.specs.declared.Walked.the-variants.{Read, Refused as NotRead}
-use Rattle.glow.specs.Members.{memberAt, itemAt}
+use Rattle.members.specs.Members.{memberAt, itemAt}
 use Rattle.glow.specs.Tree.{Out, out, closed, membersBy, itemsBy, MembersGive, ItemsGive}
 use Rattle.glow.specs.Progress.{counted}
 

@@ -19,15 +19,16 @@ use Rattle.containers.proofs.Heads.{pick-by}
 use Rattle.entries.specs.declared.Cell.{Cell}
 use Rattle.entries.specs.Entry.{Entry, Entries, blanks, blank, withCell, putCell}
 use Rattle.grammar.specs.Grammar.{contentsOf}
-use Rattle.glow.specs.declared.Member.{Member}
-use Rattle.glow.specs.declared.Member.the-variants.{Done, Over, Leaf, Contents, Items, Refused as NoMember}
-use Rattle.glow.specs.declared.Item.{Item}
-use Rattle.glow.specs.declared.Item.the-variants.{Done as NoMore, Element, Refused as NoItem}
-use Rattle.glow.specs.declared.Top.{Top}
-use Rattle.glow.specs.declared.Top.the-variants.{Root, Refused as NoRoot}
-use Rattle.glow.specs.Members.{memberAt, itemAt}
+use Rattle.members.specs.declared.Member.{Member}
+use Rattle.members.specs.declared.Member.the-variants.{Done, Over, Leaf, Contents, Items, Refused as NoMember}
+use Rattle.members.specs.declared.Item.{Item}
+use Rattle.members.specs.declared.Item.the-variants.{Done as NoMore, Element, Refused as NoItem}
+use Rattle.members.specs.declared.Top.{Top}
+use Rattle.members.specs.declared.Top.the-variants.{Root, Refused as NoRoot}
+use Rattle.members.specs.Members.{memberAt, itemAt}
 use Rattle.glow.specs.Tree.{Out, out, closed, onNext, thenClosed, onMember, onItem, membersBy, itemsBy}
-use Rattle.glow.specs.Message.{unbounded, rootKind, rootIn, topOf, topAt, finished, walkOf, walk}
+use Rattle.members.specs.Root.{unbounded, rootKind, rootIn, topOf, topAt}
+use Rattle.glow.specs.Message.{finished, walkOf, walk}
 use Rattle.glow.proofs.Places.{StandsIn, FoundIn, OntoIn, CellIn, MemberIn, ItemIn, enter-in, first-in, last-in, member-in, item-in}
 
 module _ (s : List ℕ) where

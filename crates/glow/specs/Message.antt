@@ -5,44 +5,16 @@ use mathlib.Core.Bool.{Bool, true, false}
 use lib.ListN.{length}
 use lib.Dec.{leb, ltb, eqb}
 use Rattle.integers.specs.Digits.{pick}
-use Rattle.containers.specs.declared.Open.{Open}
-use Rattle.containers.specs.declared.Tag.{Tag}
-use Rattle.containers.specs.declared.Stands.{Stands}
-use Rattle.containers.specs.declared.Stands.the-variants.{Ended, Here, Refused}
-use Rattle.containers.specs.declared.Found.{Found}
-use Rattle.containers.specs.declared.Found.the-variants.{Value, Refused as NotFound}
 use Rattle.containers.specs.declared.Onto.{Onto}
 use Rattle.containers.specs.declared.Onto.the-variants.{Next, Refused as Stopped}
-use Rattle.containers.specs.Ends.{no, enterAt, firstAt, isTag}
+use Rattle.containers.specs.Ends.{no}
 use Rattle.entries.specs.Entry.{Entries, Rows, overlay}
-use Rattle.grammar.specs.Grammar.{rootOf}
-use Rattle.glow.specs.declared.Top.{Top}
-use Rattle.glow.specs.declared.Top.the-variants.{Root, Refused as NoRoot}
+use Rattle.members.specs.declared.Top.{Top}
+use Rattle.members.specs.declared.Top.the-variants.{Root, Refused as NoRoot}
+use Rattle.members.specs.Root.{topAt}
 use Rattle.glow.specs.declared.Answer.{Answer}
 use Rattle.glow.specs.declared.Answer.the-variants.{Setup, Refused as No, Room, Read}
 use Rattle.glow.specs.Tree.{Out, out, closed, itemsBy}
-
--- "(the message is none)": the message itself is no container, so nothing passes its end
-abbrev pub unbounded : Open
-unbounded = record { definite = 1; end = 18446744073709551615 }
-
--- the collection in Root, by its application number; 4 is none
-unfoldable pub rootKind : Tag → ℕ
-rootKind g = pick (isTag g 1 1 (g .number)) (rootOf (g .number)) 4
-
-abbrev pub rootIn : Tag → Found → Top
-rootIn t (Value g) = pick (eqb (rootKind g) 4) (NoRoot (no 33 (t .start))) (Root (rootKind g) (t .inner) g)
-rootIn t (NotFound e) = NoRoot e
-
--- "Root 0"
-abbrev pub topOf : List ℕ → Stands → Top
-topOf s (Ended next) = NoRoot (no 33 0)
-topOf s (Here t) = pick (isTag t 1 1 0) (rootIn t (firstAt s (t .start) (t .inner) 63)) (NoRoot (no 33 0))
-topOf s (Refused e) = NoRoot e
-
--- "At most 64 containers, outer tags among them"
-unfoldable pub topAt : List ℕ → Top
-topAt s = topOf s (enterAt s 0 unbounded 64)
 
 -- "30 BER: .. bytes .. left after Root"
 unfoldable pub finished : List ℕ → Onto → Onto

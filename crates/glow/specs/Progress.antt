@@ -7,33 +7,12 @@ use Rattle.containers.specs.declared.Open.{Open}
 use Rattle.containers.specs.declared.Onto.{Onto}
 use Rattle.containers.specs.declared.Onto.the-variants.{Next, Refused as Stopped}
 use Rattle.entries.specs.Entry.{Entries, Rows, overlay}
-use Rattle.glow.specs.declared.Member.{Member}
-use Rattle.glow.specs.declared.Member.the-variants.{Done, Over, Leaf, Contents, Items, Refused as NoMember}
-use Rattle.glow.specs.declared.Item.{Item}
-use Rattle.glow.specs.declared.Item.the-variants.{Done as NoMore, Element, Refused as NoItem}
 use Rattle.glow.specs.declared.Walked.{Walked}
 use Rattle.glow.specs.declared.Walked.the-variants.{Read, Refused as NotRead}
 use Rattle.glow.specs.declared.Whole.{Whole}
 use Rattle.glow.specs.declared.Whole.the-variants.{Read as ReadWhole, Refused as NotWhole}
 use Rattle.glow.specs.Tree.{Out, closed, MembersGive, ItemsGive}
 use Rattle.glow.specs.Message.{finished, walk}
-
-abbrev pub MemberOnward : List ℕ → ℕ → Member → Type 0
-MemberOnward s p (Done next) = p ≤ next
-MemberOnward s p (Over before next) = (p < length s) × (p < next)
-MemberOnward s p (Leaf before c v above next) = (p < length s) × (p < next)
-MemberOnward s p (Contents before outer g k) = (p < length s) × (p < g .start)
-MemberOnward s p (Items before which outer g k) = (p < length s) × (p < g .start)
-MemberOnward s p (NoMember e) = Unit {0}
-
--- a container to go into that starts at `start` is ahead of every place before it
-abbrev pub InnerOnward : ℕ → Member → Type 0
-InnerOnward start r = (s : List ℕ) (p : ℕ) → p < length s → p < start → MemberOnward s p r
-
-abbrev pub ItemOnward : List ℕ → ℕ → Item → Type 0
-ItemOnward s p (NoMore next) = p ≤ next
-ItemOnward s p (Element kind outer g k) = (p < length s) × (p < g .start)
-ItemOnward s p (NoItem e) = Unit {0}
 
 -- read from p on, with n entries before it; an entry takes at least a byte
 abbrev pub WalkedOnward : ℕ → ℕ → Walked → Type 0

@@ -12,11 +12,11 @@ use Rattle.containers.specs.Ends.{no, lastAt}
 use Rattle.entries.specs.declared.Cell.{Cell}
 use Rattle.entries.specs.Entry.{Entries, blank, putCell}
 use Rattle.grammar.specs.Grammar.{contentsOf}
-use Rattle.glow.specs.declared.Member.{Member}
-use Rattle.glow.specs.declared.Member.the-variants.{Done, Over, Leaf, Contents, Items, Refused as NoMember}
-use Rattle.glow.specs.declared.Item.{Item}
-use Rattle.glow.specs.declared.Item.the-variants.{Done as NoMore, Element, Refused as NoItem}
-use Rattle.glow.specs.Members.{memberAt, itemAt}
+use Rattle.members.specs.declared.Member.{Member}
+use Rattle.members.specs.declared.Member.the-variants.{Done, Over, Leaf, Contents, Items, Refused as NoMember}
+use Rattle.members.specs.declared.Item.{Item}
+use Rattle.members.specs.declared.Item.the-variants.{Done as NoMore, Element, Refused as NoItem}
+use Rattle.members.specs.Members.{memberAt, itemAt}
 
 -- the place after what was read, or a refusal; and the entries so far
 pub record Out : Type 0 where

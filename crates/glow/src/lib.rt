@@ -1,51 +1,23 @@
 // The Glow tree: a message read into entries, rows of a lent table.
-use containers::Found;
 use containers::No;
 use containers::Onto;
 use containers::Open;
-use containers::Stands;
-use containers::Tag;
 use entries::Cell;
 use grammar::Leaf;
+use members::Item;
+use members::Member;
+use members::Top;
 ghost use Prim.Native.Nat.{_+_, _-_, _≤_, _<_};
 ghost use mathlib.Core.Path.{_≡_};
 ghost use lib.ListN.{length};
-ghost use Rattle.containers.specs.Progress.{Ahead};
-ghost use Rattle.grammar.specs.Grammar.{ruleOf, innerClass, innerNumber, collectionOf, rootOf};
-ghost use Rattle.glow.specs.Members.{marked, mark, due, inOrder, again, afterListed, afterOther, column};
-ghost use Rattle.glow.specs.Members.{plainAt, innerAt, listedAt, ruledAt, memberAt, kindOf, itemAt};
-ghost use Rattle.glow.specs.Brief.{openedBy, NextRule, Suits, MemberTold, KindTold, ItemTold};
 ghost use Rattle.grammar.specs.Leaf.{cellBy};
-ghost use mathlib.Core.Bool.{true};
-ghost use Rattle.glow.specs.Message.{rootKind, topAt, result, readAt};
-ghost use Rattle.glow.specs.Progress.{MemberOnward, InnerOnward, ItemOnward, WalkedOnward, Keeps, Closes, Finishes, MembersFill, ItemsFill, MessageFill};
-
-// One turn of the members of a row: the end; a member passed over; a value for a cell; contents or a collection to go into.
-pub enum Member {
-    Done(usize),
-    Over(u64, usize),
-    Leaf(u64, usize, Cell, usize, usize),
-    Contents(u64, Open, Tag, usize),
-    Items(u64, u64, Open, Tag, usize),
-    Refused(No),
-}
-
-// One turn of a collection: the end, or an element to go into.
-pub enum Item {
-    Done(usize),
-    Element(u64, Open, Tag, usize),
-    Refused(No),
-}
+ghost use Rattle.members.specs.Brief.{openedBy};
+ghost use Rattle.glow.specs.Message.{result, readAt};
+ghost use Rattle.glow.specs.Progress.{WalkedOnward, Keeps, Closes, Finishes, MembersFill, ItemsFill, MessageFill};
 
 // The place after what was read, and the count of entries so far.
 pub enum Walked {
     Read(usize, usize),
-    Refused(No),
-}
-
-// Root's collection, the outer tag around it, and its own.
-pub enum Top {
-    Root(u64, Open, Tag),
     Refused(No),
 }
 
@@ -61,212 +33,6 @@ pub enum Answer {
     Refused { number: u64, place: usize },
     Room { count: usize },
     Read { root: u64, count: usize },
-}
-
-// Whether the listed member n of a set came before.
-fn is_marked(before: u64, n: u64) -> bool
-    requires { ⌜ n < 16 ⌝ }
-    ensures { λ r. ⌜ marked before n ≡ r ⌝ }
-{
-    (before >> n) % 2 == 1
-}
-
-fn marking(before: u64, n: u64) -> u64
-    requires { ⌜ n < 16 ⌝ }
-    ensures { λ r. ⌜ mark before n ≡ r ⌝ }
-{
-    before | (1 << n)
-}
-
-// Whether a required member is missing before number n.
-fn is_due(row: u64, before: u64, n: u64) -> bool
-    ensures { λ r. ⌜ due row before n ≡ r ⌝ }
-{
-    if before < grammar::required_of(row) {
-        return before < n;
-    }
-    false
-}
-
-fn in_order(row: u64, before: u64, n: u64) -> bool
-    ensures { λ r. ⌜ inOrder row before n ≡ r ⌝ }
-{
-    if grammar::is_set(row) {
-        return true;
-    }
-    if before <= n {
-        return !is_due(row, before, n);
-    }
-    false
-}
-
-fn is_again(row: u64, before: u64, n: u64) -> bool
-    requires { ⌜ n < 16 ⌝ }
-    ensures { λ r. ⌜ again row before n ≡ r ⌝ }
-{
-    if grammar::is_set(row) {
-        return is_marked(before, n);
-    }
-    false
-}
-
-fn after_listed(row: u64, before: u64, n: u64) -> u64
-    requires { ⌜ n < 16 ⌝ }
-    ensures { λ r. ⌜ afterListed row before n ≡ r ⌝ }
-{
-    if grammar::is_set(row) {
-        return marking(before, n);
-    }
-    n + 1
-}
-
-fn after_other(row: u64, before: u64, n: u64) -> u64
-    requires { ⌜ n < 268435456 ⌝ }
-    ensures { λ r. ⌜ afterOther row before n ≡ r ⌝ }
-{
-    if grammar::is_set(row) {
-        return before;
-    }
-    n + 1
-}
-
-fn count(x: u64) -> usize
-    ensures { λ r. ⌜ r ≡ x ⌝ }
-{
-    x as usize
-}
-
-// The cell that keeps the member n.
-fn column_of(row: u64, n: u64) -> usize
-    requires { ⌜ n < 16 ⌝ }
-    ensures { λ r. ⌜ column row n ≡ r ⌝ }
-{
-    if grammar::is_set(row) {
-        return count(n) + 1;
-    }
-    count(n)
-}
-
-// The value g of a member t that holds one value.
-fn plain(
-    s: &[u8],
-    t: Tag,
-    k: usize,
-    g: Tag,
-    what: u64,
-    above: usize,
-    after: u64,
-    c: usize,
-) -> Member
-    requires { ⌜ Ahead (now s) (t .start) g ⌝ }
-    ensures { λ r. ⌜ plainAt (now (s .entry)) t k g what above after c ≡ r ⌝ }
-    ensures { λ r. ⌜ MemberOnward (now (s .entry)) (t .start) r ⌝ }
-{
-    let at = t.start;
-    if !containers::is_tag(g, 0, 0, g.number) {
-        return Member::Refused(No(33, at));
-    }
-    let start = g.start;
-    let inner = g.inner;
-    let end = inner.end;
-    match grammar::read_leaf(s, at, g.number, start, end - start, what, above) {
-        Leaf::Refused(number, place) => Member::Refused(No(number, place)),
-        Leaf::Kept(v, path) => {
-            let outer = t.inner;
-            match containers::last(s, end, outer, k) {
-                Onto::Refused(e) => Member::Refused(e),
-                Onto::Next(next) => Member::Leaf(after, c, v, path, next),
-            }
-        }
-    }
-}
-
-fn inner_class(what: u64) -> u64
-    ensures { λ r. ⌜ innerClass what ≡ r ⌝ }
-{
-    if what == 14 { 1 } else { 0 }
-}
-
-fn inner_number(what: u64) -> u64
-    ensures { λ r. ⌜ innerNumber what ≡ r ⌝ }
-{
-    if what == 13 {
-        return 17;
-    }
-    if what == 14 { 4 } else { 16 }
-}
-
-fn collection_of(what: u64) -> u64
-    ensures { λ r. ⌜ collectionOf what ≡ r ⌝ }
-{
-    if what == 14 { 1 } else { 2 }
-}
-
-// The value g of a member t that holds contents or a collection.
-fn inner(t: Tag, k: usize, g: Tag, what: u64, after: u64) -> Member
-    ensures { λ r. ⌜ innerAt t k g what after ≡ r ⌝ }
-    ensures { λ r. ⌜ InnerOnward (g .start) r ⌝ }
-{
-    let outer = t.inner;
-    if !containers::is_tag(g, inner_class(what), 1, inner_number(what)) {
-        return Member::Refused(No(33, t.start));
-    }
-    if what == 13 {
-        return Member::Contents(after, outer, g, k);
-    }
-    Member::Items(after, collection_of(what), outer, g, k)
-}
-
-// A listed member.
-fn listed(s: &[u8], t: Tag, k: usize, what: u64, above: usize, after: u64, c: usize) -> Member
-    ensures { λ r. ⌜ listedAt (now (s .entry)) t k what above after c ≡ r ⌝ }
-    ensures { λ r. ⌜ MemberOnward (now (s .entry)) (t .start) r ⌝ }
-{
-    match containers::first(s, t.start, t.inner, k) {
-        Found::Refused(e) => Member::Refused(e),
-        Found::Value(g) => {
-            if 13 <= what {
-                return inner(t, k, g, what, after);
-            }
-            plain(s, t, k, g, what, above, after, c)
-        }
-    }
-}
-
-// The tag t of a member, at p, by what stands there.
-fn ruled(s: &[u8], p: usize, t: Tag, k: usize, row: u64, above: usize, before: u64) -> Member
-    requires { ⌜ Ahead (now s) p t ⌝ }
-    ensures { λ r. ⌜ ruledAt (now (s .entry)) p t k row above before (ruleOf row (t .number)) ≡ r ⌝ }
-    ensures { λ r. ⌜ MemberOnward (now (s .entry)) p r ⌝ }
-{
-    let n = t.number;
-    let what = grammar::rule_of(row, n);
-    if what == 0 {
-        let after = after_other(row, before, n);
-        match containers::passed(s, t, k) {
-            Onto::Refused(e) => {
-                return Member::Refused(e);
-            }
-            Onto::Next(next) => {
-                return Member::Over(after, next);
-            }
-        }
-    }
-    if t.constructed != 1 {
-        return Member::Refused(No(33, p));
-    }
-    if is_again(row, before, n) {
-        return Member::Refused(No(33, p));
-    }
-    listed(
-        s,
-        t,
-        k,
-        what,
-        above,
-        after_listed(row, before, n),
-        column_of(row, n),
-    )
 }
 
 fn wide(x: u8) -> u64
@@ -294,192 +60,6 @@ fn opened(start: usize, l: usize, end: usize) -> Open
         };
     }
     Open { definite: 0, end }
-}
-
-// What stands at the member of a constructed context tag b, if that may come now; 0 where that is for the general turn to say.
-fn next_rule(b: u8, row: u64, before: u64) -> u64
-    ensures { λ r. ⌜ ((r ≡ 0 → ⊥) → NextRule b row before r) ⌝ }
-{
-    if b / 32 != 5 {
-        return 0;
-    }
-    let n = wide(b % 32);
-    let what = grammar::rule_of(row, n);
-    if what == 0 {
-        return 0;
-    }
-    if !in_order(row, before, n) {
-        return 0;
-    }
-    if is_again(row, before, n) {
-        return 0;
-    }
-    what
-}
-
-// Whether the value's tag b, of the length n, is what stands at the member: a universal primitive tag, the contents' set, or the collection's own.
-fn suits(what: u64, b: u8, n: usize) -> bool
-    ensures { λ r. ⌜ (r ≡ true → Suits what b n) ⌝ }
-{
-    if what < 13 {
-        if b < 31 {
-            return n < 128;
-        }
-        return false;
-    }
-    if what == 13 {
-        return b == 49;
-    }
-    if what == 14 {
-        return b == 100;
-    }
-    b == 48
-}
-
-// What stands at a member of the tag b, if that may come now and its value's tag is of that kind; 0 where that is for the general turn to say.
-fn rule_by(b: u8, value: u8, n: usize, row: u64, before: u64) -> u64
-    ensures { λ r. ⌜ ((r ≡ 0 → ⊥) → (NextRule b row before r) × (Suits r value n)) ⌝ }
-{
-    let what = next_rule(b, row, before);
-    if what == 0 {
-        return 0;
-    }
-    if suits(what, value, n) {
-        return what;
-    }
-    0
-}
-
-// What stands at a member at p, if tags and lengths take one octet each and the value fills the member; 0 where that is for the general turn to say.
-fn rule_at(s: &[u8], p: usize, end: usize, k: usize, row: u64, before: u64) -> u64
-    ensures { λ r. ⌜ ((r ≡ 0 → ⊥) → MemberTold (now (s .entry)) p end k row before r) ⌝ }
-{
-    if k < 2 {
-        return 0;
-    }
-    let l = containers::short(s, p, end);
-    if 128 < l {
-        return 0;
-    }
-    let at = p + 2;
-    if l == 128 {
-        if containers::short(s, at, end) != 128 {
-            return 0;
-        }
-        return rule_by(s[p], s[at], 128, row, before);
-    }
-    let n = containers::short(s, at, at + l);
-    if 128 <= n {
-        return 0;
-    }
-    if n + 2 != l {
-        return 0;
-    }
-    rule_by(s[p], s[at], n, row, before)
-}
-
-// One turn of the members of a row.
-fn member_at(s: &[u8], p: usize, o: Open, k: usize, row: u64, above: usize, before: u64) -> Member
-    ensures { λ r. ⌜ memberAt (now (s .entry)) p o k row above before ≡ r ⌝ }
-    ensures { λ r. ⌜ MemberOnward (now (s .entry)) p r ⌝ }
-{
-    match containers::entering(s, p, o, k) {
-        Stands::Refused(e) => Member::Refused(e),
-        Stands::Ended(next) => {
-            if is_due(row, before, 268435456) {
-                return Member::Refused(No(33, p));
-            }
-            Member::Done(next)
-        }
-        Stands::Here(t) => {
-            if t.class != 2 {
-                return Member::Refused(No(33, p));
-            }
-            if in_order(row, before, t.number) {
-                return ruled(s, p, t, containers::less(k), row, above, before);
-            }
-            Member::Refused(No(33, p))
-        }
-    }
-}
-
-fn kind_of(which: u64, g: Tag) -> u64
-    ensures { λ r. ⌜ kindOf which g ≡ r ⌝ }
-{
-    if containers::is_tag(g, 1, 1, g.number) {
-        return grammar::kind_in(which, g.number);
-    }
-    0
-}
-
-// The kind that the tag b of an item's value names in a collection; 0 where that is for the general turn to say.
-fn kind_by(which: u64, item: u8, b: u8) -> u64
-    ensures { λ r. ⌜ ((r ≡ 0 → ⊥) → KindTold which item b r) ⌝ }
-{
-    if item != 160 {
-        return 0;
-    }
-    if b / 32 != 3 {
-        return 0;
-    }
-    grammar::kind_in(which, wide(b % 32))
-}
-
-// The kind of an element at p, if tags and lengths take one octet each and it fills the item; 0 where that is for the general turn to say.
-fn kind_at(s: &[u8], p: usize, end: usize, k: usize, which: u64) -> u64
-    ensures { λ r. ⌜ ((r ≡ 0 → ⊥) → ItemTold (now (s .entry)) p end k which r) ⌝ }
-{
-    if k < 2 {
-        return 0;
-    }
-    let l = containers::short(s, p, end);
-    if 128 < l {
-        return 0;
-    }
-    let at = p + 2;
-    if l == 128 {
-        if containers::short(s, at, end) != 128 {
-            return 0;
-        }
-        return kind_by(which, s[p], s[at]);
-    }
-    let n = containers::short(s, at, at + l);
-    if 128 <= n {
-        return 0;
-    }
-    if n + 2 != l {
-        return 0;
-    }
-    kind_by(which, s[p], s[at])
-}
-
-// One turn of a collection.
-fn item_at(s: &[u8], p: usize, o: Open, k: usize, which: u64) -> Item
-    ensures { λ r. ⌜ itemAt (now (s .entry)) p o k which ≡ r ⌝ }
-    ensures { λ r. ⌜ ItemOnward (now (s .entry)) p r ⌝ }
-{
-    match containers::entering(s, p, o, k) {
-        Stands::Refused(e) => Item::Refused(e),
-        Stands::Ended(next) => Item::Done(next),
-        Stands::Here(t) => {
-            if !containers::is_tag(t, 2, 1, 0) {
-                return Item::Refused(No(33, p));
-            }
-            let start = t.start;
-            let outer = t.inner;
-            let left = containers::less(k);
-            match containers::first(s, start, outer, left) {
-                Found::Refused(e) => Item::Refused(e),
-                Found::Value(g) => {
-                    let kind = kind_of(which, g);
-                    if kind == 0 {
-                        return Item::Refused(No(33, start));
-                    }
-                    Item::Element(kind, outer, g, left)
-                }
-            }
-        }
-    }
 }
 
 // The cell of a value by its first word.
@@ -550,22 +130,27 @@ fn element(
     loop {
         let z = containers::shut(s, p, o);
         if z != 18446744073709551615 {
-            if is_due(row, before, 268435456) {
+            if members::is_due(row, before, 268435456) {
                 return Walked::Refused(No(33, p));
             }
             return Walked::Read(z, count);
         }
-        let what = rule_at(s, p, o.end, k, row, before);
+        let what = members::rule_at(s, p, o.end, k, row, before);
         if what != 0 {
             let number = wide(s[p] % 32);
             let start = p + 4;
             let len = size(s[p + 3]);
-            let later = after_listed(row, before, number);
+            let later = members::after_listed(row, before, number);
             if what < 13 {
                 let kind = wide(s[p + 2]);
                 let first = grammar::word_of(s, kind, start, len, what);
                 if first != 9223372036854775808 {
-                    entries::put_cell(table, me, column_of(row, number), worded(kind, first, len));
+                    entries::put_cell(
+                        table,
+                        me,
+                        members::column_of(row, number),
+                        worded(kind, first, len),
+                    );
                     before = later;
                     p = start + len;
                 } else {
@@ -574,7 +159,7 @@ fn element(
                             return Walked::Refused(No(no, place));
                         }
                         Leaf::Kept(v, numbers) => {
-                            entries::put_cell(table, me, column_of(row, number), v);
+                            entries::put_cell(table, me, members::column_of(row, number), v);
                             before = later;
                             above = numbers;
                             p = start + len;
@@ -611,7 +196,7 @@ fn element(
                         start,
                         inside,
                         k - 2,
-                        collection_of(what),
+                        members::collection_of(what),
                         parent,
                         above,
                         count,
@@ -630,7 +215,7 @@ fn element(
                 }
             }
         } else {
-            match member_at(s, p, o, k, row, above, before) {
+            match members::member_at(s, p, o, k, row, above, before) {
                 Member::Done(next) => {
                     return Walked::Read(next, count);
                 }
@@ -721,7 +306,7 @@ fn items(
         if z != 18446744073709551615 {
             return Walked::Read(z, count);
         }
-        let quick = kind_at(s, p, o.end, k, which);
+        let quick = members::kind_at(s, p, o.end, k, which);
         if quick != 0 {
             let start = p + 4;
             let inside = opened(start, size(s[p + 3]), o.end);
@@ -747,7 +332,7 @@ fn items(
                 }
             }
         } else {
-            match item_at(s, p, o, k, which) {
+            match members::item_at(s, p, o, k, which) {
                 Item::Done(next) => {
                     return Walked::Read(next, count);
                 }
@@ -782,55 +367,6 @@ fn items(
     }
 }
 
-fn root_number(number: u64) -> u64
-    ensures { λ r. ⌜ rootOf number ≡ r ⌝ }
-{
-    if number == 11 {
-        return 0;
-    }
-    if number == 5 { 3 } else { 4 }
-}
-
-fn root_kind(g: Tag) -> u64
-    ensures { λ r. ⌜ rootKind g ≡ r ⌝ }
-{
-    if containers::is_tag(g, 1, 1, g.number) {
-        return root_number(g.number);
-    }
-    4
-}
-
-// Root and the collection in it.
-fn root_of(s: &[u8]) -> Top
-    ensures { λ r. ⌜ topAt (now (s .entry)) ≡ r ⌝ }
-{
-    let all = Open {
-        definite: 1,
-        end: 18446744073709551615,
-    };
-    match containers::entering(s, 0, all, 64) {
-        Stands::Refused(e) => Top::Refused(e),
-        Stands::Ended(next) => Top::Refused(No(33, 0)),
-        Stands::Here(t) => {
-            if !containers::is_tag(t, 1, 1, 0) {
-                return Top::Refused(No(33, 0));
-            }
-            let start = t.start;
-            let outer = t.inner;
-            match containers::first(s, start, outer, 63) {
-                Found::Refused(e) => Top::Refused(e),
-                Found::Value(g) => {
-                    let which = root_kind(g);
-                    if which == 4 {
-                        return Top::Refused(No(33, start));
-                    }
-                    Top::Root(which, outer, g)
-                }
-            }
-        }
-    }
-}
-
 // Nothing is left after Root.
 fn finish(s: &[u8], which: u64, w: Walked) -> Whole
     ensures { λ r. ⌜ Finishes (now (s .entry)) which w r ⌝ }
@@ -850,7 +386,7 @@ fn finish(s: &[u8], which: u64, w: Walked) -> Whole
 fn message(s: &[u8], table: &mut [[u64; 50]]) -> Whole
     ensures { λ r. ⌜ MessageFill (now (s .entry)) (now (table .entry)) (now (table .exit)) r ⌝ }
 {
-    match root_of(s) {
+    match members::root_of(s) {
         Top::Refused(e) => Whole::Refused(e),
         Top::Root(which, outer, list) => {
             let w = items(s, list.start, list.inner, 62, which, 0, 0, 0, table);

@@ -18,7 +18,7 @@ use Rattle.containers.proofs.Heads.{pick-by}
 use Rattle.entries.specs.Entry.{Entries, blank, putCell}
 use Rattle.grammar.specs.Grammar.{ruleOf, children, connections, applications}
 use Rattle.grammar.specs.Grammar as grammar
-use Rattle.glow.specs.Members.{memberAt, itemAt}
+use Rattle.members.specs.Members.{memberAt, itemAt}
 use Rattle.glow.specs.Tree.{Out, thenClosed, membersBy, itemsBy}
 use Rattle.forest.specs.Content.{Content, Item, item, itemOf, itemsOf, contentsOf}
 use Rattle.forest.specs.Trees.{Trees, none, tree, count, flat, standsIn}

@@ -17,7 +17,7 @@ use Rattle.entries.specs.declared.Cell.{Cell}
 use Rattle.entries.specs.Entry.{Entry, Entries, blank, blanks, withCell, putCell}
 use Rattle.grammar.specs.Grammar.{ruleOf, required, collectionOf, children, connections}
 use Rattle.grammar.specs.Grammar as grammar
-use Rattle.glow.specs.Members.{due}
+use Rattle.members.specs.Members.{due}
 use Rattle.forest.specs.Content.{Content, nothing, contentOf, contentsOf, Item, itemsOf}
 use Rattle.forest.specs.Trees.{Trees, none, count, flat}
 use Rattle.forest.specs.Legal.{suits, suited, present, complete, pathAfter, pathOf, ruleAt, inner, empty, isNone, legal}

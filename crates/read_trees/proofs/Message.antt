@@ -22,10 +22,11 @@ use Rattle.containers.specs.Ends.{enterAt, firstAt, lastAt, isTag}
 use Rattle.containers.proofs.Heads.{pick-by}
 use Rattle.entries.specs.Entry.{Entries}
 use Rattle.grammar.specs.Grammar.{rootOf}
-use Rattle.glow.specs.declared.Top.{Top}
-use Rattle.glow.specs.declared.Top.the-variants.{Root, Refused as NoRoot}
+use Rattle.members.specs.declared.Top.{Top}
+use Rattle.members.specs.declared.Top.the-variants.{Root, Refused as NoRoot}
 use Rattle.glow.specs.Tree.{Out, closed, itemsBy}
-use Rattle.glow.specs.Message.{unbounded, rootKind, rootIn, topOf, topAt, finished, walkOf, walk}
+use Rattle.members.specs.Root.{unbounded, rootKind, rootIn, topOf, topAt}
+use Rattle.glow.specs.Message.{finished, walkOf, walk}
 use Rattle.forest.specs.Content.{itemsOf}
 use Rattle.forest.specs.Trees.{Trees, flat, taken, treesOf}
 use Rattle.forest.specs.Legal.{isRoot, legal, legalRoot}

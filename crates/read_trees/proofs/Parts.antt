@@ -12,7 +12,7 @@ use Rattle.integers.specs.Digits.{pick}
 use Rattle.integers.proofs.Radix.{lt-or-le}
 use Rattle.grammar.specs.Grammar.{ruleOf, required}
 use Rattle.grammar.specs.Grammar as grammar
-use Rattle.glow.specs.Members.{due, inOrder, afterListed, afterOther, column}
+use Rattle.members.specs.Members.{due, inOrder, afterListed, afterOther, column}
 use Rattle.forest.specs.Content.{Content, nothing, word, bytes, wrong}
 use Rattle.forest.specs.Legal.{pathOf, pathAfter, ruleAt, inner, empty}
 use Rattle.forest.specs.Written.{memberOctets, membersOctets, own, wrapped}

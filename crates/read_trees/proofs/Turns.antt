@@ -27,12 +27,12 @@ use Rattle.grammar.specs.declared.Leaf.the-variants.{Kept, Refused as Unfit}
 use Rattle.grammar.specs.Grammar.{ruleOf, innerClass, innerNumber, collectionOf, kindIn}
 use Rattle.grammar.specs.Leaf.{leafAt, LeafBounded}
 use Rattle.grammar.proofs.Bounds.{leaf-bounded, bounded-16}
-use Rattle.glow.specs.declared.Member.{Member}
-use Rattle.glow.specs.declared.Member.the-variants.{Done, Over, Leaf as Cell-of, Contents, Items, Refused as NoMember}
-use Rattle.glow.specs.declared.Item.{Item}
-use Rattle.glow.specs.declared.Item.the-variants.{Done as NoMore, Element, Refused as NoItem}
-use Rattle.glow.specs.Members.{due, inOrder, again, afterListed, afterOther, column, overOf, keptOf, leafOf, plainAt, innerAt, valueOf, listedAt, ruledAt}
-use Rattle.glow.specs.Members.{memberOf, memberAt, kindOf, elementOf, itemOf, itemAt}
+use Rattle.members.specs.declared.Member.{Member}
+use Rattle.members.specs.declared.Member.the-variants.{Done, Over, Leaf as Cell-of, Contents, Items, Refused as NoMember}
+use Rattle.members.specs.declared.Item.{Item}
+use Rattle.members.specs.declared.Item.the-variants.{Done as NoMore, Element, Refused as NoItem}
+use Rattle.members.specs.Members.{due, inOrder, again, afterListed, afterOther, column, overOf, keptOf, leafOf, plainAt, innerAt, valueOf, listedAt, ruledAt}
+use Rattle.members.specs.Members.{memberOf, memberAt, kindOf, elementOf, itemOf, itemAt}
 use Rattle.forest.specs.Content.{contentOf}
 use Rattle.forest.specs.Trees.{standsIn}
 use Rattle.forest.specs.Legal.{suits, present, pathOf}

@@ -13,11 +13,11 @@ use Rattle.containers.specs.Ends.{lastAt}
 use Rattle.entries.specs.declared.Cell.{Cell}
 use Rattle.entries.specs.Entry.{Entries}
 use Rattle.grammar.specs.Grammar.{ruleOf, collectionOf}
-use Rattle.glow.specs.declared.Member.{Member}
-use Rattle.glow.specs.declared.Member.the-variants.{Done, Over, Leaf, Contents, Items, Refused as NoMember}
-use Rattle.glow.specs.declared.Item.{Item}
-use Rattle.glow.specs.declared.Item.the-variants.{Done as NoMore, Element, Refused as NoItem}
-use Rattle.glow.specs.Members.{due}
+use Rattle.members.specs.declared.Member.{Member}
+use Rattle.members.specs.declared.Member.the-variants.{Done, Over, Leaf, Contents, Items, Refused as NoMember}
+use Rattle.members.specs.declared.Item.{Item}
+use Rattle.members.specs.declared.Item.the-variants.{Done as NoMore, Element, Refused as NoItem}
+use Rattle.members.specs.Members.{due}
 use Rattle.glow.specs.Tree.{Out, closed, onNext, thenClosed, onMember, onItem}
 use Rattle.forest.specs.Trees.{standsIn}
 use Rattle.read_trees.proofs.Spans.{Closes, LastTell, last-tells}

@@ -16,7 +16,7 @@ use Rattle.entries.specs.Entry.{Entries, blank, blanks, putCell}
 use Rattle.grammar.specs.Grammar.{ruleOf, required, isSet, contentsOf, innerClass, innerNumber, collectionOf}
 use Rattle.grammar.specs.Leaf.{expects}
 use Rattle.grammar.proofs.Tables.{expects-step}
-use Rattle.glow.specs.Members.{afterListed, column}
+use Rattle.members.specs.Members.{afterListed, column}
 use Rattle.glow.specs.Tree.{out, MembersGive}
 use Rattle.glow.proofs.Ways.{members-done}
 use Rattle.forest.specs.Content.{Content, nothing, word, bytes, wrong, isPart, item, contentsOf as say, itemsOf}

@@ -13,7 +13,7 @@ use Rattle.entries.specs.declared.Cell.{Cell}
 use Rattle.entries.specs.Cell.{cell, absent}
 use Rattle.entries.specs.Entry.{Entry, Entries, blank, blanks, withCell, putCell}
 use Rattle.grammar.specs.Grammar.{ruleOf, required}
-use Rattle.glow.specs.Members.{afterListed, column}
+use Rattle.members.specs.Members.{afterListed, column}
 use Rattle.glow.specs.Tree.{Out, MembersGive}
 use Rattle.glow.proofs.Ways.{members-leaf}
 use Rattle.forest.specs.Content.{Content, nothing, word, bytes, wrong, isPart, isWord, contentOf, contentsOf}

@@ -9,8 +9,8 @@ use lib.ListN.{List·getD-eq-default}
 use lib.Dec.{leb, ltb}
 use Rattle.integers.specs.Digits.{pick}
 use Rattle.grammar.specs.Grammar.{requirements, required, isSet}
-use Rattle.glow.specs.Members.{marked, due, inOrder, again, afterListed, column}
-use Rattle.glow.proofs.Marks.{marked-other, marked-none}
+use Rattle.members.specs.Members.{marked, due, inOrder, again, afterListed, column}
+use Rattle.members.proofs.Marks.{marked-other, marked-none}
 
 -- the member n of a row may come now, and those after it
 pub record Ready (row before n : ℕ) : Type 0 where

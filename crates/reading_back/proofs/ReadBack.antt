@@ -24,10 +24,11 @@ use Rattle.containers.specs.declared.Onto.the-variants.{Next}
 use Rattle.containers.specs.Ends.{enterAt, firstAt, isTag}
 use Rattle.entries.specs.Entry.{Entries, Rows, overlay}
 use Rattle.grammar.specs.Grammar.{rootOf}
-use Rattle.glow.specs.declared.Top.the-variants.{Root}
+use Rattle.members.specs.declared.Top.the-variants.{Root}
 use Rattle.glow.specs.declared.Answer.the-variants.{Room, Read}
 use Rattle.glow.specs.Tree.{out, itemsBy}
-use Rattle.glow.specs.Message.{unbounded, rootKind, topAt, finished, Walk, walk, result, setup, readAt}
+use Rattle.members.specs.Root.{unbounded, rootKind, topAt}
+use Rattle.glow.specs.Message.{finished, Walk, walk, result, setup, readAt}
 use Rattle.forest.specs.Content.{itemsOf}
 use Rattle.forest.specs.Trees.{Trees, count, flat, Taken, taken, treesOf}
 use Rattle.forest.specs.Legal.{isFormed, isReal, isRoot, legal, legalRoot}

@@ -15,7 +15,7 @@ use Rattle.containers.specs.declared.Onto.the-variants.{Next}
 use Rattle.entries.specs.declared.Cell.{Cell}
 use Rattle.entries.specs.Entry.{Entries, blanks}
 use Rattle.grammar.specs.Grammar.{ruleOf, required, isSet, contentsOf, innerClass, innerNumber, collectionOf}
-use Rattle.glow.specs.Members.{afterListed, column}
+use Rattle.members.specs.Members.{afterListed, column}
 use Rattle.glow.specs.Tree.{Out, out, closed, MembersGive, ItemsGive}
 use Rattle.glow.proofs.Ways.{members-done, contents-in, list-in}
 use Rattle.forest.specs.Content.{Content, nothing, word, bytes, wrong, contentsOf as say, itemsOf}

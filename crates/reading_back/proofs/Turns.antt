@@ -14,9 +14,9 @@ use Rattle.entries.specs.declared.Cell.{Cell}
 use Rattle.grammar.specs.declared.Leaf.the-variants.{Kept}
 use Rattle.grammar.specs.Grammar.{body, ruleOf, innerClass, innerNumber, collectionOf, kindIn}
 use Rattle.grammar.specs.Leaf.{leafAt}
-use Rattle.glow.specs.declared.Member.the-variants.{Done, Leaf, Contents, Items}
-use Rattle.glow.specs.declared.Item.the-variants.{Done as NoMore, Element}
-use Rattle.glow.specs.Members.{due, inOrder, again, afterListed, column, plainAt, innerAt, listedAt, ruledAt, memberAt, kindOf, itemAt}
+use Rattle.members.specs.declared.Member.the-variants.{Done, Leaf, Contents, Items}
+use Rattle.members.specs.declared.Item.the-variants.{Done as NoMore, Element}
+use Rattle.members.specs.Members.{due, inOrder, again, afterListed, column, plainAt, innerAt, listedAt, ruledAt, memberAt, kindOf, itemAt}
 use Rattle.reading_back.proofs.Standing.{till, tagOf, Outered, enter-here, enter-end, first-here, last-here, deep-plain, deep-some}
 
 pub member-done : (s : List ℕ) (p end k row above before : ℕ) → p ≡ end → due row before 268435456 ≡ false

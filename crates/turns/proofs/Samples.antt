@@ -17,10 +17,11 @@ use Rattle.entries.specs.Entry.{blanks, withCell, putCell, words, overlay}
 use Rattle.grammar.specs.Grammar.{members, ruleOf, requirements, required, isSet, contentsRows, contentsOf, applications, holds, kindAmong, kindIn}
 use Rattle.grammar.specs.Grammar.{innerClass, innerNumber, collectionOf, rootOf}
 use Rattle.grammar.specs.Leaf.{expects, least, most, inRange, isLetter, noSlash, isName, allPositive, isPath, numberLeaf, textLeaf, numbersAt, leafAt}
-use Rattle.glow.specs.Members.{marked, mark, due, inOrder, again, afterListed, afterOther, column}
-use Rattle.glow.specs.Members.{plainAt, innerAt, listedAt, ruledAt, memberAt, kindOf, itemAt}
+use Rattle.members.specs.Members.{marked, mark, due, inOrder, again, afterListed, afterOther, column}
+use Rattle.members.specs.Members.{plainAt, innerAt, listedAt, ruledAt, memberAt, kindOf, itemAt}
 use Rattle.glow.specs.Tree.{closed, membersBy, itemsBy}
-use Rattle.glow.specs.Message.{rootKind, topAt, finished, walk, setup, readAt}
+use Rattle.members.specs.Root.{rootKind, topAt}
+use Rattle.glow.specs.Message.{finished, walk, setup, readAt}
 use Rattle.turns.specs.Samples.{All, p1-to-p12}
 
 pub samples : All p1-to-p12

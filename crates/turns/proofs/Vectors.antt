@@ -18,10 +18,11 @@ use Rattle.grammar.specs.Grammar.{members, ruleOf, requirements, required, isSe
 use Rattle.grammar.specs.Grammar.{innerClass, innerNumber, collectionOf, rootOf}
 use Rattle.grammar.specs.Leaf.{expects, least, most, inRange, isLetter, noSlash, isName, allPositive, isPath, numberLeaf, textLeaf, numbersAt, leafAt}
 use Rattle.glow.specs.declared.Answer.the-variants.{Room, Read}
-use Rattle.glow.specs.Members.{marked as markedAt, mark, due, inOrder, again, afterListed, afterOther, column}
-use Rattle.glow.specs.Members.{plainAt, innerAt, listedAt, ruledAt, memberAt, kindOf, itemAt}
+use Rattle.members.specs.Members.{marked as markedAt, mark, due, inOrder, again, afterListed, afterOther, column}
+use Rattle.members.specs.Members.{plainAt, innerAt, listedAt, ruledAt, memberAt, kindOf, itemAt}
 use Rattle.glow.specs.Tree.{closed, membersBy, itemsBy}
-use Rattle.glow.specs.Message.{rootKind, topAt, finished, walk, setup, saidBy}
+use Rattle.members.specs.Root.{rootKind, topAt}
+use Rattle.glow.specs.Message.{finished, walk, setup, saidBy}
 use Rattle.forest.specs.Content.{Content, nothing as absent, word, bytes, Item, item, contentOf, contentsOf as contentsIn, itemsOf}
 use Rattle.routing.specs.declared.Figures.{Figures}
 use Rattle.routing.specs.Figures.{side}

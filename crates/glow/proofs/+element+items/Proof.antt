@@ -11,9 +11,10 @@ use Rattle.entries.specs.declared.Cell.{Cell}
 use Rattle.entries.specs.Entry.{Entries, Rows, overlay}
 use Rattle.grammar.specs.declared.Leaf.the-variants.{Kept}
 use Rattle.glow.specs.Tree.{MembersGive, ItemsGive}
-use Rattle.glow.specs.Progress.{MemberOnward, ItemOnward, WalkedOnward}
-use Rattle.glow.proofs.Laws.{member-due, member-done, item-done}
-use Rattle.glow.proofs.Quick.{next-small, quick-no, quick-kept, quick-contents, quick-items, quick-element}
+use Rattle.members.specs.Progress.{MemberOnward, ItemOnward}
+use Rattle.glow.specs.Progress.{WalkedOnward}
+use Rattle.members.proofs.Laws.{member-due, member-done, item-done}
+use Rattle.members.proofs.Quick.{quick-no, quick-kept, quick-contents, quick-items, quick-element}
 use Rattle.glow.proofs.Held.{Held, held-done, held-no, held-over, held-leaf, held-contents-no, held-contents, held-list-no, held-list}
 use Rattle.glow.proofs.Held.{item-held-done, item-held-no, item-held-element-no, item-held-element}
 use borrow.Fn.Kinds.{In}
@@ -28,16 +29,16 @@ use Rattle.containers.proofs.less.Reads as less-reads
 use Rattle.containers.proofs.shut.Reads as shut-reads
 use Rattle.entries.proofs.blank.Reads as blank-reads
 use Rattle.entries.proofs.put_cell.Reads as put-cell-reads
-use Rattle.glow.proofs.after_listed.Reads as after-listed-reads
+use Rattle.members.proofs.after_listed.Reads as after-listed-reads
 use Rattle.glow.proofs.close.Reads as close-reads
-use Rattle.glow.proofs.collection_of.Reads as collection-of-reads
-use Rattle.glow.proofs.column_of.Reads as column-of-reads
-use Rattle.glow.proofs.is_due.Reads as is-due-reads
-use Rattle.glow.proofs.item_at.Reads as item-at-reads
-use Rattle.glow.proofs.kind_at.Reads as kind-at-reads
-use Rattle.glow.proofs.member_at.Reads as member-at-reads
+use Rattle.members.proofs.collection_of.Reads as collection-of-reads
+use Rattle.members.proofs.column_of.Reads as column-of-reads
+use Rattle.members.proofs.is_due.Reads as is-due-reads
+use Rattle.members.proofs.item_at.Reads as item-at-reads
+use Rattle.members.proofs.kind_at.Reads as kind-at-reads
+use Rattle.members.proofs.member_at.Reads as member-at-reads
 use Rattle.glow.proofs.opened.Reads as opened-reads
-use Rattle.glow.proofs.rule_at.Reads as rule-at-reads
+use Rattle.members.proofs.rule_at.Reads as rule-at-reads
 use Rattle.glow.proofs.size.Reads as size-reads
 use Rattle.glow.proofs.wide.Reads as wide-reads
 use Rattle.glow.proofs.word.Reads as word-reads
@@ -225,12 +226,7 @@ element-size-requires : (t : ℕ) → element-lts.Need-size-requires (element-ca
 element-size-requires t c κs = search needs
 
 element-after-listed-requires : (t : ℕ) → element-lts.Need-after-listed-requires (element-calls t) (element-at t) element.Post element-Inv-loop element-μ-loop
-element-after-listed-requires t c κs =
-    let the-rule-at = c .before .before .before .before .before .rule-at in
-    let the-if3 = c .before .before .before .before .if3 in
-    let the-wide = c .before .before .wide in
-    let h = the-rule-at .ensures (the-if3 .taken) in
-    next-small (h .rule) (the-if3 .taken) (the-wide .ensures .0)
+element-after-listed-requires t c κs = search needs
 
 element-add-wide : (t : ℕ) → element-lts.Need-add-wide (element-calls t) (element-at t) element.Post element-Inv-loop element-μ-loop
 element-add-wide t c =
@@ -254,12 +250,7 @@ element-word-of-requires : (t : ℕ) → element-lts.Need-word-of-requires (elem
 element-word-of-requires t c κs = search needs
 
 element-column-of-requires : (t : ℕ) → element-lts.Need-column-of-requires (element-calls t) (element-at t) element.Post element-Inv-loop element-μ-loop
-element-column-of-requires t c κs =
-    let the-rule-at = c .before .before .before .before .before .before .before .before .before .before .before .before .rule-at in
-    let the-if3 = c .before .before .before .before .before .before .before .before .before .before .before .if3 in
-    let the-wide = c .before .before .before .before .before .before .before .before .before .wide in
-    let h = the-rule-at .ensures (the-if3 .taken) in
-    next-small (h .rule) (the-if3 .taken) (the-wide .ensures .0)
+element-column-of-requires t c κs = search needs
 
 element-worded-requires : (t : ℕ) → element-lts.Need-worded-requires (element-calls t) (element-at t) element.Post element-Inv-loop element-μ-loop
 element-worded-requires t c κs = search needs
@@ -365,13 +356,7 @@ element-enum-known-v : (t : ℕ) → element-lts.Need-enum-known-v (element-call
 element-enum-known-v t c = search needs
 
 element-column-of-requires-2 : (t : ℕ) → element-lts.Need-column-of-requires-2 (element-calls t) (element-at t) element.Post element-Inv-loop element-μ-loop
-element-column-of-requires-2 t c κs =
-    let the-rule-at = c .before .before .before .before .before .before .before .before
-    .before .before .before .before .before .before .before .before .rule-at in
-    let the-if3 = c .before .before .before .before .before .before .before .before .before .before .before .before .before .before .before .if3 in
-    let the-wide = c .before .before .before .before .before .before .before .before .before .before .before .before .before .wide in
-    let h = the-rule-at .ensures (the-if3 .taken) in
-    next-small (h .rule) (the-if3 .taken) (the-wide .ensures .0)
+element-column-of-requires-2 t c κs = search needs
 
 element-put-cell-requires-2 : (t : ℕ) → element-lts.Need-put-cell-requires-2 (element-calls t) (element-at t) element.Post element-Inv-loop element-μ-loop
 element-put-cell-requires-2 t c κs = search needs

@@ -12,19 +12,19 @@ use Rattle.glow.proofs.close.Lts as lts
 use Rattle.containers.proofs.last.Reads as last-reads
 use Rattle.containers.proofs.shut.Reads as shut-reads
 
--- src/lib.rt:509:25
+-- src/lib.rt:89:25
 enum-known-w : tie.Need-enum-known-w
 enum-known-w c = search needs
 
--- src/lib.rt:510:22
+-- src/lib.rt:90:22
 enum-known-w-2 : tie.Need-enum-known-w-2
 enum-known-w-2 c = search needs
 
--- src/lib.rt:511:17
+-- src/lib.rt:91:17
 shut-requires : tie.Need-shut-requires
 shut-requires c κs = search needs
 
--- src/lib.rt:513:17
+-- src/lib.rt:93:17
 returns : tie.Need-returns
 returns c =
     let the-w2 = c .before .before .before .w2 in
@@ -37,25 +37,25 @@ returns c =
           (omega (arith, x .0, z .1), (omega (arith, x .1 .0, z .1), x .1 .1)),
     )
 
--- src/lib.rt:515:19
+-- src/lib.rt:95:19
 last-requires : tie.Need-last-requires
 last-requires c κs = search needs
 
--- src/lib.rt:516:31
+-- src/lib.rt:96:31
 enum-known-e : tie.Need-enum-known-e
 enum-known-e c = search needs
 
--- src/lib.rt:517:28
+-- src/lib.rt:97:28
 enum-known-q : tie.Need-enum-known-q
 enum-known-q c = search needs
 
--- src/lib.rt:504:1
+-- src/lib.rt:84:1
 returns-2 : tie.Need-returns-2
 returns-2 c =
     let the-w = c .before .w in
     (λ a n h. close-no _ _ _ a n h (the-w .given .1), λ p n h. tt)
 
--- src/lib.rt:504:1
+-- src/lib.rt:84:1
 returns-3 : tie.Need-returns-3
 returns-3 c =
     let the-w2 = c .before .before .before .before .before .before .before .w2 in
@@ -63,7 +63,7 @@ returns-3 c =
     let the-e = c .before .e in
     (λ a n h. close-more _ _ _ a n h (the-w2 .given .1) (the-last .ensures .0 ∙ the-e .given .1), λ p n h. tt)
 
--- src/lib.rt:504:1
+-- src/lib.rt:84:1
 returns-4 : tie.Need-returns-4
 returns-4 c =
     let the-w2 = c .before .before .before .before .before .before .before .w2 in

@@ -1,0 +1,4 @@
+pub mod Members
+pub mod Root
+pub mod Progress
+pub mod Brief
