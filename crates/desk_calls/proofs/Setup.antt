@@ -13,7 +13,8 @@ use Rattle.entries.specs.Entry.{Rows}
 use Rattle.grammar.specs.Leaf as leaf
 use Rattle.forest.specs.Content.{Item}
 use Rattle.forest.specs.Rows.{itemsIn}
-use Rattle.glow_writer.specs.Accepted.{accepted, fits, lengthOf, leastReal, isWhole, octetsOf}
+use Rattle.member_sizes.specs.Spelling.{leastReal}
+use Rattle.tree_sizes.specs.Accepted.{accepted, fits, lengthOf, isWhole, octetsOf}
 use Rattle.routing.specs.declared.Figures.{Figures}
 use Rattle.routing.specs.Figures.{both}
 use Rattle.routing.specs.Crosspoints.{Cells, legal, opened, answer}

@@ -8,7 +8,7 @@ use Rattle.integers.specs.Digits.{pick}
 use Rattle.entries.specs.Entry.{Rows}
 use Rattle.forest.specs.Content.{Item}
 use Rattle.forest.specs.Rows.{itemsIn}
-use Rattle.glow_writer.specs.Accepted.{accepted}
+use Rattle.tree_sizes.specs.Accepted.{accepted}
 use Rattle.routing.specs.declared.Figures.{Figures}
 use Rattle.routing.specs.Figures.{both}
 use Rattle.routing.specs.Crosspoints.{Cells, legal, opened, Answer, answer}

@@ -414,7 +414,7 @@ pub fn call(
     if !is_legal(f, path, crosspoints) {
         return Called::Setup;
     }
-    if 16384 < glow_writer::measure(rows, count, root, s, true) {
+    if 16384 < tree_sizes::measure(rows, count, root, s, true) {
         return Called::Setup;
     }
     Called::Done(serve(f, path, rows, count, s, crosspoints, answers))

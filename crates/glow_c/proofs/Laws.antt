@@ -13,7 +13,9 @@ use Rattle.integers.specs.declared.Wrote.{Wrote}
 use Rattle.integers.specs.declared.Wrote.the-variants.{Next, Out}
 use Rattle.integers.specs.Digits.{pick, Put, wrote, outcome}
 use Rattle.forest.specs.Rows.{itemsIn}
-use Rattle.glow_writer.specs.Accepted.{leastReal, fits, writes}
+use Rattle.member_sizes.specs.Spelling.{leastReal}
+use Rattle.tree_sizes.specs.Accepted.{fits}
+use Rattle.glow_writer.specs.Writes.{writes}
 use Rattle.glow_c.specs.Calls.{Call, call, wordsOf, called, calls, Writing, writing, lengthWord, wroteAs, writeCalls, acceptCalls}
 use mathlib.Core.Bool.{Bool, true, false}
 

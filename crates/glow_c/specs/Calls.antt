@@ -9,7 +9,9 @@ use Rattle.integers.specs.declared.Wrote.{Wrote}
 use Rattle.integers.specs.declared.Wrote.the-variants.{Next, Out}
 use Rattle.integers.specs.Digits.{Put}
 use Rattle.forest.specs.Rows.{itemsIn}
-use Rattle.glow_writer.specs.Accepted.{leastReal, fits, writes}
+use Rattle.member_sizes.specs.Spelling.{leastReal}
+use Rattle.tree_sizes.specs.Accepted.{fits}
+use Rattle.glow_writer.specs.Writes.{writes}
 use Rattle.glow.specs.declared.Answer.{Answer}
 use Rattle.glow.specs.declared.Answer.the-variants.{Setup, Refused, Room, Read}
 use Rattle.glow.specs.Message.{Said, saidBy, Result, readAt}

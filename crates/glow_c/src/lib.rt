@@ -100,7 +100,7 @@ pub extern "C" fn glow_write(
 pub extern "C" fn glow_accepts(rows: &[[u64; 50]], count: usize, root: u64, message: &[u8]) -> u64
     ensures { λ r. ⌜ acceptCalls (now (rows .entry)) count root (now (message .entry)) ≡ r ⌝ }
 {
-    if glow_writer::is_tree(rows, count, root, message) {
+    if tree_sizes::is_tree(rows, count, root, message) {
         return 1;
     }
     0

@@ -1,12 +1,3 @@
-pub mod Caps
-pub mod Words
-pub mod Members
-pub mod Cells
-pub mod Entry
-pub mod Places
-pub mod Sums
-pub mod Fits
-pub mod Trees
 pub mod Putting
 pub mod Placing
 pub mod Messages

@@ -15,14 +15,16 @@ use Rattle.forest.specs.Content.{Item}
 use Rattle.forest.specs.Trees.{Trees, treesOf}
 use Rattle.forest.specs.Legal.{isRoot, legal, legalRoot}
 use Rattle.forest.specs.Written.{tagged, treesOctets, rootNumber, messageOctets, writtenReal}
-use Rattle.glow_writer.specs.declared.Measured.{Measured}
+use Rattle.tree_sizes.specs.declared.Measured.{Measured}
 use Rattle.glow_writer.specs.declared.write.Placed.{Placed}
-use Rattle.glow_writer.specs.Accepted.{isEnd, isWhole, octetsOf, fits, lengthOf, writes}
-use Rattle.glow_writer.specs.Sizes.{cap, taggedSize, Gives}
+use Rattle.tree_sizes.specs.Accepted.{isEnd, isWhole, octetsOf, fits, lengthOf}
+use Rattle.glow_writer.specs.Writes.{writes}
+use Rattle.member_sizes.specs.Sizes.{cap, taggedSize}
+use Rattle.tree_sizes.specs.Sizes.{Gives}
 use Rattle.glow_writer.specs.Puts.{Puts, head, treesAt, ItemsPut}
-use Rattle.glow_writer.proofs.Caps.{cap-in, over-tagged}
-use Rattle.glow_writer.proofs.Members.{tagged-length}
-use Rattle.glow_writer.proofs.Entry.{both-left, both-right}
+use Rattle.member_sizes.proofs.Caps.{cap-in, over-tagged}
+use Rattle.member_sizes.proofs.Members.{tagged-length}
+use Rattle.tree_sizes.proofs.Entry.{both-left, both-right}
 use Rattle.glow_writer.proofs.Putting.{tagged-put}
 use Rattle.glow_writer.proofs.Placing.{measured-is}
 

@@ -18,14 +18,15 @@ use Rattle.forest.specs.Rows.{cellsFrom, entryOf, entriesOf, itemsIn}
 use Rattle.forest.specs.Trees.{Trees, none, tree, standsIn, stands, Taken, taken, takenBy, count}
 use Rattle.forest.specs.Legal.{suited, complete, pathAfter, empty, inner, isNone, legal}
 use Rattle.forest.specs.Written.{tagged, membersOctets, wrapped, own, treesOctets, writtenReal}
-use Rattle.glow_writer.specs.declared.Entered.{Entered}
-use Rattle.glow_writer.specs.declared.Measured.{Measured}
+use Rattle.tree_sizes.specs.declared.Entered.{Entered}
+use Rattle.tree_sizes.specs.declared.Measured.{Measured}
 use Rattle.glow_writer.specs.declared.write.Placed.{Placed}
-use Rattle.glow_writer.specs.Sizes.{cap, taggedSize, wrappedSize, entryOctets, entered, enteredAt, measured, Gives}
+use Rattle.member_sizes.specs.Sizes.{cap, taggedSize}
+use Rattle.tree_sizes.specs.Sizes.{wrappedSize, entryOctets, entered, enteredAt, measured, Gives}
 use Rattle.glow_writer.specs.Puts.{Puts, heads, entryPart, treesAt, kidsAt, linksAt, oneAt, ItemsPut, ItemPuts, InsidePuts}
-use Rattle.glow_writer.proofs.Caps.{cap-in, over-tagged}
-use Rattle.glow_writer.proofs.Members.{outer-length}
-use Rattle.glow_writer.proofs.Entry.{wrapped-length, tagged-some, entered-is}
+use Rattle.member_sizes.proofs.Caps.{cap-in, over-tagged}
+use Rattle.member_sizes.proofs.Members.{outer-length}
+use Rattle.tree_sizes.proofs.Entry.{wrapped-length, tagged-some, entered-is}
 use Rattle.glow_writer.proofs.Putting.{puts-then, puts-none, puts-as, outer-put, application-small, wrapped-within, wrapped-empty, wrapped-put}
 
 never : {P : Type 0} → false ≡ true → P

@@ -32,11 +32,12 @@ use Rattle.forest.specs.Content.{Content, nothing, word, bytes, wrong, isPart, 
 use Rattle.forest.specs.Rows.{cellAt, cellsFrom}
 use Rattle.forest.specs.Legal.{isReal, isFormed, wordSuits, suits, ruleAt, suited, inner}
 use Rattle.forest.specs.Written.{tagged, spelled, memberOctets, membersOctets, wrapped, own, rootNumber, writtenReal, formOctets}
-use Rattle.glow_writer.specs.Sizes.{cap, taggedSize, nextOf, WordSized, cellsSize, split}
+use Rattle.member_sizes.specs.Sizes.{cap, taggedSize, nextOf, WordSized}
+use Rattle.tree_sizes.specs.Sizes.{cellsSize, split}
 use Rattle.glow_writer.specs.Puts.{Puts, head, heads, entryPart}
-use Rattle.glow_writer.proofs.Caps.{cap-in, over-tagged}
-use Rattle.glow_writer.proofs.Members.{tagged-length, outer-length, content-part, content-out, part-small, word-small, word-known}
-use Rattle.glow_writer.proofs.Entry.{both-left, both-right, cells-sized}
+use Rattle.member_sizes.proofs.Caps.{cap-in, over-tagged}
+use Rattle.member_sizes.proofs.Members.{tagged-length, outer-length, content-part, content-out, part-small, word-small, word-known}
+use Rattle.tree_sizes.proofs.Entry.{both-left, both-right, cells-sized}
 
 never : {P : Type 0} → false ≡ true → P
 never e = absurd (subst (λ (b : Bool). T (not b)) e tt)

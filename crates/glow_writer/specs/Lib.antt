@@ -1,3 +1,2 @@
-pub mod Accepted
-pub mod Sizes
+pub mod Writes
 pub mod Puts

@@ -15,7 +15,7 @@ use Rattle.forest.specs.Rows.{cellsFrom, itemsIn}
 use Rattle.forest.specs.Trees.{Trees, none, tree, takenBy, count}
 use Rattle.forest.specs.Legal.{isReal, suits, suited, inner, legal}
 use Rattle.forest.specs.Written.{spelled, memberOctets, membersOctets, wrapped, own, treesOctets, writtenReal}
-use Rattle.glow_writer.specs.Sizes.{taggedSize}
+use Rattle.member_sizes.specs.Sizes.{taggedSize}
 use Rattle.glow_writer.specs.declared.write.Placed.{Placed}
 
 -- Octets of at most 16,384, for which there is room, stand at `at`, and r is the place after them.

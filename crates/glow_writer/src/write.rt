@@ -1,24 +1,24 @@
 // The message of a tree, written forward: each length is measured before what it counts is written.
-use crate::around;
-use crate::cell_at;
-use crate::cells_size;
-use crate::entry_size;
-use crate::index;
-use crate::inside_of;
-use crate::int_of;
-use crate::is_part;
-use crate::items;
-use crate::measure;
-use crate::place;
-use crate::plus;
-use crate::split_of;
-use crate::stands_in;
-use crate::wide;
-use crate::word_at;
-use crate::word_size;
-use crate::wrapped_size;
 use entries::Cell;
 use integers::Wrote;
+use member_sizes::around;
+use member_sizes::index;
+use member_sizes::int_of;
+use member_sizes::is_part;
+use member_sizes::place;
+use member_sizes::plus;
+use member_sizes::wide;
+use member_sizes::word_size;
+use tree_sizes::cell_at;
+use tree_sizes::contents_size;
+use tree_sizes::entry_size;
+use tree_sizes::inside_of;
+use tree_sizes::measure;
+use tree_sizes::split_of;
+use tree_sizes::stands_in;
+use tree_sizes::trees_size;
+use tree_sizes::word_at;
+use tree_sizes::wrapped_size;
 ghost use mathlib.Core.Path.{_≡_};
 ghost use mathlib.Core.List.{[], _∷_};
 ghost use Prim.Native.Nat.{_+_, _-_, _%_, _≤_, _<_};
@@ -29,8 +29,8 @@ ghost use Rattle.grammar.specs.Grammar.{applications};
 ghost use Rattle.forest.specs.Content.{contentOf};
 ghost use Rattle.forest.specs.Rows.{itemsIn};
 ghost use Rattle.forest.specs.Written.{rootNumber};
-ghost use Rattle.glow_writer.specs.Accepted.{writes};
-ghost use Rattle.glow_writer.specs.Sizes.{taggedSize};
+ghost use Rattle.glow_writer.specs.Writes.{writes};
+ghost use Rattle.member_sizes.specs.Sizes.{taggedSize};
 ghost use Rattle.glow_writer.specs.Puts.{Puts, head, heads, rowCells, WordPuts, MemberPuts, MembersPut, EntryPuts, ItemsPut, ItemBy, InsideBy};
 
 // The next entry and the place after what was written.
@@ -140,7 +140,7 @@ fn put_entry(rows: &[[u64; 50]], i: usize, s: &[u8], kind: u64, out: &mut [u8], 
     ensures { λ r. ⌜ EntryPuts kind (rowCells (now (s .entry)) (now (rows .entry)) i 16 0) (now (out .entry)) at r (now (out .exit)) ⌝ }
 {
     let split = split_of(kind);
-    let n = cells_size(rows, i, s, kind, split, 16, false);
+    let n = contents_size(rows, i, s, kind, false);
     let a = put_cells(rows, i, s, kind, 0, split, out, at);
     if n == 0 {
         return a;
@@ -230,8 +230,8 @@ fn put_item(
     let e = entry_size(rows, i, s, k, above, false);
     let me = wide(i) + 1;
     let deep = inside_of(k);
-    let kids = items(rows, s, count, 1, me, i + 1, deep, e.path, false);
-    let links = items(rows, s, count, 2, me, kids.next, deep, e.path, false);
+    let kids = trees_size(rows, s, count, 1, me, i + 1, deep, e.path, false);
+    let links = trees_size(rows, s, count, 2, me, kids.next, deep, e.path, false);
     let held = plus(
         e.size,
         plus(wrapped_size(kids.size), wrapped_size(links.size)),
@@ -322,7 +322,7 @@ pub fn write(rows: &[[u64; 50]], count: usize, root: u64, s: &[u8], out: &mut [u
     if wide(out.len()) < m {
         return Wrote::Out;
     }
-    let all = items(rows, s, count, root, 0, 0, 62, 0, false);
+    let all = trees_size(rows, s, count, root, 0, 0, 62, 0, false);
     let a = put_head(0x60, around(all.size), out, 0);
     let b = put_head(root_tag(root), all.size, out, a);
     let p = put_items(rows, s, count, root, 0, 0, 62, 0, out, b);

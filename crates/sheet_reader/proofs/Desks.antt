@@ -13,7 +13,7 @@ use Rattle.entries.specs.Entry.{Rows}
 use Rattle.entries.specs.declared.Cell.{Cell}
 use Rattle.forest.specs.Content.{Item, contentOf}
 use Rattle.forest.specs.Rows.{itemsIn}
-use Rattle.glow_writer.specs.Accepted.{accepted}
+use Rattle.tree_sizes.specs.Accepted.{accepted}
 use Rattle.routing.specs.declared.Figures.{Figures}
 use Rattle.routing.specs.Figures.{both, figuresFit}
 use Rattle.routing.specs.Crosspoints.{Cells, clear, Answer, answer, opened}

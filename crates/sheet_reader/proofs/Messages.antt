@@ -17,7 +17,7 @@ use Rattle.glow.specs.declared.Answer.the-variants as glow
 use Rattle.glow.specs.Message.{Result, result, readOf, readAt, setup, walk}
 use Rattle.forest.specs.Content.{itemsOf}
 use Rattle.forest.specs.Rows.{itemsIn}
-use Rattle.glow_writer.specs.Accepted.{accepted}
+use Rattle.tree_sizes.specs.Accepted.{accepted}
 use Rattle.read_trees.proofs.Message.{is-legal}
 use Rattle.tree_round_trip.proofs.Rows.{rows-items, tree-sixteen}
 use Rattle.tree_round_trip.proofs.Reading.{read-walk}

@@ -12,7 +12,7 @@ ghost use Prim.Native.Nat.{ℕ, _≤_};
 ghost use lib.ListN.{length, drop};
 ghost use Rattle.forest.specs.Content.{contentOf, isWord};
 ghost use Rattle.forest.specs.Rows.{itemsIn};
-ghost use Rattle.glow_writer.specs.Accepted.{accepted};
+ghost use Rattle.tree_sizes.specs.Accepted.{accepted};
 ghost use Rattle.routing.specs.Figures.{side};
 ghost use Rattle.desk_calls.specs.Connections.{octetsOf, numbersIn};
 ghost use Rattle.sheets.specs.Reading.{firstRefused, limitIn, figuresIn, opens, ofEntries, ofMessage};

@@ -22,8 +22,9 @@ use Rattle.forest.specs.Content.{Content, bytes, contentOf, contentsOf, Item, i
 use Rattle.forest.specs.Rows.{itemsIn}
 use Rattle.forest.specs.Trees.{none, flat, count}
 use Rattle.forest.specs.Written.{messageOctets, writtenReal}
-use Rattle.glow_writer.specs.Sizes.{nextOf}
-use Rattle.glow_writer.specs.Accepted.{octetsOf, writes}
+use Rattle.member_sizes.specs.Sizes.{nextOf}
+use Rattle.tree_sizes.specs.Accepted.{octetsOf}
+use Rattle.glow_writer.specs.Writes.{writes}
 use Rattle.grammar.specs.Grammar.{qualifiedMatrix, connection}
 use Rattle.read_trees.proofs.Lists.{items-length, flat-length}
 use Rattle.tree_round_trip.proofs.Rows.{rows-items, tree-sixteen}

@@ -14,7 +14,7 @@ ghost use Rattle.forest.specs.Rows.{itemsIn};
 ghost use Rattle.forest.specs.Trees.{flat};
 ghost use Rattle.framing_writer.specs.Written.{inPackets};
 ghost use Rattle.framing_writer.specs.Stores.{wrote};
-ghost use Rattle.glow_writer.specs.Sizes.{nextOf};
+ghost use Rattle.member_sizes.specs.Sizes.{nextOf};
 ghost use Rattle.routing.specs.Figures.{side};
 ghost use Rattle.desk_calls.specs.Calls.{deskLegal};
 ghost use Rattle.sheets.specs.Sheet.{desk, sourcesFrom, sheetTree, sheetMessage};

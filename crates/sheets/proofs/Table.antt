@@ -18,7 +18,7 @@ use Rattle.glow.specs.Message.{Result, result, readOf, readAt, setup, walk}
 use Rattle.forest.specs.Content.{itemsOf}
 use Rattle.forest.specs.Rows.{itemsIn}
 use Rattle.read_trees.proofs.Message.{Tree, is-least}
-use Rattle.glow_writer.specs.Accepted.{leastReal}
+use Rattle.member_sizes.specs.Spelling.{leastReal}
 use Rattle.tree_round_trip.proofs.Reals.{reals-least}
 use Rattle.tree_round_trip.proofs.Rows.{rows-items, tree-sixteen}
 use Rattle.sheets.specs.Reading.{Sheet, refused, ofEntries, ofAnswer, ofMessage}

@@ -23,7 +23,7 @@ use Rattle.forest.specs.Legal.{legalRoot}
 use Rattle.forest.specs.Written.{messageOctets}
 use Rattle.reading_back.proofs.Bools.{never}
 use Rattle.read_trees.proofs.Message.{Tree, is-least}
-use Rattle.glow_writer.specs.Accepted.{leastReal}
+use Rattle.member_sizes.specs.Spelling.{leastReal}
 use Rattle.tree_round_trip.proofs.Reals.{reals-least}
 use Rattle.tree_round_trip.proofs.Rows.{rows-items, tree-sixteen}
 

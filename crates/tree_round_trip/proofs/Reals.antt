@@ -17,7 +17,7 @@ use Rattle.forest.specs.Legal.{isFormed, isReal}
 use Rattle.reading_back.proofs.Bools.{never, unless}
 use Rattle.reading_back.proofs.Leaves.{Spells}
 use Rattle.read_trees.proofs.Leaves.{RealsLeast}
-use Rattle.glow_writer.specs.Accepted.{leastReal}
+use Rattle.member_sizes.specs.Spelling.{leastReal}
 
 formed : (f : Form) → isFormed f ≡ true → (bs : List ℕ) × (f ≡ octets bs)
 formed unwritten e = never e

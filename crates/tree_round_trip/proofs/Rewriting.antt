@@ -17,7 +17,9 @@ use Rattle.glow.proofs.Answers.{rows-kept, count-bounded}
 use Rattle.forest.specs.Content.{Item}
 use Rattle.forest.specs.Rows.{itemsIn}
 use Rattle.forest.specs.Written.{writtenReal}
-use Rattle.glow_writer.specs.Accepted.{leastReal, isWhole, octetsOf, fits, writes}
+use Rattle.member_sizes.specs.Spelling.{leastReal}
+use Rattle.tree_sizes.specs.Accepted.{isWhole, octetsOf, fits}
+use Rattle.glow_writer.specs.Writes.{writes}
 use Rattle.tree_round_trip.proofs.Rows.{items-count}
 use Rattle.tree_round_trip.proofs.Reading.{tree-read}
 use Rattle.tree_round_trip.proofs.Writing.{whole-tree, octets-tree, fits-by, writes-no, writes-yes, writes-short, Accepting}

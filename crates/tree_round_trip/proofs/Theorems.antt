@@ -1,5 +1,5 @@
 -- The theorems of the tree writer (document 01, demand 2: "What we write, we read back as the same tree"), for all rows, counts, messages and outputs.
--- They speak of what the code is proved to answer: `readAt` (glow::read), `writes` and `accepted` (glow_writer). Trees are compared by the content of their
+-- They speak of what the code is proved to answer: `readAt` (glow::read), `writes` (glow_writer) and `accepted` (tree_sizes). Trees are compared by the content of their
 -- entries: `itemsIn s rows count` are those of the first `count` rows, with the message s beside them.
 use Prim.Native.Nat.{ℕ, zero, suc, _≤_, _<_}
 use mathlib.Core.Path.{_≡_, refl, sym, ap, subst, _∙_}
@@ -19,7 +19,9 @@ use Rattle.forest.specs.Content.{Item}
 use Rattle.forest.specs.Rows.{itemsIn}
 use Rattle.forest.specs.Written.{writtenReal}
 use Rattle.reading_back.proofs.ReadBack.{written-spells}
-use Rattle.glow_writer.specs.Accepted.{leastReal, octetsOf, accepted, lengthOf, writes}
+use Rattle.member_sizes.specs.Spelling.{leastReal}
+use Rattle.tree_sizes.specs.Accepted.{octetsOf, accepted, lengthOf}
+use Rattle.glow_writer.specs.Writes.{writes}
 use Rattle.tree_round_trip.proofs.Reals.{least-spells}
 use Rattle.tree_round_trip.proofs.Rows.{items-count}
 use Rattle.tree_round_trip.proofs.Octets.{Octets, rows-octets}

@@ -19,7 +19,8 @@ use Rattle.forest.specs.Trees.{flat, stands, takenBy, treesOf}
 use Rattle.forest.specs.Written.{writtenReal}
 use Rattle.forest.proofs.Vectors.{p12, p12-legal, p12-written}
 use Rattle.reading_back.proofs.Bools.{both-left, both-right}
-use Rattle.glow_writer.specs.Accepted.{octetsOf, isWhole, accepted, writes}
+use Rattle.tree_sizes.specs.Accepted.{octetsOf, isWhole, accepted}
+use Rattle.glow_writer.specs.Writes.{writes}
 use Rattle.tree_round_trip.proofs.Writing.{whole-tree, octets-tree, fits-by, writes-yes, writes-any}
 use Rattle.tree_round_trip.proofs.Rewriting.{in-rows}
 use Rattle.tree_round_trip.proofs.Theorems.{ReadAs, ReadBack, written, written-read, read-accepted, Message, accepted-rows}

@@ -27,7 +27,9 @@ use Rattle.read_trees.proofs.Lists.{flat-length}
 use Rattle.reading_back.proofs.ReadBack.{read-back}
 use Rattle.read_trees.proofs.Bools.{both-make}
 use Rattle.read_trees.proofs.Once.{made-again}
-use Rattle.glow_writer.specs.Accepted.{leastReal, isEnd, isWhole, octetsOf, accepted, fits, lengthOf, writes}
+use Rattle.member_sizes.specs.Spelling.{leastReal}
+use Rattle.tree_sizes.specs.Accepted.{isEnd, isWhole, octetsOf, accepted, fits, lengthOf}
+use Rattle.glow_writer.specs.Writes.{writes}
 use Rattle.tree_round_trip.proofs.Reals.{least-below}
 use Rattle.tree_round_trip.proofs.Whole.{taken-whole}
 use Rattle.tree_round_trip.proofs.Rows.{rows-items, tree-sixteen}

@@ -1,7 +1,7 @@
 use native.Mathlib.Omega.{arith}
 use mathlib.Core.Path.{_∙_}
 use borrow.Author.Tests.{not-true, not-false}
-use Rattle.glow_writer.specs.Accepted.{leastReal}
+use Rattle.member_sizes.specs.Spelling.{leastReal}
 use Rattle.desk_calls.proofs.Setup.{setup-lent, setup-desk, setup-entries, not-setup, measure-rows, desk-sources, desk-fits, path-short}
 use borrow.Author.Needs.{needs}
 use Rattle.desk_calls.proofs.call.Statement.{statement}

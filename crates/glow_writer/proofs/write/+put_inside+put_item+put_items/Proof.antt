@@ -21,14 +21,14 @@ use Rattle.glow_writer.proofs.write.+put_inside+put_item+put_items.Lts-
 use Rattle.glow_writer.proofs.write.put_items.Reads as put-items
 use Rattle.glow_writer.proofs.write.put_items.Kinds as put-items-kinds
 use Rattle.glow_writer.proofs.write.+put_inside+put_item+put_items.Lts-put_items as put-items-lts
-use Rattle.glow_writer.proofs.entry_size.Reads as entry-size-reads
-use Rattle.glow_writer.proofs.inside_of.Reads as inside-of-reads
-use Rattle.glow_writer.proofs.items.Reads as items-reads
-use Rattle.glow_writer.proofs.plus.Reads as plus-reads
-use Rattle.glow_writer.proofs.stands_in.Reads as stands-in-reads
-use Rattle.glow_writer.proofs.wide.Reads as wide-reads
-use Rattle.glow_writer.proofs.word_at.Reads as word-at-reads
-use Rattle.glow_writer.proofs.wrapped_size.Reads as wrapped-size-reads
+use Rattle.tree_sizes.proofs.entry_size.Reads as entry-size-reads
+use Rattle.tree_sizes.proofs.inside_of.Reads as inside-of-reads
+use Rattle.tree_sizes.proofs.trees_size.Reads as trees-size-reads
+use Rattle.member_sizes.proofs.plus.Reads as plus-reads
+use Rattle.tree_sizes.proofs.stands_in.Reads as stands-in-reads
+use Rattle.member_sizes.proofs.wide.Reads as wide-reads
+use Rattle.tree_sizes.proofs.word_at.Reads as word-at-reads
+use Rattle.tree_sizes.proofs.wrapped_size.Reads as wrapped-size-reads
 use Rattle.glow_writer.proofs.write.put_entry.Reads as put-entry-reads
 use Rattle.glow_writer.proofs.write.put_outer.Reads as put-outer-reads
 use Rattle.glow_writer.proofs.write.tag_of.Reads as tag-of-reads
@@ -119,8 +119,8 @@ put-item-calls t = (
   wide-reads.Learnt,
   inside-of-reads.Asked,
   inside-of-reads.Learnt,
-  items-reads.Asked,
-  items-reads.Learnt,
+  trees-size-reads.Asked,
+  trees-size-reads.Learnt,
   wrapped-size-reads.Asked,
   wrapped-size-reads.Learnt,
   plus-reads.Asked,
@@ -137,15 +137,11 @@ put-item-calls t = (
 
 -- src/write.rt:221:9
 put-item-word-at-requires : (t : ℕ) → put-item-lts.Need-word-at-requires (put-item-calls t) (put-item-at t) put-item.Post
-put-item-word-at-requires t c κs =
-    let the-Start = c .before .before in
-    let q = the-Start .pre .1 in (omega arith, omega arith)
+put-item-word-at-requires t c κs = search needs
 
 -- src/write.rt:222:9
 put-item-entry-size-requires : (t : ℕ) → put-item-lts.Need-entry-size-requires (put-item-calls t) (put-item-at t) put-item.Post
-put-item-entry-size-requires t c κs =
-    let the-Start = c .before .before .before in
-    let q = the-Start .pre .1 in omega arith
+put-item-entry-size-requires t c κs = search needs
 
 -- src/write.rt:223:14
 put-item-wide-requires : (t : ℕ) → put-item-lts.Need-wide-requires (put-item-calls t) (put-item-at t) put-item.Post
@@ -163,23 +159,18 @@ put-item-inside-of-requires : (t : ℕ) → put-item-lts.Need-inside-of-requires
 put-item-inside-of-requires t c κs = search needs
 
 -- src/write.rt:225:45
-put-item-add-items : (t : ℕ) → put-item-lts.Need-add-items (put-item-calls t) (put-item-at t) put-item.Post
-put-item-add-items t c =
+put-item-add-trees-size : (t : ℕ) → put-item-lts.Need-add-trees-size (put-item-calls t) (put-item-at t) put-item.Post
+put-item-add-trees-size t c =
     let the-Start = c .before .before .before .before .before .before in
     let q = the-Start .pre .1 in let z = the-Start .fits .count .fits in omega arith
 
 -- src/write.rt:225:9
-put-item-items-requires : (t : ℕ) → put-item-lts.Need-items-requires (put-item-calls t) (put-item-at t) put-item.Post
-put-item-items-requires t c κs =
-    let the-Start = c .before .before .before .before .before .before in
-    let q = the-Start .pre .1 in (omega arith, q .1)
+put-item-trees-size-requires : (t : ℕ) → put-item-lts.Need-trees-size-requires (put-item-calls t) (put-item-at t) put-item.Post
+put-item-trees-size-requires t c κs = search needs
 
 -- src/write.rt:226:9
-put-item-items-requires-2 : (t : ℕ) → put-item-lts.Need-items-requires-2 (put-item-calls t) (put-item-at t) put-item.Post
-put-item-items-requires-2 t c κs =
-    let the-items = c .items in
-    let the-Start = c .before .before .before .before .before .before .before in
-    (the-items .ensures .1 .1, the-Start .pre .1 .1)
+put-item-trees-size-requires-2 : (t : ℕ) → put-item-lts.Need-trees-size-requires-2 (put-item-calls t) (put-item-at t) put-item.Post
+put-item-trees-size-requires-2 t c κs = search needs
 
 -- src/write.rt:227:34
 put-item-wrapped-size-requires : (t : ℕ) → put-item-lts.Need-wrapped-size-requires (put-item-calls t) (put-item-at t) put-item.Post
@@ -254,8 +245,8 @@ put-item-returns t c =
     let the-word-at = c20 .before .before .before .before .before .before .word-at in
     let the-entry-size = c20 .before .before .before .before .before .entry-size in
     let the-inside-of = c20 .before .before .before .inside-of in
-    let the-items = c20 .before .before .items in
-    let the-items2 = c20 .before .items2 in
+    let the-trees-size = c20 .before .before .trees-size in
+    let the-trees-size2 = c20 .before .trees-size2 in
     let the-wrapped-size = c20 .wrapped-size in
     let the-wrapped-size2 = c10 .before .before .before .before .before .before .before .before .before .wrapped-size2 in
     let the-plus = c10 .before .before .before .before .before .before .before .before .plus in
@@ -268,7 +259,7 @@ put-item-returns t c =
     let r = the-put-inside2 .ensures .1 in
     let w = the-wide .ensures in (
       item-put _ _ _ _ _ _ _ (the-word-at .ensures) _ (the-entry-size .ensures) _ _ _ (omega arith) (the-inside-of .ensures) (omega arith) _ _
-          (the-items .ensures .0) (the-items2 .ensures .0)
+          (the-trees-size .ensures) (the-trees-size2 .ensures)
           _ _ _ _ (the-wrapped-size .ensures) (the-wrapped-size2 .ensures) (the-plus .ensures) (the-plus2 .ensures) _ (the-tag-of .ensures) _ _ _ _
           (the-put-outer .ensures) _ _ (the-put-entry .ensures)
           _ _ (the-put-inside .ensures .0) _ _ (the-put-inside2 .ensures .0),
@@ -303,9 +294,7 @@ put-items-loop-holds t c =
 -- src/write.rt:254:12
 put-items-word-at-requires : (t : ℕ) → put-items-lts.Need-word-at-requires (put-items-calls t)
     (put-items-at t) put-items.Post put-items-Inv-loop put-items-μ-loop
-put-items-word-at-requires t c κs =
-    let the-Start = c .before .before .before .before in
-    let q = the-Start .pre .1 in (omega arith, omega arith)
+put-items-word-at-requires t c κs = search needs
 
 -- src/write.rt:255:13
 put-items-same-length : (t : ℕ) → put-items-lts.Need-same-length (put-items-calls t) (put-items-at t) put-items.Post put-items-Inv-loop put-items-μ-loop
@@ -330,9 +319,7 @@ put-items-returns t c =
 -- src/write.rt:257:30
 put-items-word-at-requires-2 : (t : ℕ) → put-items-lts.Need-word-at-requires-2 (put-items-calls t)
     (put-items-at t) put-items.Post put-items-Inv-loop put-items-μ-loop
-put-items-word-at-requires-2 t c κs =
-    let the-Start = c .before .before .before .before .before .before in
-    let q = the-Start .pre .1 in (omega arith, omega arith)
+put-items-word-at-requires-2 t c κs = search needs
 
 -- src/write.rt:257:13
 put-items-stands-in-requires : (t : ℕ) → put-items-lts.Need-stands-in-requires (put-items-calls t)
@@ -441,8 +428,8 @@ pub +put-inside+put-item+put-items-spec : {M : Type 1} → statement M
       wide-reads.Learnt,
       inside-of-reads.Asked,
       inside-of-reads.Learnt,
-      items-reads.Asked,
-      items-reads.Learnt,
+      trees-size-reads.Asked,
+      trees-size-reads.Learnt,
       wrapped-size-reads.Asked,
       wrapped-size-reads.Learnt,
       plus-reads.Asked,
@@ -463,9 +450,9 @@ pub +put-inside+put-item+put-items-spec : {M : Type 1} → statement M
     (put-item-wide-requires t)
     (put-item-add-me t)
     (put-item-inside-of-requires t)
-    (put-item-add-items t)
-    (put-item-items-requires t)
-    (put-item-items-requires-2 t)
+    (put-item-add-trees-size t)
+    (put-item-trees-size-requires t)
+    (put-item-trees-size-requires-2 t)
     (put-item-wrapped-size-requires t)
     (put-item-wrapped-size-requires-2 t)
     (put-item-plus-requires t)

@@ -1,4 +1,5 @@
 use borrow.Author.Needs.{needs}
+use Rattle.tree_sizes.proofs.Cells.{cell-in}
 use Rattle.glow_writer.proofs.Putting.{Onward, onward-start, onward-more, onward-end}
 use native.Mathlib.Omega.{arith}
 use mathlib.Core.Path.{_≡_, refl, _∙_}
@@ -9,7 +10,7 @@ use Rattle.glow_writer.proofs.write.put_cells.Statement.{statement}
 use Rattle.glow_writer.proofs.write.put_cells.Tie as tie
 use Rattle.glow_writer.proofs.write.put_cells.Reads as reads
 use Rattle.glow_writer.proofs.write.put_cells.Lts as lts
-use Rattle.glow_writer.proofs.cell_at.Reads as cell-at-reads
+use Rattle.tree_sizes.proofs.cell_at.Reads as cell-at-reads
 use Rattle.glow_writer.proofs.write.byte.Reads as byte-reads
 use Rattle.glow_writer.proofs.write.put_member.Reads as put-member-reads
 
@@ -28,10 +29,7 @@ loop-holds c =
 
 -- src/write.rt:124:27
 cell-at-requires : tie.Need-cell-at-requires Inv-loop μ-loop
-cell-at-requires c κs =
-    let the-Start = c .before .before .before .before in
-    let the-loop = c .before .loop in
-    let q = the-Start .pre in let h = the-loop .inv in (q .0, omega arith)
+cell-at-requires c κs = search needs
 
 -- src/write.rt:124:53
 sub-byte : tie.Need-sub-byte Inv-loop μ-loop
@@ -70,6 +68,8 @@ loop-again c =
     let the-cell-at = c .before .before .before .before .before .cell-at in
     let the-byte = c .before .before .before .before .byte in
     let the-put-member = c .before .before .put-member in
+    let the-Start = c .before .before .before .before .before .before .before .before .before .before in
+    let q = the-Start .pre in
     let h = the-loop .inv in (
       omega arith,
       (
@@ -77,7 +77,7 @@ loop-again c =
         (
           the-put-member .kept .1 .1 .1 .0 ∙ h .1 .1 .0,
           onward-more _ _ _ _ _ _ _ _ _ _ (the-loop-test .taken) (h .0)
-              (h .1 .1 .1) _ (the-cell-at .ensures) _ (the-byte .ensures) _ _ (the-put-member .ensures),
+              (h .1 .1 .1) _ (the-cell-at .ensures ∙ cell-in _ _ _ (omega arith)) _ (the-byte .ensures) _ _ (the-put-member .ensures),
         ),
       ),
     )

@@ -1,3 +1,5 @@
+use Rattle.forest.specs.Written.{writtenReal}
+use Rattle.tree_sizes.proofs.Cells.{contents-at}
 use Rattle.glow_writer.proofs.Putting.{entry-none, entry-some}
 use native.Mathlib.Omega.{arith}
 use mathlib.Core.Path.{_≡_}
@@ -6,8 +8,8 @@ use Rattle.glow_writer.proofs.write.put_entry.Statement.{statement}
 use Rattle.glow_writer.proofs.write.put_entry.Tie as tie
 use Rattle.glow_writer.proofs.write.put_entry.Reads as reads
 use Rattle.glow_writer.proofs.write.put_entry.Lts as lts
-use Rattle.glow_writer.proofs.cells_size.Reads as cells-size-reads
-use Rattle.glow_writer.proofs.split_of.Reads as split-of-reads
+use Rattle.tree_sizes.proofs.contents_size.Reads as contents-size-reads
+use Rattle.tree_sizes.proofs.split_of.Reads as split-of-reads
 use Rattle.glow_writer.proofs.write.put_cells.Reads as put-cells-reads
 use Rattle.glow_writer.proofs.write.put_outer.Reads as put-outer-reads
 
@@ -16,11 +18,8 @@ split-of-requires : tie.Need-split-of-requires
 split-of-requires c κs = search needs
 
 -- src/write.rt:134:9
-cells-size-requires : tie.Need-cells-size-requires
-cells-size-requires c κs =
-    let the-Start = c .before .before .before in
-    let the-split-of = c .split-of in
-    let h = the-split-of .ensures .1 in (the-Start .pre, (omega arith, omega arith))
+contents-size-requires : tie.Need-contents-size-requires
+contents-size-requires c κs = search needs
 
 -- src/write.rt:135:9
 put-cells-requires : tie.Need-put-cells-requires
@@ -37,13 +36,13 @@ same-length c = search needs
 returns : tie.Need-returns
 returns c =
     let the-split-of = c .before .before .before .before .before .before .split-of in
-    let the-cells-size = c .before .before .before .before .before .cells-size in
+    let the-contents-size = c .before .before .before .before .before .contents-size in
     let the-put-cells = c .before .before .before .put-cells in
     let the-if1 = c .if1 in
     let t = the-if1 .taken in
-    let z : the-cells-size .result ≡ 0 = omega arith in
+    let z : the-contents-size .result ≡ 0 = omega arith in
     λ u.
-    entry-none _ _ _ _ (the-split-of .ensures .0) (the-split-of .ensures .1) _ (the-cells-size .ensures) _ _ _ _ (the-put-cells .ensures) u z
+    entry-none _ _ _ _ (the-split-of .ensures .0) (the-split-of .ensures .1) _ (contents-at writtenReal _ _ _ _ _ (the-split-of .ensures .0) (the-contents-size .ensures)) _ _ _ _ (the-put-cells .ensures) u z
 
 -- src/write.rt:139:9
 put-outer-requires : tie.Need-put-outer-requires
@@ -64,15 +63,15 @@ same-length-2 c = search needs
 returns-2 : tie.Need-returns-2
 returns-2 c =
     let the-split-of = c .before .before .before .before .before .before .before .before .before .before .before .before .before .before .split-of in
-    let the-cells-size = c .before .before .before .before .before .before .before .before .before .before .before .before .before .cells-size in
+    let the-contents-size = c .before .before .before .before .before .before .before .before .before .before .before .before .before .contents-size in
     let the-put-cells = c .before .before .before .before .before .before .before .before .before .before .before .put-cells in
     let the-if1 = c .before .before .before .before .before .before .before .before .if1 in
     let the-put-outer = c .before .before .before .before .before .before .put-outer in
     let the-put-cells2 = c .before .before .put-cells2 in
     let t = the-if1 .left in
-    let z : the-cells-size .result ≡ 0 → ⊥ = λ e. omega arith in
+    let z : the-contents-size .result ≡ 0 → ⊥ = λ e. omega arith in
     λ u.
-    entry-some _ _ _ _ (the-split-of .ensures .0) (the-split-of .ensures .1) _ (the-cells-size .ensures) _ _ _ _ (the-put-cells .ensures) u z _ _ _ _
+    entry-some _ _ _ _ (the-split-of .ensures .0) (the-split-of .ensures .1) _ (contents-at writtenReal _ _ _ _ _ (the-split-of .ensures .0) (the-contents-size .ensures)) _ _ _ _ (the-put-cells .ensures) u z _ _ _ _
     (the-put-outer .ensures) (the-put-cells2 .ensures)
 
 pub put-entry-spec : {M : Type 1} → statement M
@@ -80,7 +79,7 @@ put-entry-spec =
     tie.close
     (tie.spec
     split-of-requires
-    cells-size-requires
+    contents-size-requires
     put-cells-requires
     same-length
     returns

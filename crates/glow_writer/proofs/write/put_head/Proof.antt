@@ -4,7 +4,7 @@ use Rattle.glow_writer.proofs.write.put_head.Statement.{statement}
 use Rattle.glow_writer.proofs.write.put_head.Tie as tie
 use Rattle.glow_writer.proofs.write.put_head.Reads as reads
 use Rattle.glow_writer.proofs.write.put_head.Lts as lts
-use Rattle.glow_writer.proofs.place.Reads as place-reads
+use Rattle.member_sizes.proofs.place.Reads as place-reads
 use Rattle.glow_writer.proofs.write.put_octet.Reads as put-octet-reads
 use Rattle.tags.proofs.write_length.Reads as write-length-reads
 

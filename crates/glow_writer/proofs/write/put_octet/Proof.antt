@@ -4,7 +4,7 @@ use Rattle.glow_writer.proofs.write.put_octet.Statement.{statement}
 use Rattle.glow_writer.proofs.write.put_octet.Tie as tie
 use Rattle.glow_writer.proofs.write.put_octet.Reads as reads
 use Rattle.glow_writer.proofs.write.put_octet.Lts as lts
-use Rattle.glow_writer.proofs.place.Reads as place-reads
+use Rattle.member_sizes.proofs.place.Reads as place-reads
 use Rattle.integers.proofs.write_octet.Reads as write-octet-reads
 
 -- src/write.rt:47:11

@@ -7,8 +7,8 @@ use Rattle.glow_writer.proofs.write.put_word.Statement.{statement}
 use Rattle.glow_writer.proofs.write.put_word.Tie as tie
 use Rattle.glow_writer.proofs.write.put_word.Reads as reads
 use Rattle.glow_writer.proofs.write.put_word.Lts as lts
-use Rattle.glow_writer.proofs.int_of.Reads as int-of-reads
-use Rattle.glow_writer.proofs.place.Reads as place-reads
+use Rattle.member_sizes.proofs.int_of.Reads as int-of-reads
+use Rattle.member_sizes.proofs.place.Reads as place-reads
 use Rattle.glow_writer.proofs.write.flag.Reads as flag-reads
 use Rattle.glow_writer.proofs.write.put_octet.Reads as put-octet-reads
 use Rattle.integers.proofs.write_int.Reads as write-int-reads

@@ -6,10 +6,10 @@ use Rattle.glow_writer.proofs.write.write.Statement.{statement}
 use Rattle.glow_writer.proofs.write.write.Tie as tie
 use Rattle.glow_writer.proofs.write.write.Reads as reads
 use Rattle.glow_writer.proofs.write.write.Lts as lts
-use Rattle.glow_writer.proofs.around.Reads as around-reads
-use Rattle.glow_writer.proofs.items.Reads as items-reads
-use Rattle.glow_writer.proofs.measure.Reads as measure-reads
-use Rattle.glow_writer.proofs.wide.Reads as wide-reads
+use Rattle.member_sizes.proofs.around.Reads as around-reads
+use Rattle.tree_sizes.proofs.trees_size.Reads as trees-size-reads
+use Rattle.tree_sizes.proofs.measure.Reads as measure-reads
+use Rattle.member_sizes.proofs.wide.Reads as wide-reads
 use Rattle.glow_writer.proofs.write.put_head.Reads as put-head-reads
 use Rattle.glow_writer.proofs.write.put_items.Reads as put-items-reads
 use Rattle.glow_writer.proofs.write.root_tag.Reads as root-tag-reads
@@ -43,11 +43,8 @@ returns-2 c =
     write-short _ _ _ _ _ (the-measure .ensures) _ h _ (the-wide .ensures) k
 
 -- src/write.rt:284:9
-items-requires : tie.Need-items-requires
-items-requires c κs =
-    let the-measure = c .before .before .before .measure in
-    let the-if1 = c .before .before .if1 in
-    let t = the-if1 .left in let h : the-measure .result ≤ 16384 = omega arith in (omega arith, write-bound _ _ _ _ _ (the-measure .ensures) h)
+trees-size-requires : tie.Need-trees-size-requires
+trees-size-requires c κs = search needs
 
 -- src/write.rt:285:28
 around-requires : tie.Need-around-requires
@@ -86,7 +83,7 @@ returns-3 c =
     let the-wide = c .before .before .before .before .before .before .before .before .before .before .before .before .before
     .before .before .before .wide in
     let the-if2 = c .before .before .before .before .before .before .before .before .before .before .before .before .before .before .before .if2 in
-    let the-items = c .before .before .before .before .before .before .before .before .before .before .before .before .before .before .items in
+    let the-trees-size = c .before .before .before .before .before .before .before .before .before .before .before .before .before .before .trees-size in
     let the-around = c .before .before .before .before .before .before .before .before .before .before .before .before .before .around in
     let the-put-head = c .before .before .before .before .before .before .before .before .before .before .before .put-head in
     let the-root-tag = c .before .before .before .before .before .before .before .before .root-tag in
@@ -96,7 +93,7 @@ returns-3 c =
     let u = the-if2 .left in
     let h : the-measure .result ≤ 16384 = omega arith in
     let k : the-measure .result ≤ the-wide .result = omega arith in
-    write-put _ _ _ _ _ (the-measure .ensures) _ h _ (the-wide .ensures) k _ (the-items .ensures .0) _ (the-around .ensures) _ _ (the-put-head .ensures) _
+    write-put _ _ _ _ _ (the-measure .ensures) _ h _ (the-wide .ensures) k _ (the-trees-size .ensures) _ (the-around .ensures) _ _ (the-put-head .ensures) _
     (the-root-tag .ensures) _ _ (the-put-head2 .ensures) _ _ (the-put-items .ensures .0)
 
 pub write-spec : {M : Type 1} → statement M
@@ -107,7 +104,7 @@ write-spec =
     returns
     wide-requires
     returns-2
-    items-requires
+    trees-size-requires
     around-requires
     put-head-requires
     root-tag-requires

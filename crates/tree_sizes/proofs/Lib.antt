@@ -1,0 +1,6 @@
+pub mod Cells
+pub mod Entry
+pub mod Places
+pub mod Sums
+pub mod Fits
+pub mod Trees
