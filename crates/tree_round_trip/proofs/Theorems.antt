@@ -1,6 +1,6 @@
 -- The theorems of the tree writer (document 01, demand 2: "What we write, we read back as the same tree"), for all rows, counts, messages and outputs.
--- They speak of what the code is proved to answer: `readAt` (glow::read), `writes` (glow_writer) and `accepted` (tree_sizes). Trees are compared by the content of their
--- entries: `itemsIn s rows count` are those of the first `count` rows, with the message s beside them.
+-- They speak of what the code is proved to answer: `readAt` (glow::read), `writes` (glow_writer) and `accepted` (tree_sizes).
+-- Trees are compared by the content of their entries: `itemsIn s rows count` are those of the first `count` rows, with the message s beside them.
 use Prim.Native.Nat.{ℕ, zero, suc, _≤_, _<_}
 use mathlib.Core.Path.{_≡_, refl, sym, ap, subst, _∙_}
 use mathlib.Core.List.{List, [], _∷_, _++_}

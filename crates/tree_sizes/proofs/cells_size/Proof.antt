@@ -72,8 +72,8 @@ loop-again c =
       omega arith,
       (
         omega arith,
-        sum-more _ _ _ _ _ _ _ _ _ _ _ (omega arith) (h .1 .1) (the-cell-at .ensures ∙ cell-in _ _ _ (omega arith)) (ap (ruleAt _) (sym (the-wide .ensures)) ∙ the-rule-at .ensures)
-            (the-member-size .ensures) (the-plus .ensures),
+        sum-more _ _ _ _ _ _ _ _ _ _ _ (omega arith) (h .1 .1) (the-cell-at .ensures ∙ cell-in _ _ _ (omega arith))
+            (ap (ruleAt _) (sym (the-wide .ensures)) ∙ the-rule-at .ensures) (the-member-size .ensures) (the-plus .ensures),
       ),
     )
 

@@ -224,7 +224,8 @@ returns-6 c =
     path-over (spelling (the-Start .args .least)) _ _ _ _ _ (the-word-at .ensures) _ (the-split-of .ensures .0) _ _ (the-cells-size .ensures) (the-cells-size2 .ensures)
     (the-if1 .left) (the-if2 .left) _ _ (the-wrapped-size .ensures) (the-plus .ensures)
     (the-if3 .left) (the-is-shallow .ensures ∙ not-false _ (the-if4 .left))
-    (the-is-complete .ensures ∙ not-false _ (the-if5 .left)) _ _ _ (the-rule-at .ensures) (the-cell-at .ensures ∙ cell-in _ _ 0 (omega arith)) (the-path-after .ensures)
+    (the-is-complete .ensures ∙ not-false _ (the-if5 .left)) _ _ _ (the-rule-at .ensures)
+    (the-cell-at .ensures ∙ cell-in _ _ 0 (omega arith)) (the-path-after .ensures)
     (the-if6 .taken) ∙ sym (the-none6 .ensures)
 
 -- src/lib.rt:348:1
@@ -251,7 +252,8 @@ returns-7 c =
     entry-is (spelling (the-Start .args .least)) _ _ _ _ _ (the-word-at .ensures) _ (the-split-of .ensures .0) _ _ (the-cells-size .ensures) (the-cells-size2 .ensures)
     (the-if1 .left) (the-if2 .left) _ _ (the-wrapped-size .ensures) (the-plus .ensures)
     (the-if3 .left) (the-is-shallow .ensures ∙ not-false _ (the-if4 .left))
-    (the-is-complete .ensures ∙ not-false _ (the-if5 .left)) _ _ _ (the-rule-at .ensures) (the-cell-at .ensures ∙ cell-in _ _ 0 (omega arith)) (the-path-after .ensures)
+    (the-is-complete .ensures ∙ not-false _ (the-if5 .left)) _ _ _ (the-rule-at .ensures)
+    (the-cell-at .ensures ∙ cell-in _ _ 0 (omega arith)) (the-path-after .ensures)
     (the-if6 .left)
 
 pub entry-size-spec : {M : Type 1} → statement M

@@ -42,7 +42,8 @@ returns c =
     let t = the-if1 .taken in
     let z : the-contents-size .result ≡ 0 = omega arith in
     λ u.
-    entry-none _ _ _ _ (the-split-of .ensures .0) (the-split-of .ensures .1) _ (contents-at writtenReal _ _ _ _ _ (the-split-of .ensures .0) (the-contents-size .ensures)) _ _ _ _ (the-put-cells .ensures) u z
+    entry-none _ _ _ _ (the-split-of .ensures .0) (the-split-of .ensures .1) _
+    (contents-at writtenReal _ _ _ _ _ (the-split-of .ensures .0) (the-contents-size .ensures)) _ _ _ _ (the-put-cells .ensures) u z
 
 -- src/write.rt:139:9
 put-outer-requires : tie.Need-put-outer-requires
@@ -71,7 +72,8 @@ returns-2 c =
     let t = the-if1 .left in
     let z : the-contents-size .result ≡ 0 → ⊥ = λ e. omega arith in
     λ u.
-    entry-some _ _ _ _ (the-split-of .ensures .0) (the-split-of .ensures .1) _ (contents-at writtenReal _ _ _ _ _ (the-split-of .ensures .0) (the-contents-size .ensures)) _ _ _ _ (the-put-cells .ensures) u z _ _ _ _
+    entry-some _ _ _ _ (the-split-of .ensures .0) (the-split-of .ensures .1) _
+    (contents-at writtenReal _ _ _ _ _ (the-split-of .ensures .0) (the-contents-size .ensures)) _ _ _ _ (the-put-cells .ensures) u z _ _ _ _
     (the-put-outer .ensures) (the-put-cells2 .ensures)
 
 pub put-entry-spec : {M : Type 1} → statement M
