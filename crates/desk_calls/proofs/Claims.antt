@@ -1,6 +1,6 @@
 -- What holds of every call: a legal desk stays legal, 1 leaves everything as it was, every connection is answered, and an answer other than 0 changes nothing.
 use Prim.Native.Nat.{ℕ, suc, _+_, _*_, _≤_}
-use mathlib.Core.Path.{_≡_, refl, ap, _∙_}
+use mathlib.Core.Path.{_≡_, refl, sym, ap, _∙_}
 use mathlib.Core.List.{List, [], _∷_, _++_}
 use mathlib.Core.Bool.{Bool, true, false}
 use native.Mathlib.Omega.{arith}
@@ -11,7 +11,7 @@ use Rattle.entries.specs.Entry.{Rows}
 use Rattle.forest.specs.Content.{Item}
 use Rattle.forest.specs.Rows.{itemsIn}
 use Rattle.routing.specs.declared.Figures.{Figures}
-use Rattle.routing.specs.Crosspoints.{Cells, legal, opened, answer}
+use Rattle.routing.specs.Crosspoints.{Cells, legal, opened, Answer, answer}
 use Rattle.routing.proofs.Opened.{open-legal}
 use Rattle.routing.proofs.Claims.{request-legal, refused-same, request-length}
 use Rattle.desk_calls.specs.Connections.{Ask, askOf, asksIn, asksOf}
@@ -74,6 +74,12 @@ module _ (w : ℕ) (f : Figures) (path : List ℕ) where
           → pick u (requests w f (a .target) (a .sources) (a .operation) cells) (answer 40 cells) .cells ≡ cells
       go true z = refused-same w f (a .target) (a .sources) (a .operation) cells z
       go false z = refl
+
+  pub answered-legal : (a : Ask) (cells : Cells) (x : ℕ) (after : Cells) → legal w f cells ≡ true → answered (requests w f) path a cells ≡ answer x after
+      → legal w f after ≡ true
+  answered-legal a cells x after h e =
+      ap (λ (z : Answer). legal w f (z .cells)) (sym e)
+      ∙ answered-keeps (requests w f) path (λ (c : Cells). legal w f c ≡ true) (λ t l o c. request-legal w f t l o c) a cells h
 
   pub handled-legal : (es : List Item) (cells : Cells) → legal w f cells ≡ true → legal w f (handled w f path es cells .cells) ≡ true
   unfolding handled

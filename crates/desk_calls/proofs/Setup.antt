@@ -18,8 +18,7 @@ use Rattle.tree_sizes.specs.Accepted.{accepted, fits, lengthOf, isWhole, octets
 use Rattle.routing.specs.declared.Figures.{Figures}
 use Rattle.routing.specs.Figures.{both}
 use Rattle.routing.specs.Crosspoints.{Cells, legal, opened, answer}
-use Rattle.routing.proofs.Laws.{both-left, both-right, both-no, both-yes, fit-sources-le}
-use Rattle.routing.proofs.Answers.{legal-fit}
+use Rattle.routing.proofs.Laws.{both-left, both-right, both-no, both-yes}
 use Rattle.desk_calls.specs.Calls.{allNumbers, pathFits, deskLegal, deskOpened, handled, outcome, laid, isReady, called}
 use Rattle.desk_calls.proofs.Items.{in-length}
 
@@ -78,9 +77,6 @@ module _ (w : ℕ) (f : Figures) (path : List ℕ) (cells : Cells) where
     pub desk-legal : legal w f cells ≡ true
     unfolding deskLegal
     desk-legal = both-right (pathFits path) (legal w f cells) h
-
-    pub desk-sources : f .sources ≤ w
-    desk-sources = fit-sources-le w f (legal-fit w f cells desk-legal)
 
 -- the writer's measure
 module _ (real : ℕ → List ℕ) (root rows n : ℕ) (es : List Item) (r : ℕ) (e : lengthOf real root rows n es ≡ r) where

@@ -5,13 +5,14 @@ use identifiers::Oid;
 use routing::Figures;
 ghost use mathlib.Core.Path.{_≡_};
 ghost use mathlib.Core.List.{List, []};
+ghost use mathlib.Core.Bool.{true};
 ghost use Prim.Native.Nat.{ℕ, _+_, _-_, _≤_, _<_};
 ghost use lib.ListN.{length, getD, take, drop};
 ghost use Rattle.forest.specs.Content.{contentOf};
 ghost use Rattle.entries.specs.Cell.{absent};
 ghost use Rattle.forest.specs.Rows.{itemsIn};
 ghost use Rattle.routing.specs.Figures.{side};
-ghost use Rattle.routing.specs.Crosspoints.{clear, answer};
+ghost use Rattle.routing.specs.Crosspoints.{clear, legal, answer};
 ghost use Rattle.identifiers.specs.Identifier.{arcAt, oidAt};
 ghost use Rattle.desk_calls.specs.Connections.{cellIn, numberOf, octetsOf, numbersIn, endOf, stepOf, Left, Goes, isQualified, fullPath};
 ghost use Rattle.desk_calls.specs.Calls.{pathFits, deskLegal, deskOpened, same, called, outcome, told};
@@ -310,9 +311,9 @@ fn gather(octets: &[u8], sources: u64, list: &mut [u64], marks: &mut [u8]) -> us
     k
 }
 
-// A request with the sources of a member.
+// A request with the sources of a member. The desk was judged before the first of them, and each leaves it legal.
 fn ask(f: Figures, target: u64, v: Cell, operation: u64, s: &[u8], cells: &mut [u8]) -> u64
-    requires { ⌜ f .sources ≤ 64 ⌝ }
+    requires { ⌜ legal side f (now cells) ≡ true ⌝ }
     ensures { λ r. ⌜ askedOf f target (now (s .entry)) v operation (now (cells .entry)) ≡ answer r (now (cells .exit)) ⌝ }
 {
     let part = part_of(s, v);
@@ -321,7 +322,7 @@ fn ask(f: Figures, target: u64, v: Cell, operation: u64, s: &[u8], cells: &mut [
     let mut list = [0u64; 64];
     let mut marks = [0u8; 64];
     let n = gather(&s[start..end], f.sources, &mut list, &mut marks);
-    routing::request(f, target, &list[..n], operation, cells)
+    routing::request_unjudged(f, target, &list[..n], operation, cells)
 }
 
 // The answer to the connection at place i.
@@ -334,7 +335,7 @@ fn answer_to(
     s: &[u8],
     cells: &mut [u8],
 ) -> u64
-    requires { ⌜ (f .sources ≤ 64) × ((length (now path) ≤ 16) × ((count ≤ length (now rows)) × (i < count))) ⌝ }
+    requires { ⌜ (legal side f (now cells) ≡ true) × ((length (now path) ≤ 16) × ((count ≤ length (now rows)) × (i < count))) ⌝ }
     ensures { λ r. ⌜ answeredAt f (now (path .entry)) (now (rows .entry)) count (now (s .entry)) i (now (cells .entry)) ≡ answer r (now (cells .exit)) ⌝ }
 {
     if !is_path(path, rows, count, s, word_at(rows, i, 1)) {
@@ -357,11 +358,11 @@ fn take_entry(
     answers: &mut [u64],
     n: usize,
 ) -> usize
-    requires { ⌜ (f .sources ≤ 64) × ((length (now path) ≤ 16) × ((count ≤ length (now rows)) × (i < count))) ⌝ }
+    requires { ⌜ (legal side f (now cells) ≡ true) × ((length (now path) ≤ 16) × ((count ≤ length (now rows)) × (i < count))) ⌝ }
     requires { ⌜ n < length (now answers) ⌝ }
     ensures { λ r. ⌜ Takes f (now (path .entry)) (now (rows .entry)) count (now (s .entry)) i n (now (answers .entry)) (now (cells .entry))
         r (now (answers .exit)) (now (cells .exit)) ⌝ }
-    ensures { λ r. ⌜ r ≤ n + 1 ⌝ }
+    ensures { λ r. ⌜ (r ≤ n + 1) × (legal side f (now (cells .exit)) ≡ true) ⌝ }
 {
     if word_at(rows, i, 0) != 8 {
         return n;
@@ -380,7 +381,7 @@ fn serve(
     cells: &mut [u8],
     answers: &mut [u64],
 ) -> usize
-    requires { ⌜ (f .sources ≤ 64) × ((length (now path) ≤ 16) × ((count ≤ length (now rows)) × (count ≤ length (now answers)))) ⌝ }
+    requires { ⌜ (legal side f (now cells) ≡ true) × ((length (now path) ≤ 16) × ((count ≤ length (now rows)) × (count ≤ length (now answers)))) ⌝ }
     ensures { λ r. ⌜ servedIn f (now (path .entry)) (now (rows .entry)) count (now (s .entry)) (now (answers .entry)) (now (cells .entry))
         ≡ outcome 0 r (now (answers .exit)) (now (cells .exit)) ⌝ }
 {

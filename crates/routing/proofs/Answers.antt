@@ -1,5 +1,5 @@
 -- One law for each number that a request answers.
-use Prim.Native.Nat.{ℕ, _*_, _≤_, _<_}
+use Prim.Native.Nat.{ℕ, _+_, _-_, _*_, _≤_, _<_}
 use mathlib.Core.Path.{_≡_, refl, sym, ap, _∙_}
 use mathlib.Core.List.{List}
 use mathlib.Core.Bool.{Bool, true, false, not}
@@ -11,7 +11,7 @@ use Rattle.integers.specs.Digits.{pick}
 use Rattle.routing.specs.declared.Figures.{Figures}
 use Rattle.routing.specs.Figures.{both, figuresFit, mostEach, mostTotal}
 use Rattle.routing.specs.Crosspoints.{Cells, count, allBits, rowAt, withRow, rowsFit, kindFits, cellsFit, legal, answer}
-use Rattle.routing.specs.Request.{named, allBelow, becomes, others, result, many, overTotal, judged, asked, requested}
+use Rattle.routing.specs.Request.{named, allBelow, becomes, others, result, many, overTotal, judged, asked, sized, unjudged, requested}
 use Rattle.routing.proofs.Laws.{both-yes, both-left, both-right}
 use Rattle.routing.proofs.Parts.{others-kind}
 
@@ -20,10 +20,17 @@ over-not m n true e = le-ltb m n (leb-true n m e)
 over-not m n false e = lt-ltb m n (leb-false n m e)
 
 module _ (f : Figures) where
-  pub over-says : (n : ℕ) (b : Bool) → f .kind ≡ 2 → leb n (mostTotal f) ≡ b → both (eqb (f .kind) 2) (ltb (mostTotal f) n) ≡ not b
-  over-says n b h e = both-yes _ _ (eq-eqb _ _ h) ∙ over-not (mostTotal f) n b e
+  -- the total after a request, from x counted before it
+  module _ (sum before after x after′ : ℕ) (h : f .kind ≡ 2) (i : sum ≡ x) where
+    pub over-no : leb (x - before + after′) (mostTotal f) ≡ true → after ≡ after′
+        → _≡_ {A = ℕ} (pick (both (eqb (f .kind) 2) (ltb (mostTotal f) (sum - before + after))) 44 0) 0
+    over-no e j = rw (eq-eqb _ _ h, i, j, over-not (mostTotal f) (x - before + after′) true e)
 
-  pub over-other : (n : ℕ) → (f .kind ≡ 2 → ⊥) → both (eqb (f .kind) 2) (ltb (mostTotal f) n) ≡ false
+    pub over-yes : leb (x - before + after′) (mostTotal f) ≡ false → after ≡ after′
+        → _≡_ {A = ℕ} (pick (both (eqb (f .kind) 2) (ltb (mostTotal f) (sum - before + after))) 44 0) 44
+    over-yes e j = rw (eq-eqb _ _ h, i, j, over-not (mostTotal f) (x - before + after′) false e)
+
+  pub over-other : (n : ℕ) → (f .kind ≡ 2 → ⊥) → _≡_ {A = ℕ} (pick (both (eqb (f .kind) 2) (ltb (mostTotal f) n)) 44 0) 0
   over-other n h = simp (ne-eqb _ _ h)
 
   pub many-says : (n o x : ℕ) → f .kind ≡ 2 → mostEach f ≡ x → pick (eqb (f .kind) 2) (ltb (mostEach f) n) (ltb 1 o) ≡ ltb x n
@@ -33,16 +40,6 @@ module _ (f : Figures) where
 
   pub many-list : (n o : ℕ) → (f .kind ≡ 2 → ⊥) → pick (eqb (f .kind) 2) (ltb (mostEach f) n) (ltb 1 o) ≡ ltb 1 o
   many-list n o h = simp (ne-eqb _ _ h)
-
-module _ (m t : Bool) where
-  pub limits-many : m ≡ true → _≡_ {A = ℕ} (pick m 43 (pick t 44 0)) 43
-  limits-many h = rw h
-
-  pub limits-total : m ≡ false → t ≡ true → _≡_ {A = ℕ} (pick m 43 (pick t 44 0)) 44
-  limits-total h k = rw (h, k)
-
-  pub limits-none : m ≡ false → t ≡ false → _≡_ {A = ℕ} (pick m 43 (pick t 44 0)) 0
-  limits-none h k = rw (h, k)
 
 module _ (w : ℕ) (f : Figures) (target : ℕ) (l : List ℕ) (operation : ℕ) (cells : Cells) where
   pub row-from : (old row : Cells) → old ≡ rowAt w cells target → row ≡ becomes w f l operation old → row ≡ becomes w f l operation (rowAt w cells target)
@@ -94,6 +91,15 @@ module _ (w : ℕ) (f : Figures) (target : ℕ) (l : List ℕ) (operation : ℕ)
         let n = over-is row d ∙ ap (λ (x : ℕ). both (eqb (f .kind) 2) (ltb (mostTotal f) x)) (t ∙ j) in
         rw (lt-leb _ _ h, b, ne-eqb _ _ e, m, n) s
 
+    module _ (row : Cells) (ones set set′ : ℕ) (d : operation ≡ 2 → ⊥) (e : row ≡ becomes w f l operation (rowAt w cells target))
+        (o : count (named w l) ≡ ones) (c : count row ≡ set) where
+      pub told-many : pick (eqb (f .kind) 2) (ltb (mostEach f) set′) (ltb 1 ones) ≡ true → set ≡ set′ → judged w f target l operation cells ≡ 43
+      told-many m i = told-limits row ones set (count (withRow w cells target row)) set′ (count (withRow w cells target row)) 43 d e o c refl (rw m) i refl
+
+      pub told-total : (total r : ℕ) → pick (eqb (f .kind) 2) (ltb (mostEach f) set′) (ltb 1 ones) ≡ false → count (withRow w cells target row) ≡ total
+          → pick (both (eqb (f .kind) 2) (ltb (mostTotal f) total)) 44 0 ≡ r → set ≡ set′ → judged w f target l operation cells ≡ r
+      told-total total r m t s i = told-limits row ones set total set′ total r d e o c t (rw m s) i refl
+
   pub asked-no : (n : ℕ) → judged w f target l operation cells ≡ n → (n ≡ 0 → ⊥) → asked w f target l operation cells ≡ answer n cells
   unfolding asked
   asked-no n j h = rw (j, ne-eqb n 0 h)
@@ -108,13 +114,25 @@ module _ (w : ℕ) (f : Figures) (target : ℕ) (l : List ℕ) (operation : ℕ)
   unfolding requested
   request-legal-not h = simp h
 
-  pub request-none : legal w f cells ≡ true → 2 < operation → requested w f target l operation cells ≡ answer 1 cells
-  unfolding requested
-  request-none h o = simp (h, lt-leb _ _ o)
-
   pub request-asked : legal w f cells ≡ true → operation ≤ 2 → requested w f target l operation cells ≡ asked w f target l operation cells
   unfolding requested
   request-asked h o = simp (h, le-leb _ _ o)
+
+  pub unjudged-figures : figuresFit w f ≡ false → unjudged w f target l operation cells ≡ answer 1 cells
+  unfolding unjudged sized
+  unjudged-figures h = simp h
+
+  pub unjudged-count : figuresFit w f ≡ true → (length cells ≡ w * w → ⊥) → unjudged w f target l operation cells ≡ answer 1 cells
+  unfolding unjudged sized
+  unjudged-count h n = simp (h, ne-eqb _ _ n)
+
+  pub unjudged-none : figuresFit w f ≡ true → length cells ≡ w * w → 2 < operation → unjudged w f target l operation cells ≡ answer 1 cells
+  unfolding unjudged sized
+  unjudged-none h n o = simp (h, eq-eqb _ _ n, lt-leb _ _ o)
+
+  pub unjudged-asked : figuresFit w f ≡ true → length cells ≡ w * w → operation ≤ 2 → unjudged w f target l operation cells ≡ asked w f target l operation cells
+  unfolding unjudged sized
+  unjudged-asked h n o = simp (h, eq-eqb _ _ n, le-leb _ _ o)
 
 -- what a legal desk tells
 module _ (w : ℕ) (f : Figures) (cells : Cells) (h : legal w f cells ≡ true) where
@@ -131,3 +149,8 @@ module _ (w : ℕ) (f : Figures) (cells : Cells) (h : legal w f cells ≡ true) 
   legal-length =
       eqb-true (length cells) (w * w)
       (both-left (eqb (length cells) (w * w)) (both (allBits cells) (both (rowsFit w f cells w) (kindFits w f cells))) legal-cells-fit)
+
+  -- on a legal desk a request needs no judging
+  pub unjudged-legal : (target : ℕ) (l : List ℕ) (operation : ℕ) → unjudged w f target l operation cells ≡ requested w f target l operation cells
+  unfolding unjudged sized requested
+  unjudged-legal target l operation = rw (legal-fit, eq-eqb _ _ legal-length, h)

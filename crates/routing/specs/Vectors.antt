@@ -10,7 +10,7 @@ use Rattle.routing.specs.declared.Figures.{Figures}
 use Rattle.routing.specs.Figures.{isCount, figuresFit, mostEach, mostTotal}
 use Rattle.routing.specs.Crosspoints.{Cells, bit, count, allBits, clear, rowAt, withRow, holders, takenFrom, mostAt, rowFits, rowsFit, sourcesFit}
 use Rattle.routing.specs.Crosspoints.{kindFits, cellsFit, legal, Answer, answer, opened}
-use Rattle.routing.specs.Request.{marked, named, allBelow, replaces, becomes, takes, others, result, many, overTotal, judged, asked, requested}
+use Rattle.routing.specs.Request.{marked, named, allBelow, replaces, becomes, takes, others, result, many, overTotal, judged, asked, requested, sized, unjudged}
 
 abbrev figures : ℕ → ℕ → ℕ → Limit → Limit → Figures
 figures kind targets sources total each = record { kind = kind; targets = targets; sources = sources; total = total; each = each }
@@ -137,3 +137,16 @@ unfolding isCount figuresFit mostEach mostTotal
     bit count allBits clear rowAt withRow holders takenFrom mostAt rowFits rowsFit sourcesFit kindFits cellsFit legal
     marked named allBelow replaces becomes takes others result many overTotal judged asked requested
 v-taken = (refl, refl, refl, refl)
+
+-- A desk that is known to be legal is not judged: crosspoints that do not fit are taken as they are.
+pub v-unjudged :
+    (unjudged 3 (desk 0) 2 (1 ∷ []) 0 (cells9 1 1 0 0 0 0 0 0 0) ≡ answer 0 (cells9 1 1 0 0 0 0 0 1 0)) ×
+    (unjudged 3 (desk 0) 9 (1 ∷ []) 0 (cells9 1 1 0 0 0 0 0 0 0) ≡ answer 41 (cells9 1 1 0 0 0 0 0 0 0)) ×
+    -- figures, cells of another count and operations that are none
+    (unjudged 3 (figures 0 4 3 Absent Absent) 2 (1 ∷ []) 0 (cells9 0 0 0 0 0 0 0 0 0) ≡ answer 1 (cells9 0 0 0 0 0 0 0 0 0)) ×
+    (unjudged 3 (desk 0) 0 (1 ∷ []) 0 (0 ∷ 0 ∷ 0 ∷ []) ≡ answer 1 (0 ∷ 0 ∷ 0 ∷ [])) ×
+    (unjudged 3 (desk 0) 2 (1 ∷ []) 3 (cells9 0 0 0 0 0 0 0 0 0) ≡ answer 1 (cells9 0 0 0 0 0 0 0 0 0))
+unfolding isCount figuresFit mostEach mostTotal
+    bit count allBits clear rowAt withRow holders takenFrom mostAt rowFits rowsFit sourcesFit kindFits cellsFit legal
+    marked named allBelow replaces becomes takes others result many overTotal judged asked sized unjudged
+v-unjudged = (refl, refl, refl, refl, refl)

@@ -1,6 +1,6 @@
 // The desk: figures and crosspoints, legality, opening, and a request on plain numbers.
 ghost use mathlib.Core.Path.{_≡_};
-ghost use Prim.Native.Nat.{_+_, _*_, _≤_};
+ghost use Prim.Native.Nat.{_+_, _-_, _*_, _≤_};
 ghost use mathlib.Core.Bool.{true};
 ghost use lib.Dec.{leb, ltb, eqb};
 ghost use lib.ListN.{length, getD, set};
@@ -8,7 +8,7 @@ ghost use Rattle.integers.specs.Digits.{pick};
 ghost use Rattle.routing.specs.Figures.{side, both, isCount, isLimit, figuresFit, limitOr, mostEach, mostTotal};
 ghost use Rattle.routing.specs.Crosspoints.{bit, count, allBits, clear, holders, takenFrom, mostAt, rowFits, rowsFit, sourcesFit};
 ghost use Rattle.routing.specs.Crosspoints.{kindFits, cellsFit, legal, answer, opened, rowAt, withRow};
-ghost use Rattle.routing.specs.Request.{marked, named, becomes, allBelow, others, judged, asked, requested};
+ghost use Rattle.routing.specs.Request.{marked, named, becomes, allBelow, others, judged, asked, unjudged, requested};
 
 // "1 to 64 targets, 1 to 64 sources": also the row size of the crosspoints.
 const SIDE: usize = 64;
@@ -450,31 +450,22 @@ fn is_many(f: Figures, ones: u64, set: u64) -> bool
     1 < ones
 }
 
-// Whether n cells in total are over the limit; only N:N heeds it.
-fn is_over(f: Figures, n: u64) -> bool
+// 44 or 0 for a target that has `before` cells set and will have `after`. Only N:N heeds the total, so that the others need no count.
+fn over_total(f: Figures, cells: &[u8], before: u64, after: u64) -> u64
     requires { ⌜ f .targets ≤ 64 ⌝ }
     requires { ⌜ f .sources ≤ 64 ⌝ }
-    ensures { λ r. ⌜ both (eqb (f .kind) 2) (ltb (mostTotal f) n) ≡ r ⌝ }
+    requires { ⌜ length (now cells) ≡ 4096 ⌝ }
+    requires { ⌜ before ≤ count (now cells) ⌝ }
+    requires { ⌜ after ≤ 64 ⌝ }
+    ensures { λ r. ⌜ pick (both (eqb (f .kind) 2) (ltb (mostTotal f) (count (now (cells .entry)) - before + after))) 44 0 ≡ r ⌝ }
 {
     if f.kind != 2 {
-        return false;
+        return 0;
     }
-    !in_total(f, n)
-}
-
-// 43, 44 or 0, from the sources named and the cells set after the request, of the target and in total.
-fn limits(f: Figures, ones: u64, set: u64, sum: u64) -> u64
-    requires { ⌜ f .targets ≤ 64 ⌝ }
-    requires { ⌜ f .sources ≤ 64 ⌝ }
-    ensures { λ r. ⌜ pick (pick (eqb (f .kind) 2) (ltb (mostEach f) set) (ltb 1 ones)) 43 (pick (both (eqb (f .kind) 2) (ltb (mostTotal f) sum)) 44 0) ≡ r ⌝ }
-{
-    if is_many(f, ones, set) {
-        return 43;
+    if in_total(f, count(cells) - before + after) {
+        return 0;
     }
-    if is_over(f, sum) {
-        return 44;
-    }
-    0
+    44
 }
 
 // A target's cells.
@@ -516,7 +507,10 @@ fn judge(
         return 0;
     }
     let after = count(row);
-    limits(f, ones, after, count(cells) - before + after)
+    if is_many(f, ones, after) {
+        return 43;
+    }
+    over_total(f, cells, before, after)
 }
 
 // A request on a legal desk; `row` is scratch.
@@ -551,6 +545,29 @@ fn ask(
     0
 }
 
+// One request on a desk that is known to be legal, so that its crosspoints are not judged again: 1 where figures, their count or the operation are none.
+pub fn request_unjudged(
+    f: Figures,
+    target: u64,
+    sources: &[u64],
+    operation: u64,
+    crosspoints: &mut [u8],
+) -> u64
+    ensures { λ r. ⌜ unjudged side f target (now (sources .entry)) operation (now (crosspoints .entry)) ≡ answer r (now (crosspoints .exit)) ⌝ }
+{
+    if !figures_fit(f) {
+        return 1;
+    }
+    if 4096 != crosspoints.len() {
+        return 1;
+    }
+    if 2 < operation {
+        return 1;
+    }
+    let mut row = [0u8; 64];
+    ask(f, target, sources, operation, crosspoints, &mut row)
+}
+
 // One request: 0 and the crosspoints as asked for; 41 to 44, or 1 where the desk is not legal or the operation none, and they stay as they were.
 pub fn request(
     f: Figures,
@@ -564,9 +581,5 @@ pub fn request(
     if !is_legal(f, crosspoints) {
         return 1;
     }
-    if 2 < operation {
-        return 1;
-    }
-    let mut row = [0u8; 64];
-    ask(f, target, sources, operation, crosspoints, &mut row)
+    request_unjudged(f, target, sources, operation, crosspoints)
 }

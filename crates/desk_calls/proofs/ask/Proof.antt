@@ -1,8 +1,10 @@
-use mathlib.Core.Path.{_≡_, refl, sym}
+use mathlib.Core.Path.{_≡_, refl, sym, _∙_}
 use lib.ListN.{length}
 use lib.Seq.{length-take-le}
 use native.Mathlib.Omega.{arith}
 use Rattle.routing.specs.Crosspoints.{clear}
+use Rattle.routing.proofs.Laws.{fit-sources-le}
+use Rattle.routing.proofs.Answers.{legal-fit, unjudged-legal}
 use Rattle.desk_calls.proofs.Sources.{ask-is}
 use borrow.Author.Needs.{needs}
 use Rattle.desk_calls.proofs.ask.Statement.{statement}
@@ -30,20 +32,20 @@ gather-requires : tie.Need-gather-requires
 unfolding clear
 gather-requires c κs =
     let the-Start = c .before .before .before .before .before .before in
-    (the-Start .pre, (refl, refl))
+    (fit-sources-le 64 _ (legal-fit 64 _ _ (the-Start .pre)), (refl, refl))
 
 array-share-prefix-list : tie.Need-array-share-prefix-list
 array-share-prefix-list c = search needs
 
-slice-aggregate-request : tie.Need-slice-aggregate-request
-slice-aggregate-request c =
+slice-aggregate-request-unjudged : tie.Need-slice-aggregate-request-unjudged
+slice-aggregate-request-unjudged c =
     let the-gather = c .before .before .before .gather in
     let b = the-gather .ensures .1 in
     let l : length (the-gather .last .1 .1 .0) ≡ 64 = the-gather .kept .1 .1 .0 in
     sym (length-take-le _ (the-gather .last .1 .1 .0) (omega (arith, b, l)))
 
-request-requires : tie.Need-request-requires
-request-requires c κs = search needs
+request-unjudged-requires : tie.Need-request-unjudged-requires
+request-unjudged-requires c κs = search needs
 
 same-length : tie.Need-same-length
 same-length c = search needs
@@ -52,8 +54,10 @@ returns : tie.Need-returns
 returns c =
     let the-part-of = c .before .before .before .before .before .before .before .before .before .before .before .part-of in
     let the-gather = c .before .before .before .before .before .before .before .gather in
-    let the-request = c .before .before .request in
-    ask-is _ _ _ _ _ _ _ _ _ (the-part-of .ensures .0) (the-gather .ensures .0) refl (the-request .ensures)
+    let the-request = c .before .before .request-unjudged in
+    let the-Start = c .before .before .before .before .before .before .before .before .before .before .before .before .before .before in
+    ask-is _ _ _ _ _ _ _ _ _ (the-part-of .ensures .0) (the-gather .ensures .0) refl
+    (sym (unjudged-legal 64 _ _ (the-Start .pre) _ _ _) ∙ the-request .ensures)
 
 pub ask-spec : {M : Type 1} → statement M
 ask-spec =
@@ -67,7 +71,7 @@ ask-spec =
     slice-aggregate-gather-2
     gather-requires
     array-share-prefix-list
-    slice-aggregate-request
-    request-requires
+    slice-aggregate-request-unjudged
+    request-unjudged-requires
     same-length
     returns)

@@ -2,7 +2,7 @@ use native.Mathlib.Omega.{arith}
 use mathlib.Core.Path.{_∙_}
 use borrow.Author.Tests.{not-true, not-false}
 use Rattle.member_sizes.specs.Spelling.{leastReal}
-use Rattle.desk_calls.proofs.Setup.{setup-lent, setup-desk, setup-entries, not-setup, measure-rows, desk-sources, desk-fits, path-short}
+use Rattle.desk_calls.proofs.Setup.{setup-lent, setup-desk, setup-entries, not-setup, measure-rows, desk-legal, desk-fits, path-short}
 use borrow.Author.Needs.{needs}
 use Rattle.desk_calls.proofs.call.Statement.{statement}
 use Rattle.desk_calls.proofs.call.Tie as tie
@@ -50,7 +50,7 @@ serve-requires c κs =
     let the-if1 = c .before .before .before .before .before .before .before .if1 in
     let h = the-is-legal .ensures ∙ not-false _ (the-if2 .left) in
     let r = the-if3 .left in (
-      desk-sources 64 _ _ _ h,
+      desk-legal 64 _ _ _ h,
       (
         path-short _ (desk-fits 64 _ _ _ h),
         (measure-rows leastReal _ _ _ _ _ (the-measure .ensures) (omega (arith, r)), the-if1 .left),

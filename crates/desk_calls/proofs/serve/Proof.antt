@@ -1,6 +1,9 @@
 use mathlib.Core.Path.{_≡_, refl, _∙_}
 use Prim.Native.Nat.{_-_, _≤_}
 use lib.ListN.{length}
+use mathlib.Core.Bool.{true}
+use Rattle.routing.specs.Figures.{side}
+use Rattle.routing.specs.Crosspoints.{legal}
 use native.Mathlib.Omega.{arith}
 use Rattle.desk_calls.specs.Steps.{servedIn, leftFrom, laidAt}
 use Rattle.desk_calls.proofs.Served.{serve-start, serve-end}
@@ -10,7 +13,7 @@ use Rattle.desk_calls.proofs.serve.Tie as tie
 abbrev Inv-loop : tie.InvT-loop
 Inv-loop f path rows count s cells₀ answers₀ i₀ n₀ cells answers i n =
     (servedIn f path rows count s answers₀ cells₀ ≡ laidAt n (leftFrom f path rows count s i cells) answers)
-    × ((n ≤ i) × ((length cells ≡ length cells₀) × (length answers ≡ length answers₀)))
+    × ((n ≤ i) × ((length cells ≡ length cells₀) × ((length answers ≡ length answers₀) × (legal side f cells ≡ true))))
 
 abbrev μ-loop : tie.MeasureT-loop
 μ-loop f path rows count s cells₀ answers₀ i₀ n₀ cells answers i n = count - i
@@ -18,7 +21,7 @@ abbrev μ-loop : tie.MeasureT-loop
 loop-holds : tie.Need-loop-holds Inv-loop μ-loop
 loop-holds c =
     let the-Start = c .before .before .before .before in
-    (serve-start _ _ _ _ _ (the-Start .pre .1 .1 .0) _ _, (omega arith, (refl, refl)))
+    (serve-start _ _ _ _ _ (the-Start .pre .1 .1 .0) _ _, (omega arith, (refl, (refl, the-Start .pre .0))))
 
 take-entry-requires : tie.Need-take-entry-requires Inv-loop μ-loop
 take-entry-requires c κs =
@@ -27,7 +30,7 @@ take-entry-requires c κs =
     let the-loop-test = c .before .before .loop-test in
     let i = the-loop .inv in
     let q = the-Start .pre in
-    ((q .0, (q .1 .0, (q .1 .1 .0, the-loop-test .taken))), omega (arith, i .1 .0, i .1 .1 .1, q .1 .1 .1, the-loop-test .taken))
+    ((i .1 .1 .1 .1, (q .1 .0, (q .1 .1 .0, the-loop-test .taken))), omega (arith, i .1 .0, i .1 .1 .1 .0, q .1 .1 .1, the-loop-test .taken))
 
 add-i : tie.Need-add-i Inv-loop μ-loop
 add-i c = omega arith
@@ -41,7 +44,8 @@ loop-again c =
     let the-entry = c .before .before .before .before .take-entry in
     let i = the-loop .inv in
     let t = the-entry .ensures in
-    (i .0 ∙ t .0, (omega (arith, i .1 .0, t .1), (the-entry .kept .1 .1 .1 .1 .1 .1 .0 ∙ i .1 .1 .0, the-entry .kept .1 .1 .1 .1 .1 .1 .1 .0 ∙ i .1 .1 .1)))
+    let k = the-entry .kept .1 .1 .1 .1 .1 .1 in
+    (i .0 ∙ t .0, (omega (arith, i .1 .0, t .1 .0), (k .0 ∙ i .1 .1 .0, (k .1 .0 ∙ i .1 .1 .1 .0, t .1 .1))))
 
 same-length : tie.Need-same-length Inv-loop μ-loop
 same-length c =
@@ -51,7 +55,7 @@ same-length c =
 same-length-2 : tie.Need-same-length-2 Inv-loop μ-loop
 same-length-2 c =
     let the-loop = c .before .loop in
-    the-loop .inv .1 .1 .1
+    the-loop .inv .1 .1 .1 .0
 
 returns : tie.Need-returns Inv-loop μ-loop
 returns c =

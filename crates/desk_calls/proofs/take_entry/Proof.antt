@@ -1,5 +1,6 @@
 use native.Mathlib.Omega.{arith}
 use Rattle.desk_calls.proofs.Served.{entry-other, entry-asks}
+use Rattle.desk_calls.proofs.Claims.{answered-legal}
 use borrow.Author.Needs.{needs}
 use Rattle.desk_calls.proofs.take_entry.Statement.{statement}
 use Rattle.desk_calls.proofs.take_entry.Tie as tie
@@ -12,7 +13,7 @@ returns c =
     let the-Start = c .before .before .before .before .before .before in
     let the-word-at = c .before .word-at in
     let the-if1 = c .if1 in
-    (entry-other _ _ _ _ _ (the-Start .pre .0 .1 .1 .0) _ _ _ _ (the-Start .pre .0 .1 .1 .1) _ (the-word-at .ensures) (the-if1 .taken), omega arith)
+    (entry-other _ _ _ _ _ (the-Start .pre .0 .1 .1 .0) _ _ _ _ (the-Start .pre .0 .1 .1 .1) _ (the-word-at .ensures) (the-if1 .taken), (omega arith, the-Start .pre .0 .0))
 
 answer-to-requires : tie.Need-answer-to-requires
 answer-to-requires c κs = search needs
@@ -40,7 +41,7 @@ returns-2 c =
     let the-answer-to = c .before .before .answer-to in (
       entry-asks _ _ _ _ _ (the-Start .pre .0 .1 .1 .0) _ _ _ _ (the-Start .pre .0 .1 .1 .1) _ (the-word-at .ensures) (the-if1 .left) (the-Start .pre .1) _ _
           (the-answer-to .ensures),
-      omega arith,
+      (omega arith, answered-legal 64 _ _ _ _ _ _ (the-Start .pre .0 .0) (the-answer-to .ensures)),
     )
 
 pub take-entry-spec : {M : Type 1} → statement M
