@@ -88,9 +88,10 @@ fn is_again(row: u64, before: u64, n: u64) -> bool
     false
 }
 
-// What came before, after the listed member n: a listed member's number is below 16.
+// What came before, after the listed member n: a listed member's number is below 16, and for any other it is 0.
 pub fn after_listed(row: u64, before: u64, n: u64) -> u64
     ensures { λ r. ⌜ (n < 16 → afterListed row before n ≡ r) ⌝ }
+    ensures { λ r. ⌜ (16 ≤ n → 0 ≡ r) ⌝ }
 {
     if 16 <= n {
         return 0;
@@ -117,9 +118,10 @@ fn count(x: u64) -> usize
     x as usize
 }
 
-// The cell that keeps the listed member n.
+// The cell that keeps the listed member n; 0 for a number that none has.
 pub fn column_of(row: u64, n: u64) -> usize
     ensures { λ r. ⌜ (n < 16 → column row n ≡ r) ⌝ }
+    ensures { λ r. ⌜ (16 ≤ n → 0 ≡ r) ⌝ }
 {
     if 16 <= n {
         return 0;

@@ -309,8 +309,8 @@ element-loop-again t c =
       same = the-put-cell .kept .0 ∙ i .same;
       held = λ es base f g.
           held-leaf _ _ _ _ _ _ _ _ (i .held es base f g)
-          (quick-kept _ _ _ _ _ _ _ _ h (the-if3 .taken) (the-wide .ensures .0) (the-size .ensures) (the-after-listed .ensures) (the-if4 .taken)
-          (the-wide2 .ensures .0) (the-column-of .ensures) (the-word-of .ensures (the-if5 .taken) _ _ ∙ ap (λ (y : Cell). Kept y (the-loop .above))
+          (quick-kept _ _ _ _ _ _ _ _ h (the-if3 .taken) (the-wide .ensures .0) (the-size .ensures) (the-after-listed .ensures .0) (the-if4 .taken)
+          (the-wide2 .ensures .0) (the-column-of .ensures .0) (the-word-of .ensures (the-if5 .taken) _ _ ∙ ap (λ (y : Cell). Kept y (the-loop .above))
           (the-worded .ensures)))
           (omega (arith, w)) (omega arith) (omega (arith, i .later, q .0)) (the-put-cell .ensures);
     }
@@ -347,7 +347,7 @@ element-returns-3 t c =
     let h = the-rule-at .ensures (the-if3 .taken) in (
       λ es base f g.
           held-no _ _ _ _ _ _ _ _ (the-loop .inv .held es base f g)
-          (quick-no _ _ _ _ _ _ _ _ h (the-if3 .taken) (the-wide .ensures .0) (the-size .ensures) (the-after-listed .ensures) (the-if4 .taken)
+          (quick-no _ _ _ _ _ _ _ _ h (the-if3 .taken) (the-wide .ensures .0) (the-size .ensures) (the-after-listed .ensures .0) (the-if4 .taken)
           (the-wide2 .ensures .0) (the-read-leaf .ensures .0 ∙ the-no .given .1)),
       tt,
     )
@@ -414,8 +414,8 @@ element-loop-again-2 t c =
       same = the-put-cell2 .kept .0 ∙ i .same;
       held = λ es base f g.
           held-leaf _ _ _ _ _ _ _ _ (i .held es base f g)
-          (quick-kept _ _ _ _ _ _ _ _ h (the-if3 .taken) (the-wide .ensures .0) (the-size .ensures) (the-after-listed .ensures) (the-if4 .taken)
-          (the-wide2 .ensures .0) (the-column-of2 .ensures) (the-read-leaf .ensures .0 ∙ the-v .given .1))
+          (quick-kept _ _ _ _ _ _ _ _ h (the-if3 .taken) (the-wide .ensures .0) (the-size .ensures) (the-after-listed .ensures .0) (the-if4 .taken)
+          (the-wide2 .ensures .0) (the-column-of2 .ensures .0) (the-read-leaf .ensures .0 ∙ the-v .given .1))
           (omega (arith, w)) (omega arith) (omega (arith, i .later, q .0)) (the-put-cell2 .ensures);
     }
 
@@ -492,7 +492,7 @@ element-returns-4 t c =
     let r = h .room in (
       λ es base f g.
           held-contents-no _ _ _ _ _ _ _ _ (i .held es base f g)
-          (quick-contents _ _ _ _ _ _ _ _ h (the-if3 .taken) (the-wide .ensures .0) (the-size .ensures) (the-after-listed .ensures)
+          (quick-contents _ _ _ _ _ _ _ _ h (the-if3 .taken) (the-wide .ensures .0) (the-size .ensures) (the-after-listed .ensures .0)
           (the-opened .ensures) (the-if6 .taken))
           (omega (arith, w)) (omega arith) (omega (arith, r)) (the-contents-of .ensures) (the-element .ensures .0) (the-close .ensures .0) (the-e .given .1),
       tt,
@@ -546,7 +546,7 @@ element-loop-again-3 t c =
       same = the-element .kept .1 .1 .1 .1 .1 .1 .1 .1 .0 ∙ i .same;
       held = λ es base f g.
           held-contents _ _ _ _ _ _ _ _ (i .held es base f g)
-          (quick-contents _ _ _ _ _ _ _ _ h (the-if3 .taken) (the-wide .ensures .0) (the-size .ensures) (the-after-listed .ensures)
+          (quick-contents _ _ _ _ _ _ _ _ h (the-if3 .taken) (the-wide .ensures .0) (the-size .ensures) (the-after-listed .ensures .0)
           (the-opened .ensures) (the-if6 .taken))
           (omega (arith, w)) (omega arith) (omega (arith, r)) (the-contents-of .ensures) (the-element .ensures .0) (the-close .ensures .0)
           (the-next .given .1)
@@ -619,7 +619,7 @@ element-returns-5 t c =
     let r = h .room in (
       λ es base f g.
           held-list-no _ _ _ _ _ _ _ _ (i .held es base f g)
-          (quick-items _ _ _ _ _ _ _ _ h (the-if3 .taken) (the-wide .ensures .0) (the-size .ensures) (the-after-listed .ensures) (the-opened .ensures)
+          (quick-items _ _ _ _ _ _ _ _ h (the-if3 .taken) (the-wide .ensures .0) (the-size .ensures) (the-after-listed .ensures .0) (the-opened .ensures)
           (omega (arith, the-if4 .left, the-if6 .left)) (the-collection-of .ensures))
           (omega (arith, w)) (omega arith) (omega (arith, r)) (the-items .ensures .0) refl (the-close2 .ensures .0) (the-e2 .given .1),
       tt,
@@ -674,7 +674,7 @@ element-loop-again-4 t c =
       same = the-items .kept .1 .1 .1 .1 .1 .1 .1 .1 .0 ∙ i .same;
       held = λ es base f g.
           held-list _ _ _ _ _ _ _ _ (i .held es base f g)
-          (quick-items _ _ _ _ _ _ _ _ h (the-if3 .taken) (the-wide .ensures .0) (the-size .ensures) (the-after-listed .ensures) (the-opened .ensures)
+          (quick-items _ _ _ _ _ _ _ _ h (the-if3 .taken) (the-wide .ensures .0) (the-size .ensures) (the-after-listed .ensures .0) (the-opened .ensures)
           (omega (arith, the-if4 .left, the-if6 .left)) (the-collection-of .ensures))
           (omega (arith, w)) (omega arith) (omega (arith, r)) (the-items .ensures .0) refl (the-close2 .ensures .0) (the-next2 .given .1)
           (omega (arith, n .0));

@@ -88,7 +88,7 @@ returns-5 c =
     let a = the-pre in
     let n = rule-small _ _ (λ e. the-if1 .left (sym (the-rule-of .ensures) ∙ e)) in (
       ruled-listed _ _ _ _ _ _ _ _ (λ e. the-if1 .left (sym (the-rule-of .ensures) ∙ e)) (the-if2 .left) (the-is-again .ensures ∙ the-if3 .left)
-          ∙ rw (the-rule-of .ensures, the-after-listed .ensures n, the-column-of .ensures n) (the-listed .ensures .0),
+          ∙ rw (the-rule-of .ensures, the-after-listed .ensures .0 n, the-column-of .ensures .0 n) (the-listed .ensures .0),
       member-later _ _ _ (the-listed .result) (omega (arith, a .later)) (the-listed .ensures .1),
     )
 
