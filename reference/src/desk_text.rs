@@ -6,8 +6,8 @@ use crate::lines::{hex_line, lines};
 use crate::sheet;
 use crate::tree::{self, Answer, TABLE_MAX};
 
-/// "A line of over 65,536 bytes ... print[s] `bad line`"
-pub const LINE_MAX: usize = 65_536;
+/// "A line of over 131,072 bytes ... print[s] `bad line`"
+pub const LINE_MAX: usize = 131_072;
 /// "a list of over 1,024 numbers makes a bad line"
 pub const LIST_MAX: usize = 1_024;
 
@@ -376,14 +376,14 @@ mod tests {
         assert_eq!(said[..7], picture);
         assert_eq!(crate::programs::sheets(said[7].as_bytes()), format!("0\n{}\n", said[7]));
         assert_eq!(said.len(), 8);
-        // A list of 1,024 numbers is none too long, a line of 65,536 bytes neither.
+        // A list of 1,024 numbers is none too long, a line of 131,072 bytes neither.
         let list = |count| vec!["0"; count].join(".");
         let script = format!("open 2 - 1 1 - - 1\nrequest 0 {} 1\nrequest 0 {} 1\n", list(1_024), list(1_025));
         assert_eq!(self::said(&script), ["0", "0", "bad line"]);
         let bytes = |count: usize| format!("bytes {}\n", "FE".repeat(count));
-        let script = format!("open 2 - 1 1 - - 1\n{}{}bytes FF\n", bytes(32_765), bytes(32_766));
+        let script = format!("open 2 - 1 1 - - 1\n{}{}bytes FF\n", bytes(65_533), bytes(65_534));
         assert_eq!(self::said(&script), ["0", "bad line", "15"]);
-        let script = format!("open 2 - 1 1 - - {}1\nopen 2 - 1 1 - - {}1\n", "0".repeat(65_518), "0".repeat(65_519));
+        let script = format!("open 2 - 1 1 - - {}1\nopen 2 - 1 1 - - {}1\n", "0".repeat(131_054), "0".repeat(131_055));
         assert_eq!(self::said(&script), ["0", "bad line"]);
     }
 }

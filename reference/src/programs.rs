@@ -240,7 +240,7 @@ pub fn trees(input: &[u8]) -> String {
 }
 
 /// The longest input that the program `sheet` reads.
-pub const SHEET_MAX: usize = 262_144;
+pub const SHEET_MAX: usize = 600_000;
 
 /// Program `sheet`: the input is one route sheet. Printed: its number and, after 0, the sheet as we write it.
 pub fn sheets(input: &[u8]) -> String {

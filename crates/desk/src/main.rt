@@ -26,6 +26,8 @@ use requests::text::Hex;
 use routing::Figures;
 use routing::Limit;
 use words::Word;
+ghost use mathlib.Core.Path.{_≡_};
+ghost use lib.ListN.{length};
 
 // The desk that is there, if one is: its figures, how many numbers its path has, and its stream's session.
 pub struct Desk {
@@ -320,8 +322,15 @@ fn finish(
     answer(desk, &line[..n], store, path, cells)
 }
 
+// Room for a line, of a chunk of 65,533 bytes at most.
+fn long_line() -> [u8; 131072]
+    ensures { λ r. ⌜ 131072 ≡ length r ⌝ }
+{
+    [0; 131072]
+}
+
 fn main() {
-    let mut space = io::large_buffer();
+    let mut space = long_line();
     let line: &mut [u8] = &mut space;
     let mut bytes = [0u8; 17408];
     let store: &mut [u8] = &mut bytes;

@@ -1,10 +1,12 @@
 // sheet: the whole standard input is a route sheet. Prints the number of reading it and, after 0, the sheet of the desk that was read as it is written here.
-// An input of more than 262,144 bytes prints `too long`.
+// An input of more than 600,000 bytes prints `too long`.
 use libc::STDIN_FILENO;
 use requests::print;
 use routing::Figures;
 use sheet_reader::Sheet;
 use sheet_writer::Answer;
+ghost use mathlib.Core.Path.{_≡_};
+ghost use lib.ListN.{length};
 
 fn number(n: u64) {
     print::decimal(n);
@@ -60,7 +62,7 @@ fn take(
     path: &mut [u64],
     cells: &mut [u8],
 ) {
-    if 262144 < n {
+    if 600000 < n {
         print::say(b"too long\n");
         return;
     }
@@ -69,8 +71,15 @@ fn take(
     }
 }
 
+// Room for the longest sheet and one byte more. A function's result, since an array of this length among other locals is laid out with each of them.
+fn room() -> [u8; 600001]
+    ensures { λ r. ⌜ 600001 ≡ length r ⌝ }
+{
+    [0; 600001]
+}
+
 fn main() {
-    let mut space = [0u8; 262145];
+    let mut space = room();
     let text: &mut [u8] = &mut space;
     let mut bytes = [0u8; 17408];
     let store: &mut [u8] = &mut bytes;

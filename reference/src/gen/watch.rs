@@ -245,16 +245,12 @@ pub fn stored() -> Vec<u8> {
         time += 1_000;
         out += &line(time, if turn % 4 == 0 { Event } else { Nothing });
     }
-    // As late as can be: asked at 5,999, and dead at 11,998; then for good.
+    // Asked as late as can be, at 5,999; 4,999 after that not dead, 5,000 after it dead, and then for good.
     time += 1;
     out += &line(time, Event);
-    for _ in 0..2 {
-        time += 999;
+    for ahead in [999, 1_000, 1_000, 1_000, 1_000, 1_000, 999, 1_000, 1_000, 1_000, 1_000, 1, 999] {
+        time += ahead;
         out += &line(time, Nothing);
-        for _ in 0..5 {
-            time += 1_000;
-            out += &line(time, Nothing);
-        }
     }
     for _ in 0..3 {
         for (ahead, happened) in

@@ -9,8 +9,8 @@ Inv-loop line₀ store₀ path₀ cells₀ block₀ found₀ desk₀ turns₀ li
 abbrev μ-loop : tie.MeasureT-loop
 μ-loop line₀ store₀ path₀ cells₀ block₀ found₀ desk₀ turns₀ line store path cells block found desk turns = turns
 
-large-buffer-requires : tie.Need-large-buffer-requires Inv-loop μ-loop
-large-buffer-requires c κs = search needs
+long-line-requires : tie.Need-long-line-requires Inv-loop μ-loop
+long-line-requires c κs = search needs
 
 slice-aggregate-line : tie.Need-slice-aggregate-line Inv-loop μ-loop
 slice-aggregate-line c = search needs
@@ -24,8 +24,8 @@ slice-aggregate-path c = search needs
 slice-aggregate-cells : tie.Need-slice-aggregate-cells Inv-loop μ-loop
 slice-aggregate-cells c = search needs
 
-large-buffer-requires-2 : tie.Need-large-buffer-requires-2 Inv-loop μ-loop
-large-buffer-requires-2 c κs = search needs
+large-buffer-requires : tie.Need-large-buffer-requires Inv-loop μ-loop
+large-buffer-requires c κs = search needs
 
 slice-aggregate-block : tie.Need-slice-aggregate-block Inv-loop μ-loop
 slice-aggregate-block c = search needs
@@ -68,12 +68,12 @@ main-spec =
     (tie.spec
     Inv-loop
     μ-loop
-    large-buffer-requires
+    long-line-requires
     slice-aggregate-line
     slice-aggregate-store
     slice-aggregate-path
     slice-aggregate-cells
-    large-buffer-requires-2
+    large-buffer-requires
     slice-aggregate-block
     start-requires
     no-desk-requires

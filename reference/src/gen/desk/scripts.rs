@@ -578,6 +578,15 @@ impl Script {
                 self.push("show");
             }
         }
+        // 1:N and 1:1 keep their limits and heed none.
+        for kind in [0, 1] {
+            self.push(opened(Some(kind), (3, 3), (Some(1), Some(1)), &[1]));
+            for target in 0..3 {
+                self.push(request_line(&ask(target, &[target], 1)));
+            }
+            self.push("show");
+            self.push("sheet");
+        }
     }
 
     /// Both sides of every range at opening.
