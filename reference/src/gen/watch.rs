@@ -238,8 +238,9 @@ pub fn stored() -> Vec<u8> {
         out += &line(time, Event);
     }
     out += "start 7\n";
-    // Shown once in 1,000 ms, with an event in every 4,000 ms, through a wrap.
-    time += (1 << 32) - time % (1 << 32) - 10_000;
+    // Shown once in 1,000 ms, with an event in every 4,000 ms, through a wrap. It begins 10,000 ms before a wrap, less than a
+    // whole turn of the tick from here.
+    time += (2 * (1 << 32) - 10_000 - time % (1 << 32)) % (1 << 32);
     out += &line(time, Event);
     for turn in 1..20 {
         time += 1_000;
