@@ -1,11 +1,11 @@
 /* S101 framing for C: the session that reads a stream in chunks, and the writer of frames.
  *
  * Link libframing_c.a, which `rt staticlib framing_c` proves and builds (x86-64 Linux). The library keeps
- * nothing between calls, allocates nothing and calls nothing: all memory is lent by the caller. Each call is
- * proved for every content of what is lent to it, and answers a wrong length or a word out of range; it cannot
- * test a pointer. So a pointer and its count name memory of the caller's that is as long as the count says,
- * aligned for its type, and shared by no other argument of the call that is written to; where the count is 0
- * the pointer may be anything. */
+ * nothing between calls, allocates nothing and calls nothing but memmove: all memory is lent by the caller.
+ * Each call is proved for every content of what is lent to it, and answers a wrong length or a word out of
+ * range; it cannot test a pointer. So a pointer and its count name memory of the caller's that is as long as
+ * the count says, aligned for its type, and shared by no other argument of the call that is written to; where
+ * the count is 0 the pointer may be anything. */
 #ifndef FRAMING_H
 #define FRAMING_H
 

@@ -1,9 +1,9 @@
 /* The Glow tree for C: reads a message into the rows of a lent table, and writes the message of such rows.
  *
  * Link libglow_c.a, which `rt staticlib glow_c` proves and builds (x86-64 Linux). The library keeps nothing between
- * calls, allocates nothing and calls nothing: all memory is lent by the caller. A call is proved for every message,
- * every length and every content of the table, and always ends; it cannot test a pointer. So a pointer and its count
- * name memory of the caller's that is as long as the count says, aligned for its type, and shared by no other
+ * calls, allocates nothing and calls nothing but memset: all memory is lent by the caller. A call is proved for every
+ * message, every length and every content of the table, and always ends; it cannot test a pointer. So a pointer and its
+ * count name memory of the caller's that is as long as the count says, aligned for its type, and shared by no other
  * argument of the call that is written to; where the count is 0 the pointer may be anything. */
 #ifndef GLOW_H
 #define GLOW_H
@@ -89,9 +89,9 @@ uint64_t glow_read(const uint8_t *message, size_t message_bytes, uint64_t (*tabl
 #define GLOW_WRITE_WORDS 1
 #define GLOW_OUT 46 /* the output is too short, or the rows make no tree that the reader accepts in 16,384 bytes */
 
-/* Writes the message of the table's first `count` rows: definite shortest lengths, ascending tags, nothing that is absent
- * or empty. What is written is read back as the same tree. Output past the message stays as it was. GLOW_OUT leaves the
- * whole output as it was; GLOW_SETUP, for an answer of other than one word, leaves the answer too. */
+/* Writes the message of the table's first `count` rows: definite shortest lengths, ascending tags, no absent member and no
+ * empty collection. What is written is read back as the same tree. Output past the message stays as it was. GLOW_OUT leaves
+ * the whole output as it was; GLOW_SETUP, for an answer of other than one word, leaves the answer too. */
 uint64_t glow_write(const uint64_t (*table)[GLOW_ROW_WORDS], size_t table_rows, size_t count, uint64_t root,
                     const uint8_t *message, size_t message_bytes, uint8_t *out, size_t out_bytes, uint64_t *answer,
                     size_t answer_words);
