@@ -767,6 +767,157 @@ static void members(void)
     expect("2.5", (uint64_t)(real == 2.5), 1);
 }
 
+/* ---- what the header says of made rows: ranges, types, order */
+
+static uint64_t accepted(size_t count, uint64_t root)
+{
+    /* A part that any type of bytes may have: "ab", which is also the numbers 97 and 98. */
+    static const uint8_t parts[] = {'a', 'b'};
+    return ember_accepts(ember_rows(table), EMBER_ROWS_MAX, count, root, parts, sizeof parts);
+}
+
+/* A row of a kind with its number, or its path, and what is required beside it. */
+static void element(size_t place, uint64_t kind, uint64_t parent_and_1)
+{
+    ember_begin(table[place], kind, parent_and_1);
+    if (ember_is_qualified(table[place]))
+        ember_put_bytes(table[place], EMBER_NUMBER_OR_PATH, EMBER_TYPE_RELATIVE_OID, 0, 2);
+    else
+        ember_put_integer(table[place], EMBER_NUMBER_OR_PATH, 1);
+    if (kind == EMBER_KIND_STREAM_ENTRY)
+        ember_put_integer(table[place], EMBER_STREAM_VALUE, 1);
+}
+
+enum { COUNT, SIGNED, NUMBER, UP_TO_3, UP_TO_2, UP_TO_1, BOOLEAN, TEXT, NUMBERS, ANY };
+
+static const struct { int64_t least, most; } ranges[] = {
+    {0, INT32_MAX}, {INT32_MIN, INT32_MAX}, {1, INT32_MAX}, {0, 3}, {0, 2}, {0, 1},
+};
+
+static const struct { uint64_t kind; size_t member; int what, required; } listed[] = {
+    {EMBER_KIND_PARAMETER, EMBER_NUMBER_OR_PATH, NUMBER, 1},
+    {EMBER_KIND_NODE, EMBER_NUMBER_OR_PATH, NUMBER, 1},
+    {EMBER_KIND_MATRIX, EMBER_NUMBER_OR_PATH, NUMBER, 1},
+    {EMBER_KIND_QUALIFIED_PARAMETER, EMBER_NUMBER_OR_PATH, NUMBERS, 1},
+    {EMBER_KIND_QUALIFIED_NODE, EMBER_NUMBER_OR_PATH, NUMBERS, 1},
+    {EMBER_KIND_QUALIFIED_MATRIX, EMBER_NUMBER_OR_PATH, NUMBERS, 1},
+    {EMBER_KIND_PARAMETER, EMBER_IDENTIFIER, TEXT, 0},
+    {EMBER_KIND_PARAMETER, EMBER_DESCRIPTION, TEXT, 0},
+    {EMBER_KIND_PARAMETER, EMBER_PARAMETER_VALUE, ANY, 0},
+    {EMBER_KIND_PARAMETER, EMBER_PARAMETER_MINIMUM, ANY, 0},
+    {EMBER_KIND_PARAMETER, EMBER_PARAMETER_MAXIMUM, ANY, 0},
+    {EMBER_KIND_PARAMETER, EMBER_PARAMETER_ACCESS, UP_TO_3, 0},
+    {EMBER_KIND_PARAMETER, EMBER_PARAMETER_FACTOR, SIGNED, 0},
+    {EMBER_KIND_PARAMETER, EMBER_PARAMETER_ONLINE, BOOLEAN, 0},
+    {EMBER_KIND_PARAMETER, EMBER_PARAMETER_STEP, SIGNED, 0},
+    {EMBER_KIND_PARAMETER, EMBER_PARAMETER_STREAM, COUNT, 0},
+    {EMBER_KIND_NODE, EMBER_NODE_ROOT, BOOLEAN, 0},
+    {EMBER_KIND_NODE, EMBER_NODE_ONLINE, BOOLEAN, 0},
+    {EMBER_KIND_MATRIX, EMBER_MATRIX_TYPE, UP_TO_2, 0},
+    {EMBER_KIND_MATRIX, EMBER_MATRIX_MODE, UP_TO_1, 0},
+    {EMBER_KIND_MATRIX, EMBER_MATRIX_TARGETS, COUNT, 0},
+    {EMBER_KIND_MATRIX, EMBER_MATRIX_SOURCES, COUNT, 0},
+    {EMBER_KIND_MATRIX, EMBER_MATRIX_TOTAL_LIMIT, COUNT, 0},
+    {EMBER_KIND_MATRIX, EMBER_MATRIX_TARGET_LIMIT, COUNT, 0},
+    {EMBER_KIND_COMMAND, EMBER_COMMAND_NUMBER, SIGNED, 1},
+    {EMBER_KIND_COMMAND, EMBER_COMMAND_MASK, SIGNED, 0},
+    {EMBER_KIND_CONNECTION, EMBER_CONNECTION_TARGET, COUNT, 1},
+    {EMBER_KIND_CONNECTION, EMBER_CONNECTION_SOURCES, NUMBERS, 0},
+    {EMBER_KIND_CONNECTION, EMBER_CONNECTION_OPERATION, UP_TO_2, 0},
+    {EMBER_KIND_STREAM_ENTRY, EMBER_STREAM_NUMBER, COUNT, 1},
+    {EMBER_KIND_STREAM_ENTRY, EMBER_STREAM_VALUE, ANY, 1},
+};
+
+/* Each member of each kind: absent, at the ends of its range and one beside them, and with each other type. */
+static void member_ranges(void)
+{
+    for (size_t i = 0; i < sizeof listed / sizeof *listed; i++) {
+        int what = listed[i].what;
+        uint64_t kind = listed[i].kind, root = kind == EMBER_KIND_STREAM_ENTRY ? EMBER_STREAMS : EMBER_ELEMENTS;
+        size_t member = listed[i].member, place = kind == EMBER_KIND_CONNECTION;
+        char name[40];
+        element(0, EMBER_KIND_MATRIX, 0);
+        element(place, kind, place);
+        snprintf(name, sizeof name, "kind %d, member %d", (int)kind, (int)member);
+#define WITH(put, wanted)                                                                                               \
+    do {                                                                                                                \
+        put;                                                                                                            \
+        expect(name, accepted(place + 1, root), wanted);                                                                \
+    } while (0)
+        WITH(ember_put(table[place], member, EMBER_TYPE_ABSENT, 0, 0), !listed[i].required);
+        if (what < BOOLEAN) {
+            WITH(ember_put_integer(table[place], member, ranges[what].least - 1), 0);
+            WITH(ember_put_integer(table[place], member, ranges[what].least), 1);
+            WITH(ember_put_integer(table[place], member, ranges[what].most), 1);
+            WITH(ember_put_integer(table[place], member, ranges[what].most + 1), 0);
+        } else {
+            WITH(ember_put_integer(table[place], member, INT64_MIN), what == ANY);
+        }
+        WITH(ember_put_boolean(table[place], member, 1), what == BOOLEAN || what == ANY);
+        WITH(ember_put_real(table[place], member, 0.5), what == ANY);
+        WITH(ember_put_bytes(table[place], member, EMBER_TYPE_OCTETS, 0, 2), what == ANY);
+        WITH(ember_put_bytes(table[place], member, EMBER_TYPE_TEXT, 0, 2), what == ANY || what == TEXT);
+        WITH(ember_put_bytes(table[place], member, EMBER_TYPE_RELATIVE_OID, 0, 2), what == NUMBERS);
+        WITH(ember_put_bytes(table[place], member, EMBER_TYPE_RELATIVE_OID, 0, 0), what == NUMBERS && kind == EMBER_KIND_CONNECTION);
+#undef WITH
+    }
+}
+
+/* Whether rows of these kinds with these parents (and 1) are a tree. */
+static uint64_t in_order(size_t count, const uint64_t (*entries)[2], uint64_t root)
+{
+    for (size_t i = 0; i < count; i++)
+        element(i, entries[i][0], entries[i][1]);
+    return accepted(count, root);
+}
+
+#define ORDER(what, wanted, root, ...)                                                                                  \
+    do {                                                                                                                \
+        static const uint64_t entries[][2] = {__VA_ARGS__};                                                             \
+        expect(what, in_order(sizeof entries / sizeof *entries, entries, root), wanted);                                \
+    } while (0)
+
+static void message_order(void)
+{
+    static const uint8_t passed[] = {0x60, 0x14, 0x6b, 0x12, 0xa0, 0x10, 0x61, 0x0e, 0xa0, 0x03, 0x02, 0x01, 0x01, 0xa1, 0x07, 0x31, 0x05,
+                                     0xa6, 0x03, 0x0c, 0x01, 0x64};
+    static const uint8_t bad[] = {0xff, 0xc0};
+    uint8_t out[64];
+    uint64_t length[EMBER_WRITE_WORDS];
+    ORDER("an entry, what stands in it, the next", 1, EMBER_ELEMENTS, {EMBER_KIND_NODE, 0}, {EMBER_KIND_PARAMETER, 1}, {EMBER_KIND_NODE, 0});
+    ORDER("what stands in it last", 0, EMBER_ELEMENTS, {EMBER_KIND_NODE, 0}, {EMBER_KIND_NODE, 0}, {EMBER_KIND_PARAMETER, 1});
+    ORDER("children, then connections", 1, EMBER_ELEMENTS, {EMBER_KIND_MATRIX, 0}, {EMBER_KIND_COMMAND, 1}, {EMBER_KIND_CONNECTION, 1});
+    ORDER("connections, then children", 0, EMBER_ELEMENTS, {EMBER_KIND_MATRIX, 0}, {EMBER_KIND_CONNECTION, 1}, {EMBER_KIND_COMMAND, 1});
+    ORDER("a connection in Root", 0, EMBER_ELEMENTS, {EMBER_KIND_CONNECTION, 0});
+    ORDER("a connection in a node", 0, EMBER_ELEMENTS, {EMBER_KIND_NODE, 0}, {EMBER_KIND_CONNECTION, 1});
+    ORDER("qualified in Root", 1, EMBER_ELEMENTS, {EMBER_KIND_QUALIFIED_NODE, 0}, {EMBER_KIND_QUALIFIED_MATRIX, 0}, {EMBER_KIND_CONNECTION, 2});
+    ORDER("qualified in a node", 0, EMBER_ELEMENTS, {EMBER_KIND_NODE, 0}, {EMBER_KIND_QUALIFIED_PARAMETER, 1});
+    ORDER("a command in a parameter", 1, EMBER_ELEMENTS, {EMBER_KIND_PARAMETER, 0}, {EMBER_KIND_COMMAND, 1});
+    ORDER("a command in a command", 0, EMBER_ELEMENTS, {EMBER_KIND_COMMAND, 0}, {EMBER_KIND_COMMAND, 1});
+    ORDER("stream entries", 1, EMBER_STREAMS, {EMBER_KIND_STREAM_ENTRY, 0}, {EMBER_KIND_STREAM_ENTRY, 0});
+    ORDER("a stream entry among elements", 0, EMBER_ELEMENTS, {EMBER_KIND_NODE, 0}, {EMBER_KIND_STREAM_ENTRY, 0});
+
+    /* sources that are there and empty are written so, and an absent description not */
+    element(0, EMBER_KIND_MATRIX, 0);
+    element(1, EMBER_KIND_CONNECTION, 1);
+    ember_put_bytes(table[1], EMBER_CONNECTION_SOURCES, EMBER_TYPE_RELATIVE_OID, 0, 0);
+    expect("written", ember_write(ember_rows(table), 2, 2, EMBER_ELEMENTS, NULL, 0, out, sizeof out, length, EMBER_WRITE_WORDS), EMBER_DONE);
+    expect("read", read_into(out, length[0], 2), EMBER_DONE);
+    expect("empty sources", cell(1, 1, 0), EMBER_TYPE_RELATIVE_OID);
+    expect("absent", cell(0, 2, 0), EMBER_TYPE_ABSENT);
+
+    /* a format is passed over, a function is no element, a text is not looked into */
+    expect("a member that is not listed", read_into(passed, sizeof passed, 1), EMBER_DONE);
+    for (size_t c = 1; c < 16; c++)
+        expect("nothing of it is kept", cell(0, c, 0), EMBER_TYPE_ABSENT);
+    ANSWERS(EMBER_GLOW, EMBER_PLACE, 6, 0x60, 0x0b, 0x6b, 0x09, 0xa0, 0x07, 0x73, 0x05, 0xa0, 0x03, 0x02, 0x01, 0x01);
+    element(0, EMBER_KIND_NODE, 0);
+    ember_put_bytes(table[0], EMBER_DESCRIPTION, EMBER_TYPE_TEXT, 0, 2);
+    expect("a text that is no UTF-8", ember_accepts(ember_rows(table), 1, 1, EMBER_ELEMENTS, bad, sizeof bad), 1);
+    ember_put_bytes(table[0], EMBER_IDENTIFIER, EMBER_TYPE_TEXT, 0, 2);
+    expect("an identifier without a letter", ember_accepts(ember_rows(table), 1, 1, EMBER_ELEMENTS, bad, sizeof bad), 0);
+}
+
 int main(void)
 {
     session_lengths();
@@ -782,5 +933,7 @@ int main(void)
     turns();
     sheets();
     members();
+    member_ranges();
+    message_order();
     return wrong;
 }

@@ -6,6 +6,12 @@ fn main() {
         || PathBuf::from(std::env::var_os("CARGO_MANIFEST_DIR").unwrap()).join("../../target/staticlib"),
         PathBuf::from,
     );
+    if !folder.join("libember.a").exists() {
+        println!(
+            "cargo:warning=no libember.a in {}: `rt staticlib ember` in the repository, or name its folder in EMBER_LIB",
+            folder.display()
+        );
+    }
     println!("cargo:rerun-if-env-changed=EMBER_LIB");
     println!("cargo:rerun-if-changed={}", folder.join("libember.a").display());
     println!("cargo:rustc-link-search=native={}", folder.display());

@@ -3,16 +3,31 @@
  *
  * Link libember.a, which `rt staticlib ember` proves and builds (x86-64 Linux; `make install` puts it where a compiler
  * finds it). Each call is proved for every content of what is lent to it: it always ends, never traps, and answers a
- * wrong length or a word out of range with EMBER_SETUP. No call of this library allocates, keeps anything between calls,
- * reads a clock, starts a thread or calls anything: all memory is lent by the caller, and two calls that share no memory
- * may run at once.
+ * wrong length or a word out of range with EMBER_SETUP. No call of this library allocates, keeps anything between calls (no
+ * pointer either), reads a clock, starts a thread or calls anything but memcpy, memmove and memset: all memory is lent by the
+ * caller, and two calls that share no memory may run at once. Measured, 32 KB of stack are enough for every call but
+ * ember_sheet_write, and 64 KB for that.
  *
  * What a call cannot test is a pointer. So a pointer and its count name memory of the caller's that is as long as the
  * count says, aligned for its type, and shared by no other argument of the call that is written to; where the count is 0
  * the pointer may be anything.
  *
+ * After EMBER_SETUP all that was lent is as it was, the answer's words too: there is nothing in them to go by. A host's
+ * loop for one line, then (ember_turn, with a desk, goes the same way):
+ *
+ *     ember_start(session, EMBER_SESSION_WORDS);
+ *     while ((got = read(line, input, sizeof input)) > 0)
+ *         for (at = 0; at < got; at += answer[EMBER_CONSUMED]) {
+ *             event = ember_feed(session, EMBER_SESSION_WORDS, store, sizeof store, input + at, got - at,
+ *                                answer, EMBER_FEED_WORDS);
+ *             if (event == EMBER_SETUP) ..      a fault of the host's: leave the loop
+ *             if (event == EMBER_REQUEST) ..    ember_write_response, and send it
+ *             if (event == EMBER_MESSAGE) ..    ember_read(store, answer[EMBER_LENGTH], table, ..)
+ *         }
+ *
  * ember_entries.h, which this header takes in, has functions that look into entries and make them; nobody needs to
- * decode a row's words. */
+ * decode a row's words. When to ask for a keep-alive, and when a link is dead, is for libsupervision_c.a to say
+ * (supervision.h): it is shown what ember_feed or ember_turn answers. */
 #ifndef EMBER_H
 #define EMBER_H
 
@@ -67,7 +82,8 @@ extern "C" {
 /* ---- The session */
 
 /* The session: four words, made by ember_start and changed by ember_feed and ember_turn alone. A host with many lines
- * has one for each, with a store of its own.
+ * has one for each, with a store of its own, and starts it anew when the line is. What was open when a line ended can be
+ * seen in its words.
  *   0: where the stream stands: 0 outside frames, 1 in a run of stray bytes, 2 in a frame, 3 in a frame after CE,
  *      4 in a frame past a bad byte, 5 in a frame past its limit
  *   1: bytes of content of the open frame, at most 1,024; 0 if none is open
@@ -75,7 +91,8 @@ extern "C" {
  *   3: bytes of the unfinished message, at most 16,384; 0 if there is none */
 #define EMBER_SESSION_WORDS 4
 
-/* The store: message bytes from 0, frame content from 16,384. It needs no clearing. */
+/* The store: message bytes from 0, frame content from 16,384. It needs no clearing, and is left alone between the calls of
+ * a line. */
 #define EMBER_STORE_BYTES 17408
 
 /* The answer of ember_feed, three words:
@@ -134,7 +151,12 @@ uint64_t ember_write_message(const uint8_t *message, size_t message_bytes, uint8
  *   0: its kind
  *   1: its parent's place in the table and 1; 0 if it has none
  *   2 + 3c, 3 + 3c, 4 + 3c: cell c, for c from 0 to 15: the type of a member's value, and two words of content
- * Which cell a member has is named below (EMBER_PARAMETER_VALUE and so on). Every other cell is absent. */
+ * Which cell a member has is named below (EMBER_PARAMETER_VALUE and so on). Every other cell is absent.
+ *
+ * Message order: an entry, then all that stands in it, then the next one beside it; of a matrix the children, then the
+ * connections. Qualified elements stand in Root alone, connections in a matrix, stream entries in a Root of streams; the
+ * other kinds in Root or in any element. The reader passes over members of Glow that are not named below; an element of
+ * another kind (a function, a template) is EMBER_GLOW. */
 #define EMBER_ROW_WORDS 50
 #define EMBER_ROW_KIND 0
 #define EMBER_ROW_PARENT 1
@@ -154,39 +176,41 @@ typedef uint64_t ember_row[EMBER_ROW_WORDS];
 #define EMBER_KIND_CONNECTION 8
 #define EMBER_KIND_STREAM_ENTRY 9
 
-/* The members, by their cell. Parameters, nodes and matrices, qualified or not: */
-#define EMBER_NUMBER_OR_PATH 0
-#define EMBER_IDENTIFIER 1
-#define EMBER_DESCRIPTION 2
+/* The members, by their cell, with the type and the range that the reader accepts. "Required" is always there, all else may
+ * be absent. A count is an integer from 0 to 2,147,483,647, a signed number one of 32 bits; "any value" is an integer of 64
+ * bits, a real, a text, a boolean or octets. Parameters, nodes and matrices, qualified or not: */
+#define EMBER_NUMBER_OR_PATH 0 /* required: an integer, 1 to 2,147,483,647; if qualified, a path of 1 to 16 such numbers */
+#define EMBER_IDENTIFIER 1     /* a text that starts with A to Z, a to z or "_", and holds no "/" */
+#define EMBER_DESCRIPTION 2    /* a text */
 /* of a parameter: */
-#define EMBER_PARAMETER_VALUE 3
-#define EMBER_PARAMETER_MINIMUM 4
-#define EMBER_PARAMETER_MAXIMUM 5
-#define EMBER_PARAMETER_ACCESS 6 /* 0 to 3 */
-#define EMBER_PARAMETER_FACTOR 9
-#define EMBER_PARAMETER_ONLINE 10
-#define EMBER_PARAMETER_STEP 12
-#define EMBER_PARAMETER_STREAM 15 /* the number of its stream */
+#define EMBER_PARAMETER_VALUE 3   /* any value */
+#define EMBER_PARAMETER_MINIMUM 4 /* any value */
+#define EMBER_PARAMETER_MAXIMUM 5 /* any value */
+#define EMBER_PARAMETER_ACCESS 6  /* 0 none, 1 read, 2 write, 3 both; absent: read */
+#define EMBER_PARAMETER_FACTOR 9  /* a signed number */
+#define EMBER_PARAMETER_ONLINE 10 /* a boolean */
+#define EMBER_PARAMETER_STEP 12   /* a signed number */
+#define EMBER_PARAMETER_STREAM 15 /* the number of its stream, as a count */
 /* of a node: */
-#define EMBER_NODE_ROOT 3
-#define EMBER_NODE_ONLINE 4
+#define EMBER_NODE_ROOT 3   /* a boolean */
+#define EMBER_NODE_ONLINE 4 /* a boolean */
 /* of a matrix: */
-#define EMBER_MATRIX_TYPE 3 /* EMBER_ONE_TO_N, EMBER_ONE_TO_ONE, EMBER_N_TO_N; absent: EMBER_ONE_TO_N */
-#define EMBER_MATRIX_MODE 4 /* 0 linear, 1 not; absent: linear */
-#define EMBER_MATRIX_TARGETS 5
-#define EMBER_MATRIX_SOURCES 6
-#define EMBER_MATRIX_TOTAL_LIMIT 7
-#define EMBER_MATRIX_TARGET_LIMIT 8
+#define EMBER_MATRIX_TYPE 3         /* EMBER_ONE_TO_N, EMBER_ONE_TO_ONE, EMBER_N_TO_N; absent: EMBER_ONE_TO_N */
+#define EMBER_MATRIX_MODE 4         /* 0 linear, 1 not; absent: linear */
+#define EMBER_MATRIX_TARGETS 5      /* a count */
+#define EMBER_MATRIX_SOURCES 6      /* a count */
+#define EMBER_MATRIX_TOTAL_LIMIT 7  /* the most connections, as a count */
+#define EMBER_MATRIX_TARGET_LIMIT 8 /* the most sources of a target, as a count */
 /* of a command: */
-#define EMBER_COMMAND_NUMBER 0
-#define EMBER_COMMAND_MASK 1
+#define EMBER_COMMAND_NUMBER 0 /* required: a signed number; 30 subscribe, 31 unsubscribe, 32 get directory */
+#define EMBER_COMMAND_MASK 1   /* a signed number: what a directory is to tell */
 /* of a connection, whose parent is its matrix: */
-#define EMBER_CONNECTION_TARGET 0
-#define EMBER_CONNECTION_SOURCES 1   /* absent: none */
+#define EMBER_CONNECTION_TARGET 0    /* required: the target's number, as a count */
+#define EMBER_CONNECTION_SOURCES 1   /* the sources' numbers, counts, as a relative identifier; it may be empty; absent: none */
 #define EMBER_CONNECTION_OPERATION 2 /* EMBER_ABSOLUTE, EMBER_CONNECT or EMBER_DISCONNECT; absent: EMBER_ABSOLUTE */
 /* of a stream entry: */
-#define EMBER_STREAM_NUMBER 0
-#define EMBER_STREAM_VALUE 1
+#define EMBER_STREAM_NUMBER 0 /* required: a count */
+#define EMBER_STREAM_VALUE 1  /* required: any value */
 
 /* The type in a cell's first word is a universal tag number; its other two words follow. A part of the message that is
  * named by start and length lies in the message. */
@@ -195,7 +219,7 @@ typedef uint64_t ember_row[EMBER_ROW_WORDS];
 #define EMBER_TYPE_INTEGER 2       /* 64 bits in two's complement; 0 */
 #define EMBER_TYPE_OCTETS 4        /* start and length in the message */
 #define EMBER_TYPE_REAL 9          /* the 64 bits of the double; 0 */
-#define EMBER_TYPE_TEXT 12         /* start and length in the message */
+#define EMBER_TYPE_TEXT 12         /* start and length in the message; the sender's UTF-8, which is not checked */
 #define EMBER_TYPE_RELATIVE_OID 13 /* a path or sources: start and length of its octets in the message */
 
 /* The answer of ember_read, three words. Where a word says nothing it is 0.
@@ -218,10 +242,11 @@ uint64_t ember_read(const uint8_t *message, size_t message_bytes, uint64_t (*tab
 /* The answer of ember_write, one word: the length of the message that was written; 0 after EMBER_OUT. */
 #define EMBER_WRITE_WORDS 1
 
-/* Writes the message of the table's first `count` rows, as ember_read leaves them or made by hand; texts, octets, paths and
- * sources are parts of `message`, which may be any bytes; `root` is EMBER_ELEMENTS or EMBER_STREAMS. Definite shortest lengths,
- * ascending tags, nothing that is absent or empty; read back as the same tree. EMBER_OUT if out is too short or ember_accepts
- * gives 0; EMBER_SETUP if answer_words is not 1.
+/* Writes the message of the table's first `count` rows, as ember_read leaves them or made by hand (ember_begin and so on, in
+ * ember_entries.h; a table that is not const goes in as ember_rows(table)); texts, octets, paths and sources are parts of
+ * `message`, which may be any bytes; `root` is EMBER_ELEMENTS or EMBER_STREAMS. Definite shortest lengths, ascending tags, no
+ * absent member and no empty collection; read back as the same tree. EMBER_OUT if out is too short, the message would be over
+ * 16,384 bytes or ember_accepts gives 0; EMBER_SETUP if answer_words is not 1.
  * Never writes a part of a message. */
 uint64_t ember_write(const uint64_t (*table)[EMBER_ROW_WORDS], size_t table_rows, size_t count, uint64_t root,
                      const uint8_t *message, size_t message_bytes, uint8_t *out, size_t out_bytes, uint64_t *answer,
@@ -236,8 +261,8 @@ uint64_t ember_accepts(const uint64_t (*table)[EMBER_ROW_WORDS], size_t table_ro
 /* ---- The desk: figures, a path and crosspoints, all of them the caller's */
 
 /* The figures, seven words:
- *   0: the type: EMBER_ONE_TO_N, EMBER_ONE_TO_ONE or EMBER_N_TO_N
- *   1, 2: how many targets and how many sources, 1 to 64 each
+ *   0: the type: EMBER_ONE_TO_N (a target has one source at most), EMBER_ONE_TO_ONE (and a source one target) or EMBER_N_TO_N
+ *   1, 2: how many targets and how many sources, 1 to 64 each; both are numbered from 0
  *   3, 4: 1 and the most connections in total, or 0 and 0 if no such limit is given
  *   5, 6: 1 and the most sources of a target, or 0 and 0 if no such limit is given
  * Limits are 1 to 2,147,483,647; only EMBER_N_TO_N heeds them. */
@@ -261,7 +286,9 @@ uint64_t ember_accepts(const uint64_t (*table)[EMBER_ROW_WORDS], size_t table_ro
 #define EMBER_CROSSPOINTS 4096
 #define EMBER_CROSSPOINT(target, source) ((size_t)(target) * 64 + (size_t)(source))
 
-/* The operations: the target's sources become the list, are joined by it, lose it. */
+/* The operations: the target's sources become the list, are joined by it, lose it. But in EMBER_ONE_TO_N and EMBER_ONE_TO_ONE
+ * EMBER_CONNECT with one source takes the place of the target's source, EMBER_ABSOLUTE or EMBER_CONNECT with more is EMBER_MANY,
+ * and in EMBER_ONE_TO_ONE the source is taken from every other target. */
 #define EMBER_ABSOLUTE 0
 #define EMBER_CONNECT 1
 #define EMBER_DISCONNECT 2

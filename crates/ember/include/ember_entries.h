@@ -1,4 +1,4 @@
-/* Entries for people: what a row of ember.h says, and rows made by hand. Plain C99 and C++; taken in by ember.h.
+/* Entries for people: what a row of ember.h says, and rows made by hand. Plain C99 and C++; ember.h takes it in, and it ember.h.
  *
  * A row is `table[i]`, i under the count; a member is one of the cells that ember.h names (EMBER_PARAMETER_VALUE and so on);
  * the message is the one the table was read from, as long as it is there. No function here allocates or keeps anything,
@@ -9,6 +9,8 @@
 #include <stddef.h>
 #include <stdint.h>
 #include <string.h>
+
+#include "ember.h"
 
 #ifdef __cplusplus
 extern "C" {
@@ -130,7 +132,7 @@ static inline int ember_bytes(const uint64_t *row, size_t member, uint64_t type,
     return 1;
 }
 
-/* A text, UTF-8 as it was sent, with no 0 after it.
+/* A text as it was sent, with no 0 after it; the sender's UTF-8, which is not checked, and which may hold a 0.
  * Never copies it. */
 static inline int ember_text(const uint64_t *row, size_t member, const uint8_t *message, size_t message_bytes,
                              const char **text, size_t *count)
@@ -299,8 +301,8 @@ static inline int ember_encode(const uint64_t *numbers, size_t count, uint8_t *o
     return 1;
 }
 
-/* The rows as ember_write, ember_accepts and ember_desk_call take them, which only look at them: ISO C has no such conversion
- * of its own.
+/* The rows as ember_write, ember_accepts, ember_desk_call and ember_path take them, which only look at them: ISO C has no such
+ * conversion of its own.
  * Never copies them. */
 static inline const ember_row *ember_rows(ember_row *table)
 {

@@ -1,11 +1,11 @@
 /* S101 framing for C: the session that reads a stream in chunks, and the writer of frames.
  *
  * Link libframing_c.a, which `rt staticlib framing_c` proves and builds (x86-64 Linux). The library keeps
- * nothing between calls, allocates nothing and calls nothing: all memory is lent by the caller. Each call is
- * proved for every content of what is lent to it, and answers a wrong length or a word out of range; it cannot
- * test a pointer. So a pointer and its count name memory of the caller's that is as long as the count says,
- * aligned for its type, and shared by no other argument of the call that is written to; where the count is 0
- * the pointer may be anything. */
+ * nothing between calls, allocates nothing and calls nothing but memmove: all memory is lent by the caller.
+ * Each call is proved for every content of what is lent to it, and answers a wrong length or a word out of
+ * range; it cannot test a pointer. So a pointer and its count name memory of the caller's that is as long as
+ * the count says, aligned for its type, and shared by no other argument of the call that is written to; where
+ * the count is 0 the pointer may be anything. */
 #ifndef FRAMING_H
 #define FRAMING_H
 
@@ -63,13 +63,15 @@ extern "C" {
 #define FRAMING_OUT 46     /* writer: output too short or content too long: nothing was changed */
 
 /* Makes a fresh session: outside frames, no message open.
- * FRAMING_DONE, or FRAMING_SETUP if session_words is not 4. */
+ * FRAMING_DONE, or FRAMING_SETUP if session_words is not 4.
+ * Never touches a store: any content of it will do. */
 uint64_t framing_start(uint64_t *session, size_t session_words);
 
 /* Offers a chunk of the stream, of any length. It consumes bytes up to and including the one that makes an event, or
  * all of them, and answers the event's number, 2 to 24, or FRAMING_DONE. Offer the rest again, from the first byte
- * that was not consumed. FRAMING_SETUP, with nothing changed, if session_words is not 4, store_bytes not 17,408,
- * answer_words not 3, or the words are no session's. */
+ * that was not consumed. FRAMING_SETUP, with nothing changed (the answer neither), if session_words is not 4,
+ * store_bytes not 17,408, answer_words not 3, or the words are no session's.
+ * Never reads past the chunk, and never tells an event twice, however the stream is cut. */
 uint64_t framing_feed(uint64_t *session, size_t session_words, uint8_t *store, size_t store_bytes,
                       const uint8_t *chunk, size_t chunk_bytes, uint64_t *answer, size_t answer_words);
 
@@ -77,15 +79,18 @@ uint64_t framing_feed(uint64_t *session, size_t session_words, uint8_t *store, s
  * it answers FRAMING_OUT, with out and *count as they were, if out is too short or the content too long.
  * Bytes of out past the written ones stay. */
 
-/* A frame around content without its CRC, at most 1,022 bytes. 2,050 bytes of out are always enough. */
+/* A frame around content without its CRC, at most 1,022 bytes. 2,050 bytes of out are always enough.
+ * Never looks at what the content says. */
 uint64_t framing_write_frame(const uint8_t *content, size_t content_bytes, uint8_t *out, size_t out_bytes,
                              uint64_t *count);
 
-/* The two keep-alives. */
+/* The two keep-alives, a frame each.
+ * Never writes a part of one. */
 uint64_t framing_write_request(uint8_t *out, size_t out_bytes, uint64_t *count);
 uint64_t framing_write_response(uint8_t *out, size_t out_bytes, uint64_t *count);
 
-/* A message of at most 16,384 bytes as packets. 17 frames, 34,850 bytes of out, are always enough. */
+/* A message of at most 16,384 bytes as packets. 17 frames, 34,850 bytes of out, are always enough.
+ * Never asks whether the message is a tree. */
 uint64_t framing_write_message(const uint8_t *message, size_t message_bytes, uint8_t *out, size_t out_bytes,
                                uint64_t *count);
 

@@ -1,9 +1,9 @@
 /* The Glow tree for C: reads a message into the rows of a lent table, and writes the message of such rows.
  *
  * Link libglow_c.a, which `rt staticlib glow_c` proves and builds (x86-64 Linux). The library keeps nothing between
- * calls, allocates nothing and calls nothing: all memory is lent by the caller. A call is proved for every message,
- * every length and every content of the table, and always ends; it cannot test a pointer. So a pointer and its count
- * name memory of the caller's that is as long as the count says, aligned for its type, and shared by no other
+ * calls, allocates nothing and calls nothing but memset: all memory is lent by the caller. A call is proved for every
+ * message, every length and every content of the table, and always ends; it cannot test a pointer. So a pointer and its
+ * count name memory of the caller's that is as long as the count says, aligned for its type, and shared by no other
  * argument of the call that is written to; where the count is 0 the pointer may be anything. */
 #ifndef GLOW_H
 #define GLOW_H
@@ -78,8 +78,8 @@ extern "C" {
 #define GLOW_PATH 37   /* a path that is empty, over 16 numbers (parents counted) or has a number out of range */
 #define GLOW_ROOM 38   /* the message is right, the table too small */
 
-/* Reads a message into the table's rows. Rows past the count stay as they were. Any answer but GLOW_DONE leaves the
- * whole table as it was; GLOW_SETUP leaves the answer's words too. */
+/* Reads a message into the table's rows. GLOW_DONE, 30 to 38, or GLOW_SETUP, which leaves the answer's words too.
+ * Never changes the table unless it answers GLOW_DONE, and then no row past the count. */
 uint64_t glow_read(const uint8_t *message, size_t message_bytes, uint64_t (*table)[GLOW_ROW_WORDS], size_t table_rows,
                    uint64_t *answer, size_t answer_words);
 
@@ -89,15 +89,17 @@ uint64_t glow_read(const uint8_t *message, size_t message_bytes, uint64_t (*tabl
 #define GLOW_WRITE_WORDS 1
 #define GLOW_OUT 46 /* the output is too short, or the rows make no tree that the reader accepts in 16,384 bytes */
 
-/* Writes the message of the table's first `count` rows: definite shortest lengths, ascending tags, nothing that is absent
- * or empty. What is written is read back as the same tree. Output past the message stays as it was. GLOW_OUT leaves the
- * whole output as it was; GLOW_SETUP, for an answer of other than one word, leaves the answer too. */
+/* Writes the message of the table's first `count` rows: definite shortest lengths, ascending tags, no absent member and no
+ * empty collection. What is written is read back as the same tree. Output past the message stays as it was. GLOW_OUT leaves
+ * the whole output as it was; GLOW_SETUP, for an answer of other than one word, leaves the answer too.
+ * Never writes a part of a message. */
 uint64_t glow_write(const uint64_t (*table)[GLOW_ROW_WORDS], size_t table_rows, size_t count, uint64_t root,
                     const uint8_t *message, size_t message_bytes, uint8_t *out, size_t out_bytes, uint64_t *answer,
                     size_t answer_words);
 
 /* 1 if the table's first `count` rows make a tree that the reader accepts: some message of at most 16,384 bytes is read as
- * exactly these entries; else 0. Nothing is changed. */
+ * exactly these entries; else 0.
+ * Never changes anything. */
 uint64_t glow_accepts(const uint64_t (*table)[GLOW_ROW_WORDS], size_t table_rows, size_t count, uint64_t root,
                       const uint8_t *message, size_t message_bytes);
 

@@ -35,7 +35,8 @@ extern "C" {
 #define SUPERVISION_SILENCE 5000
 
 /* Starts: the start counts as an event. tick is a count of milliseconds that runs past its top back to zero.
- * SUPERVISION_NOTHING, or SUPERVISION_SETUP if link_words is not 2. */
+ * SUPERVISION_NOTHING, or SUPERVISION_SETUP if link_words is not 2.
+ * Never reads a clock. */
 uint64_t supervision_start(uint64_t *link, size_t link_words, uint32_t tick);
 
 /* Shows the tick and the number that framing_feed answered at it, or 0 where nothing happened: 0 and 1 are no events, 4
@@ -43,7 +44,8 @@ uint64_t supervision_start(uint64_t *link, size_t link_words, uint32_t tick);
  * event with its tick, and some tick at least once in every 1,000 ms: then a link is declared dead no later than
  * 12,000 ms after its last event, and one with an event in every 4,000 ms never is. A request is answered in every
  * state, that of a dead link too; at any other showing a dead link answers SUPERVISION_DEAD. SUPERVISION_SETUP, with
- * nothing changed, if link_words is not 2 or the words are no state's. */
+ * nothing changed, if link_words is not 2 or the words are no state's.
+ * Never writes to the link, and never asks twice in one silence. */
 uint64_t supervision_show(uint64_t *link, size_t link_words, uint32_t tick, uint64_t number);
 
 #ifdef __cplusplus

@@ -60,6 +60,7 @@ pub struct Desk {
 
 impl Desk {
     /// Opens a desk with no connections; 45 if figures or path are out of their ranges.
+    /// Never gives a desk that is not legal.
     pub fn open(figures: Figures, path: &[u64]) -> Result<Desk, u64> {
         let mut desk = Desk { figures, path: [0; PATH_MAX], numbers: path.len(), crosspoints: [0; SIDE_MAX * SIDE_MAX] };
         desk.path.get_mut(..path.len()).ok_or(number::DESK)?.copy_from_slice(path);
@@ -84,26 +85,31 @@ impl Desk {
     }
 
     /// The figures it was opened from.
+    /// Never others, whatever was asked since.
     pub fn figures(&self) -> &Figures {
         &self.figures
     }
 
     /// The path of its matrix.
+    /// Never empty, and never over 16 numbers.
     pub fn path(&self) -> &[u64] {
         &self.path[..self.numbers]
     }
 
-    /// Whether a source is connected to a target.
+    /// Whether a source is connected to a target; both are numbered from 0.
+    /// Never panics: there is no connection past the desk's counts.
     pub fn is_connected(&self, target: usize, source: usize) -> bool {
         target < SIDE_MAX && source < SIDE_MAX && self.crosspoints[target * SIDE_MAX + source] == 1
     }
 
     /// The sources of a target, ascending.
+    /// Never panics: a target past the desk's count has none.
     pub fn sources(&self, target: usize) -> impl Iterator<Item = u64> + '_ {
         (0..SIDE_MAX).filter(move |&source| self.is_connected(target, source)).map(|source| source as u64)
     }
 
-    /// Whether it is legal, as the library judges it.
+    /// Whether it is legal, as the library judges it: always.
+    /// Never changes anything.
     pub fn is_legal(&self) -> bool {
         let words = self.figures.words();
         // SAFETY: each pointer and its count name a slice that is borrowed here.
@@ -120,7 +126,8 @@ impl Desk {
         number == 1
     }
 
-    /// Asks for one target: 41 to 44 leave everything as it was.
+    /// Asks for one target, with a list of sources that may be empty or name one twice; or 41 to 44.
+    /// Never changes a crosspoint if it answers a number.
     pub fn request(&mut self, target: u64, sources: &[u64], operation: Operation) -> Result<(), u64> {
         let words = self.figures.words();
         // SAFETY: each pointer and its count name a slice that is borrowed here, the crosspoints mutably.
@@ -143,8 +150,9 @@ impl Desk {
         }
     }
 
-    /// Serves the connections among rows, in order: how many answers there are, 0 or 40 to 44 each. 1, and everything as it was, if the rows make no
-    /// tree that the reader accepts or `answers` is shorter than `rows`.
+    /// Serves the connections among rows, in order: how many answers there are, 0 or 40 to 44 each; or 1, if the rows make no tree
+    /// that the reader accepts or `answers` is shorter than `rows`.
+    /// Never changes anything if it answers 1, nor a crosspoint for a connection that is refused.
     pub fn call(&mut self, rows: &[Row], root: Root, message: &[u8], answers: &mut [u64]) -> Result<usize, u64> {
         let words = self.figures.words();
         let mut answer = [0; 1];
@@ -265,7 +273,8 @@ impl Desk {
     }
 }
 
-/// A stream and a desk behind it: N is the most entries of a message, at most 256. Some 430 bytes an entry and 22 KB; put it into a `Box` where the stack is small.
+/// A stream and a desk behind it: N is the most entries of a message, at most 256. Some 410 bytes an entry and 22 KB; put it into a
+/// `Box` where the stack is small. For several streams and one desk take a [`Session`] each, [`crate::read`] and [`Desk::call`].
 pub struct Line<const N: usize> {
     session: Session,
     desk: Desk,
@@ -288,18 +297,28 @@ pub struct Turn<'a> {
     pub rows: &'a [Row],
     /// The desk's answer to each of its connections, in order: 0 or 40 to 44.
     pub answers: &'a [u64],
+    /// The desk after the turn.
+    pub desk: &'a Desk,
 }
 
 impl<const N: usize> Line<N> {
     /// A fresh stream before a desk.
+    /// Never compiles for more than 256 entries.
     pub fn new(desk: Desk) -> Line<N> {
         const { assert!(N <= ROWS_MAX) };
         Line { session: Session::new(), desk, table: [Row::default(); N], answers: [0; N] }
     }
 
     /// The desk as it is now.
+    /// Never changes it.
     pub fn desk(&self) -> &Desk {
         &self.desk
+    }
+
+    /// The desk, for requests of the host's own between turns.
+    /// Never touches the stream: an open frame or message stays.
+    pub fn desk_mut(&mut self) -> &mut Desk {
+        &mut self.desk
     }
 
     /// Takes a turn: the session's call on a chunk; after a message, the tree reader's call on it; after its 0, the desk's call on the entries. Offer
@@ -340,6 +359,7 @@ impl<const N: usize> Line<N> {
             tree,
             rows: self.table.get(..count).unwrap_or(&[]),
             answers: self.answers.get(..told[8] as usize).unwrap_or(&[]),
+            desk: &self.desk,
         }
     }
 }

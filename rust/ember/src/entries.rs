@@ -46,7 +46,7 @@ pub enum Value<'m> {
     Integer(i64),
     /// A real.
     Real(f64),
-    /// A text, UTF-8 as it was sent.
+    /// A text as it was sent: the sender's UTF-8, which is not checked.
     Text(&'m [u8]),
     /// Octets.
     Octets(&'m [u8]),
@@ -98,26 +98,31 @@ impl Row {
     }
 
     /// The entry's kind; none if the row holds no entry.
+    /// Never looks at its members.
     pub fn kind(&self) -> Option<Kind> {
         KINDS.into_iter().find(|&kind| kind as u64 == self.0[0])
     }
 
     /// The place of the entry that this one stands in; none if it stands in Root.
+    /// Never looks at that entry.
     pub fn parent(&self) -> Option<usize> {
         self.0[1].checked_sub(1).map(|place| place as usize)
     }
 
     /// Whether it is a parameter, qualified or not.
+    /// Never looks at its members.
     pub fn is_parameter(&self) -> bool {
         matches!(self.kind(), Some(Kind::Parameter | Kind::QualifiedParameter))
     }
 
     /// Whether it is a node, qualified or not.
+    /// Never looks at its members.
     pub fn is_node(&self) -> bool {
         matches!(self.kind(), Some(Kind::Node | Kind::QualifiedNode))
     }
 
     /// Whether it is a matrix, qualified or not.
+    /// Never looks at its members.
     pub fn is_matrix(&self) -> bool {
         matches!(self.kind(), Some(Kind::Matrix | Kind::QualifiedMatrix))
     }
@@ -151,6 +156,7 @@ impl Row {
     }
 
     /// The numbers of a path or of sources; none at all if the member is absent.
+    /// Never looks past the message.
     pub fn numbers<'m>(&self, member: usize, message: &'m [u8]) -> Numbers<'m> {
         match self.value(member, message) {
             Value::Numbers(numbers) => numbers,
@@ -165,37 +171,45 @@ impl Row {
     }
 
     /// Puts an integer.
+    /// Never asks whether it is in its range; a member over 15 is left out, here and below.
     pub fn put_integer(&mut self, member: usize, value: i64) {
         self.put(member, [INTEGER, value as u64, 0]);
     }
 
     /// Puts a boolean.
+    /// Never asks whether the member is one.
     pub fn put_boolean(&mut self, member: usize, value: bool) {
         self.put(member, [BOOLEAN, u64::from(value), 0]);
     }
 
-    /// Puts a real. Minus zero and NaN are then not written.
+    /// Puts a real.
+    /// Never rounds it; minus zero and NaN are then not written.
     pub fn put_real(&mut self, member: usize, value: f64) {
         self.put(member, [REAL, value.to_bits(), 0]);
     }
 
     /// Puts a text that stands at `start` in the bytes that [`crate::write`] is given.
+    /// Never copies it.
     pub fn put_text(&mut self, member: usize, start: usize, length: usize) {
         self.put(member, [TEXT, start as u64, length as u64]);
     }
 
     /// Puts octets that stand there.
+    /// Never copies them.
     pub fn put_octets(&mut self, member: usize, start: usize, length: usize) {
         self.put(member, [OCTETS, start as u64, length as u64]);
     }
 
     /// Puts a path or sources that stand there, as [`encode`] leaves them.
+    /// Never copies them.
     pub fn put_numbers(&mut self, member: usize, start: usize, length: usize) {
         self.put(member, [RELATIVE_OID, start as u64, length as u64]);
     }
 }
 
-/// Encodes the numbers of a path or of sources at the start of `out`: how many octets they take; none if they have no room or one is over 2,147,483,647.
+/// Encodes the numbers of a path or of sources at the start of `out`: how many octets they take; none if they have no room or one
+/// is over 2,147,483,647.
+/// Never writes past `out`.
 pub fn encode(numbers: &[u64], out: &mut [u8]) -> Option<usize> {
     let mut at = 0;
     for &number in numbers {
@@ -212,7 +226,8 @@ pub fn encode(numbers: &[u64], out: &mut [u8]) -> Option<usize> {
     Some(at)
 }
 
-/// The full path of the element at a place of the rows, at the start of `path`: how many numbers it has; none if there is no such path.
+/// The full path of the element at a place of the rows, at the start of `path`: how many numbers it has, 1 to 16; none if the
+/// entry is no element or the rows make no such path.
 /// Never goes up more than sixteen parents, whatever the rows say.
 pub fn full_path(rows: &[Row], place: usize, message: &[u8], path: &mut [u64; PATH_MAX]) -> Option<usize> {
     let mut own = [0; PATH_MAX];
@@ -224,10 +239,13 @@ pub fn full_path(rows: &[Row], place: usize, message: &[u8], path: &mut [u64; PA
         match row.kind()? {
             Kind::QualifiedParameter | Kind::QualifiedNode | Kind::QualifiedMatrix => {
                 front = row.numbers(member::NUMBER_OR_PATH, message);
+                if front.count() == 0 {
+                    return None;
+                }
                 break;
             }
             Kind::Parameter | Kind::Node | Kind::Matrix => {
-                *own.get_mut(above)? = u64::try_from(row.integer(member::NUMBER_OR_PATH)?).ok()?;
+                *own.get_mut(above)? = u64::try_from(row.integer(member::NUMBER_OR_PATH)?).ok().filter(|&number| number > 0)?;
                 above += 1;
                 next = row.parent();
             }

@@ -79,6 +79,11 @@ fn members() {
     table[1] = Row::new(Kind::Node, Some(1));
     table[1].put_integer(member::NUMBER_OR_PATH, 1);
     assert_eq!(full_path(&table[..2], 1, message, &mut path), None);
+    table[1] = Row::new(Kind::Node, Some(0));
+    table[1].put_integer(member::NUMBER_OR_PATH, 0);
+    assert_eq!(full_path(&table[..2], 1, message, &mut path), None);
+    assert_eq!(full_path(&table[..1], 0, &[], &mut path), None);
+    assert_eq!(full_path(&table[..1], 1, message, &mut path), None);
     let mut five = [0; 5];
     assert_eq!(encode(&[2_147_483_647], &mut five), Some(5));
     assert_eq!(encode(&[0, 127, 128], &mut five), Some(4));
@@ -115,6 +120,32 @@ fn desks() {
     assert_eq!(desk.call(&rows, Root::Elements, &[1, 2], &mut answers), Ok(2));
     assert_eq!(answers, [0, 0, 9]);
     assert!(desk.is_connected(1, 2));
+}
+
+#[test]
+fn lines() {
+    let figures = Figures { kind: Type::OneToN, targets: 2, sources: 3, total: None, each: None };
+    let mut line = Box::new(Line::<2>::new(Desk::open(figures, &[1, 2]).unwrap()));
+    let mut matrix = Row::new(Kind::QualifiedMatrix, None);
+    matrix.put_numbers(member::NUMBER_OR_PATH, 0, 2);
+    let mut connection = Row::new(Kind::Connection, Some(0));
+    connection.put_integer(member::CONNECTION_TARGET, 1);
+    connection.put_numbers(member::CONNECTION_SOURCES, 1, 1);
+    let (mut message, mut frames) = ([0; 64], [0; FRAME_MAX]);
+    let length = write(&[matrix, connection], Root::Elements, &[1, 2], &mut message).unwrap();
+    let length = write_message(&message[..length], &mut frames).unwrap();
+    let turn = line.turn(&frames[..5]);
+    assert_eq!((turn.event, turn.consumed, turn.tree, turn.rows, turn.answers), (Event::More, 5, None, &[][..], &[][..]));
+    // A request of the host's own, with a frame open.
+    assert_eq!(line.desk_mut().request(1, &[0], Operation::Connect), Ok(()));
+    let turn = line.turn(&frames[5..length]);
+    assert_eq!((turn.consumed, turn.tree), (length - 5, Some(Read::Entries { root: Root::Elements, count: 2 })));
+    assert_eq!((turn.rows.len(), turn.answers), (2, &[number::DONE][..]));
+    assert!(turn.desk.sources(1).eq([2]));
+    assert!(line.desk().is_connected(1, 2));
+    let mut small = Line::<1>::new(Desk::open(figures, &[1, 2]).unwrap());
+    let turn = small.turn(&frames[..length]);
+    assert_eq!((turn.tree, turn.rows, turn.answers), (Some(Read::Room { count: 2 }), &[][..], &[][..]));
 }
 
 #[test]

@@ -68,8 +68,7 @@ fn route(stream: &[u8], chunk: usize) -> (Vec<u8>, String) {
                 }
                 (Event::Refused(event), _) => text += &format!("event {event}\n"),
                 (Event::Message(_), Some(Read::Entries { .. })) => {
-                    let (rows, answers) = (turn.rows.to_vec(), turn.answers.to_vec());
-                    out.extend(answer(line.desk(), &rows, &answers, &mut text));
+                    out.extend(answer(turn.desk, turn.rows, turn.answers, &mut text));
                 }
                 (Event::Message(_), Some(Read::Refused { number, place })) => text += &format!("tree {number} at {place}\n"),
                 _ => {}
