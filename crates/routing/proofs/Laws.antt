@@ -110,14 +110,6 @@ module _ (l : List ℕ) (i : ℕ) where
   unfolding allBits
   bits-end h = rw (part-none h)
 
-  pub bits-not : i < length l → 1 < getD l i 0 → allBits (drop i l) ≡ false
-  unfolding allBits
-  bits-not h e = rw (part-one h) (simp (lt-leb _ _ e))
-
-  pub bits-more : i < length l → getD l i 0 ≤ 1 → allBits (drop i l) ≡ allBits (drop (i + 1) l)
-  unfolding allBits
-  bits-more h e = rw (part-one h) (simp (le-leb _ _ e))
-
   pub below-end : (n : ℕ) → length l ≤ i → allBelow n (drop i l) ≡ true
   unfolding allBelow
   below-end n h = rw (part-none h)
@@ -200,27 +192,9 @@ module _ (f : Figures) (t : ℕ) (r : Cells) where
   row-rest h = simp (le-leb _ _ h)
 
 module _ (w : ℕ) (cells : Cells) where
-  pub holders-end : (s t : ℕ) → t ≤ 0 → holders w cells s t ≡ 0
-  unfolding holders
-  holders-end s zero h = refl
-  holders-end s (suc n) h = absurd (omega arith)
-
   pub holders-more : (s t n : ℕ) → t ≡ suc n → holders w cells s t ≡ bit (getD cells (n * w + s) 0) + holders w cells s n
   unfolding holders
   holders-more s t n k = rw k
-
-  pub sources-end : (s : ℕ) → s ≤ 0 → sourcesFit w cells s ≡ true
-  unfolding sourcesFit
-  sources-end zero h = refl
-  sources-end (suc n) h = absurd (omega arith)
-
-  pub sources-not : (s n : ℕ) → s ≡ suc n → 1 < holders w cells n w → sourcesFit w cells s ≡ false
-  unfolding sourcesFit
-  sources-not s n k e = rw (k, lt-leb _ _ e)
-
-  pub sources-more : (s n : ℕ) → s ≡ suc n → holders w cells n w ≤ 1 → sourcesFit w cells s ≡ sourcesFit w cells n
-  unfolding sourcesFit
-  sources-more s n k e = rw (k, le-leb _ _ e)
 
 -- what figures that fit tell
 pub both-left : (a b : Bool) → both a b ≡ true → a ≡ true

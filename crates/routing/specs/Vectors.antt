@@ -10,7 +10,8 @@ use Rattle.routing.specs.declared.Figures.{Figures}
 use Rattle.routing.specs.Figures.{isCount, figuresFit, mostEach, mostTotal}
 use Rattle.routing.specs.Crosspoints.{Cells, bit, count, allBits, clear, rowAt, withRow, holders, takenFrom, mostAt, rowFits, rowsFit, sourcesFit}
 use Rattle.routing.specs.Crosspoints.{kindFits, cellsFit, legal, Answer, answer, opened}
-use Rattle.routing.specs.Request.{marked, named, allBelow, replaces, becomes, takes, others, result, many, overTotal, judged, asked, requested, sized, unjudged}
+use Rattle.routing.specs.Request.{marked, named, allBelow, replaces, becomes, takes, others, result, many, overTotal, judged, asked, requested}
+use Rattle.routing.specs.Request.{sized, unjudged}
 
 abbrev figures : ℕ → ℕ → ℕ → Limit → Limit → Figures
 figures kind targets sources total each = record { kind = kind; targets = targets; sources = sources; total = total; each = each }

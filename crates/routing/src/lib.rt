@@ -1,12 +1,12 @@
 // The desk: figures and crosspoints, legality, opening, and a request on plain numbers.
 ghost use mathlib.Core.Path.{_≡_};
-ghost use Prim.Native.Nat.{_+_, _-_, _*_, _≤_};
+ghost use Prim.Native.Nat.{ℕ, _+_, _-_, _*_, _≤_, _<_};
 ghost use mathlib.Core.Bool.{true};
 ghost use lib.Dec.{leb, ltb, eqb};
 ghost use lib.ListN.{length, getD, set};
 ghost use Rattle.integers.specs.Digits.{pick};
 ghost use Rattle.routing.specs.Figures.{side, both, isCount, isLimit, figuresFit, limitOr, mostEach, mostTotal};
-ghost use Rattle.routing.specs.Crosspoints.{bit, count, allBits, clear, holders, takenFrom, mostAt, rowFits, rowsFit, sourcesFit};
+ghost use Rattle.routing.specs.Crosspoints.{bit, count, allBits, clear, takenFrom, mostAt, rowFits, rowsFit, sourcesFit};
 ghost use Rattle.routing.specs.Crosspoints.{kindFits, cellsFit, legal, answer, opened, rowAt, withRow};
 ghost use Rattle.routing.specs.Request.{marked, named, becomes, allBelow, others, judged, asked, unjudged, requested};
 
@@ -104,7 +104,7 @@ fn most_at(f: Figures, t: u64) -> u64
 }
 
 // 1 for a cell that is set.
-fn bit(c: u8) -> u64
+fn bit(c: u8) -> u8
     ensures { λ r. ⌜ bit c ≡ r ⌝ }
 {
     if c == 0 {
@@ -113,31 +113,72 @@ fn bit(c: u8) -> u64
     1
 }
 
-// How many cells are set.
-fn count(cells: &[u8]) -> u64
+fn wide(n: u8) -> u64
+    ensures { λ r. ⌜ r ≡ n ⌝ }
+{
+    n as u64
+}
+
+// How many of a few cells are set: a sum of bytes, of which a processor adds many at a time.
+fn count_few(cells: &[u8]) -> u64
+    requires { ⌜ length (now cells) ≤ 192 ⌝ }
     ensures { λ r. ⌜ count (now (cells .entry)) ≡ r ⌝ }
 {
-    let mut n = 0;
+    let mut n: u8 = 0;
     let mut i = 0;
     while i < cells.len() {
         n += bit(cells[i]);
         i += 1;
     }
+    wide(n)
+}
+
+// Where a part that begins at `from` ends: at most 192 on.
+fn part_end(from: usize, end: usize) -> usize
+    requires { ⌜ from < end ⌝ }
+    ensures { λ r. ⌜ (from < r) × ((r ≤ end) × (r ≤ from + 192)) ⌝ }
+{
+    if end - from < 192 {
+        return end;
+    }
+    from + 192
+}
+
+// How many cells are set.
+fn count(cells: &[u8]) -> u64
+    ensures { λ r. ⌜ count (now (cells .entry)) ≡ r ⌝ }
+{
+    let mut n = 0;
+    let mut i: usize = 0;
+    while i < cells.len() {
+        let j = part_end(i, cells.len());
+        n += count_few(&cells[i..j]);
+        i = j;
+    }
     n
 }
 
-// Whether every cell is 0 or 1.
+// The larger of two cells: 1 at most where both are.
+fn larger(a: u8, b: u8) -> u8
+    ensures { λ r. ⌜ leb r 1 ≡ both (leb a 1) (leb b 1) ⌝ }
+{
+    if a < b {
+        return b;
+    }
+    a
+}
+
+// Whether every cell is 0 or 1: whether the largest is. No cell ends the loop, so that a processor compares many at a time.
 fn all_bits(cells: &[u8]) -> bool
     ensures { λ r. ⌜ allBits (now (cells .entry)) ≡ r ⌝ }
 {
+    let mut most: u8 = 0;
     let mut i = 0;
     while i < cells.len() {
-        if 1 < cells[i] {
-            return false;
-        }
+        most = larger(most, cells[i]);
         i += 1;
     }
-    true
+    most <= 1
 }
 
 // Whether every source named is one of the desk's.
@@ -204,19 +245,17 @@ fn rows_fit(f: Figures, cells: &[u8]) -> bool
     true
 }
 
-// How many targets have source s.
-fn holders(cells: &[u8], s: usize) -> u64
-    requires { ⌜ length (now cells) ≡ 4096 ⌝ }
-    requires { ⌜ s + 1 ≤ 64 ⌝ }
-    ensures { λ r. ⌜ holders side (now (cells .entry)) s side ≡ r ⌝ }
+// A row's cells counted in, each at its source.
+fn add_row(sums: &mut [u8], row: &[u8])
+    requires { ⌜ length (now sums) ≡ length (now row) ⌝ }
+    requires { ⌜ ((s : ℕ) → getD (now sums) s 0 ≤ 64) ⌝ }
+    ensures { λ _. ⌜ ((s : ℕ) → getD (now (sums .exit)) s 0 ≡ getD (now (sums .entry)) s 0 + bit (getD (now (row .entry)) s 0)) ⌝ }
 {
-    let mut n = 0;
-    let mut t = SIDE;
-    while 0 < t {
-        t -= 1;
-        n += bit(cells[t * SIDE + s]);
+    let mut i = 0;
+    while i < row.len() {
+        sums[i] += bit(row[i]);
+        i += 1;
     }
-    n
 }
 
 // Whether each source is connected to one target at most.
@@ -224,14 +263,15 @@ fn sources_fit(cells: &[u8]) -> bool
     requires { ⌜ length (now cells) ≡ 4096 ⌝ }
     ensures { λ r. ⌜ sourcesFit side (now (cells .entry)) side ≡ r ⌝ }
 {
-    let mut s = SIDE;
-    while 0 < s {
-        s -= 1;
-        if 1 < holders(cells, s) {
-            return false;
-        }
+    let mut sums = [0u8; 64];
+    let mut t = 0;
+    while t < SIDE {
+        let from = t * SIDE;
+        let to = from + SIDE;
+        add_row(&mut sums, &cells[from..to]);
+        t += 1;
     }
-    true
+    all_bits(&sums)
 }
 
 // Whether crosspoints fit the type.

@@ -13,7 +13,8 @@ returns c =
     let the-Start = c .before .before .before .before .before .before in
     let the-word-at = c .before .word-at in
     let the-if1 = c .if1 in
-    (entry-other _ _ _ _ _ (the-Start .pre .0 .1 .1 .0) _ _ _ _ (the-Start .pre .0 .1 .1 .1) _ (the-word-at .ensures) (the-if1 .taken), (omega arith, the-Start .pre .0 .0))
+    let q = the-Start .pre .0 in
+    (entry-other _ _ _ _ _ (q .1 .1 .0) _ _ _ _ (q .1 .1 .1) _ (the-word-at .ensures) (the-if1 .taken), (omega arith, q .0))
 
 answer-to-requires : tie.Need-answer-to-requires
 answer-to-requires c κs = search needs

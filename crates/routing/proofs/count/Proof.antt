@@ -1,10 +1,11 @@
-use borrow.Author.Needs.{needs}
-use lib.ListN.{length, drop}
-use native.Mathlib.Omega.{arith}
-use Prim.Native.Nat.{_-_, _+_}
-use mathlib.Core.Path.{_≡_, refl, sym, _∙_}
+use Rattle.routing.proofs.Sums.{count-part}
+use Rattle.routing.proofs.Under.{take-short}
+use Rattle.routing.proofs.Laws.{count-end, count-le}
 use Rattle.routing.specs.Crosspoints.{count}
-use Rattle.routing.proofs.Laws.{count-end, count-more, count-le, bit-le}
+use mathlib.Core.Path.{_≡_}
+use Prim.Native.Nat.{_-_, _+_}
+use native.Mathlib.Omega.{arith}
+use lib.ListN.{length, drop}
 use Rattle.routing.proofs.count.Statement.{statement}
 use Rattle.routing.proofs.count.Tie as tie
 
@@ -17,40 +18,62 @@ abbrev μ-loop : tie.MeasureT-loop
 loop-holds : tie.Need-loop-holds Inv-loop μ-loop
 loop-holds c = omega arith
 
-shared-slice-read-bit : tie.Need-shared-slice-read-bit Inv-loop μ-loop
-shared-slice-read-bit c = omega arith
+part-end-requires : tie.Need-part-end-requires Inv-loop μ-loop
+part-end-requires c κs =
+    let the-loop-test = c .loop-test in
+    the-loop-test .taken
 
-bit-requires : tie.Need-bit-requires Inv-loop μ-loop
-bit-requires c = search needs
+sub-count-few : tie.Need-sub-count-few Inv-loop μ-loop
+sub-count-few c =
+    let the-part-end = c .part-end in
+    omega (arith, the-part-end .ensures .0)
+
+part-count-few-start : tie.Need-part-count-few-start Inv-loop μ-loop
+part-count-few-start c =
+    let the-part-end = c .part-end in
+    omega (arith, the-part-end .ensures .0)
+
+part-count-few-end : tie.Need-part-count-few-end Inv-loop μ-loop
+part-count-few-end c =
+    let the-part-end = c .part-end in
+    omega (arith, the-part-end .ensures .1 .0)
+
+count-few-requires : tie.Need-count-few-requires Inv-loop μ-loop
+count-few-requires c κs =
+    let the-Start = c .before .before .before .before .before in
+    let the-loop = c .before .before .before .loop in
+    let the-part-end = c .before .part-end in
+    omega (arith, take-short (the-part-end .result - the-loop .i) (drop (the-loop .i) (the-Start .args .cells .now)), the-part-end .ensures .1 .1)
 
 add-n : tie.Need-add-n Inv-loop μ-loop
 add-n c =
-    let the-args = c .before .before .before .before .before .args in
-    let the-loop = c .before .before .before .loop in
-    let the-loop-test = c .before .before .loop-test in
-    let the-bit = c .bit in
-    omega (arith, count-more (the-args .cells .now) (the-loop .i) (the-loop-test .taken), count-le (the-args .cells .now), the-bit .ensures)
-
-add-i : tie.Need-add-i Inv-loop μ-loop
-add-i c = omega arith
+    let the-Start = c .before .before .before .before .before .before in
+    let the-loop = c .before .before .before .before .loop in
+    let the-part-end = c .before .before .part-end in
+    let the-count-few = c .count-few in
+    let p = count-part (the-Start .args .cells .now) (the-loop .i) (the-part-end .result) (omega (arith, the-part-end .ensures .0)) in
+    omega (arith, p, count-le (the-Start .args .cells .now), the-count-few .ensures, the-loop .inv)
 
 loop-less : tie.Need-loop-less Inv-loop μ-loop
-loop-less c = omega arith
+loop-less c =
+    let the-part-end = c .before .before .part-end in
+    omega (arith, the-part-end .ensures .0, the-part-end .ensures .1 .0)
 
 loop-again : tie.Need-loop-again Inv-loop μ-loop
 loop-again c =
-    let the-args = c .before .before .before .before .before .args in
-    let the-loop = c .before .before .before .loop in
-    let the-loop-test = c .before .before .loop-test in
-    let the-bit = c .bit in
-    omega (arith, count-more (the-args .cells .now) (the-loop .i) (the-loop-test .taken), the-bit .ensures, the-loop .inv)
+    let the-Start = c .before .before .before .before .before .before in
+    let the-loop = c .before .before .before .before .loop in
+    let the-part-end = c .before .before .part-end in
+    let the-count-few = c .count-few in
+    let p = count-part (the-Start .args .cells .now) (the-loop .i) (the-part-end .result) (omega (arith, the-part-end .ensures .0)) in
+    omega (arith, p, the-count-few .ensures, the-loop .inv)
 
 returns : tie.Need-returns Inv-loop μ-loop
 returns c =
-    let the-args = c .before .before .before .args in
+    let the-Start = c .before .before .before in
     let the-loop = c .before .loop in
     let the-loop-test = c .loop-test in
-    omega (arith, count-end (the-args .cells .now) (the-loop .i) (the-loop-test .left), the-loop .inv)
+    omega (arith, count-end (the-Start .args .cells .now) (the-loop .i) (the-loop-test .left), the-loop .inv)
 
 pub count-spec : {M : Type 1} → statement M
 count-spec =
@@ -59,10 +82,12 @@ count-spec =
     Inv-loop
     μ-loop
     loop-holds
-    shared-slice-read-bit
-    bit-requires
+    part-end-requires
+    sub-count-few
+    part-count-few-start
+    part-count-few-end
+    count-few-requires
     add-n
-    add-i
     loop-less
     loop-again
     returns)

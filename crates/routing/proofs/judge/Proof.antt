@@ -5,31 +5,19 @@ use Rattle.routing.proofs.Parts.{before-le, total-after, all-under}
 use borrow.Author.Needs.{needs}
 use Rattle.routing.proofs.judge.Statement.{statement}
 use Rattle.routing.proofs.judge.Tie as tie
-use Rattle.routing.proofs.judge.Reads as reads
-use Rattle.routing.proofs.judge.Lts as lts
-use Rattle.routing.proofs.become_row.Reads as become-row-reads
-use Rattle.routing.proofs.count.Reads as count-reads
-use Rattle.routing.proofs.get_row.Reads as get-row-reads
-use Rattle.routing.proofs.is_many.Reads as is-many-reads
-use Rattle.routing.proofs.over_total.Reads as over-total-reads
 
--- src/lib.rt:503:5
 get-row-requires : tie.Need-get-row-requires
 get-row-requires c κs = search needs
 
--- src/lib.rt:504:9
 count-requires : tie.Need-count-requires
 count-requires c κs = search needs
 
--- src/lib.rt:505:5
 become-row-requires : tie.Need-become-row-requires
 become-row-requires c κs = search needs
 
--- src/lib.rt:507:9
 same-length : tie.Need-same-length
 same-length c = search needs
 
--- src/lib.rt:507:9
 returns : tie.Need-returns
 returns c =
     let the-Start = c .before .before .before .before .before .before .before .before .before .before .before .before .before .before in
@@ -38,23 +26,21 @@ returns c =
     let e = row-from 64 _ _ _ _ _ _ _ (the-get-row .ensures) (the-become-row .ensures) in
     (told-less 64 _ _ _ _ _ (omega arith) (the-Start .pre .1 .1 .1 .1 .1 .0) (omega arith), e)
 
--- src/lib.rt:509:9
 count-requires-2 : tie.Need-count-requires-2
 count-requires-2 c κs = search needs
 
--- src/lib.rt:510:8
 is-many-requires : tie.Need-is-many-requires
 is-many-requires c κs = search needs
 
--- src/lib.rt:511:9
 same-length-2 : tie.Need-same-length-2
 same-length-2 c = search needs
 
--- src/lib.rt:511:9
 returns-2 : tie.Need-returns-2
 returns-2 c =
-    let the-Start = c .before .before .before .before .before .before .before .before .before .before .before .before .before .before .before .before .before .before in
-    let the-get-row = c .before .before .before .before .before .before .before .before .before .before .before .before .before .get-row in
+    let p8 = c .before .before .before .before .before .before .before .before in
+    let p16 = p8 .before .before .before .before .before .before .before .before in
+    let the-Start = p16 .before .before in
+    let the-get-row = p8 .before .before .before .before .before .get-row in
     let the-become-row = c .before .before .before .before .before .before .before .become-row in
     let the-if1 = c .before .before .before .before .if1 in
     let the-count2 = c .before .before .count2 in
@@ -62,31 +48,34 @@ returns-2 c =
     let the-if2 = c .if2 in
     let e = row-from 64 _ _ _ _ _ _ _ (the-get-row .ensures) (the-become-row .ensures) in
     let o = the-Start .pre .1 .1 .1 .1 .1 in
-    (told-many 64 _ _ _ _ _ (omega arith) (o .0) _ _ _ _ (λ z. the-if1 .left (sym z)) e (o .1) (the-count2 .ensures) (the-is-many .ensures ∙ the-if2 .taken) refl, e)
+    let m = the-is-many .ensures ∙ the-if2 .taken in
+    (told-many 64 _ _ _ _ _ (omega arith) (o .0) _ _ _ _ (λ z. the-if1 .left (sym z)) e (o .1) (the-count2 .ensures) m refl, e)
 
--- src/lib.rt:513:5
 over-total-requires : tie.Need-over-total-requires
 over-total-requires c κs =
-    let the-Start = c .before .before .before .before .before .before .before .before .before .before .before .before .before .before .before .before .before .before in
-    let the-get-row = c .before .before .before .before .before .before .before .before .before .before .before .before .before .get-row in
-    let the-count = c .before .before .before .before .before .before .before .before .before .count in
+    let p8 = c .before .before .before .before .before .before .before .before in
+    let p16 = p8 .before .before .before .before .before .before .before .before in
+    let the-Start = p16 .before .before in
+    let the-get-row = p8 .before .before .before .before .before .get-row in
+    let the-count = p8 .before .count in
     let the-become-row = c .before .before .before .before .before .before .before .become-row in
     let the-count2 = c .before .before .count2 in
     let b = before-le 64 (the-Start .args .cells .now) (the-Start .args .target) _ _ (the-count .result) (the-get-row .ensures) refl (the-count .ensures) in
-    let y = all-under _ 64 (the-count2 .result) (the-become-row .kept .1 .1 .1 .1 .0 ∙ the-get-row .kept .0 ∙ the-Start .pre .1 .1 .1 .0) (the-count2 .ensures) in
+    let l = the-become-row .kept .1 .1 .1 .1 .0 ∙ the-get-row .kept .0 ∙ the-Start .pre .1 .1 .1 .0 in
+    let y = all-under _ 64 (the-count2 .result) l (the-count2 .ensures) in
     (the-Start .pre .0, (the-Start .pre .1 .0, (the-Start .pre .1 .1 .0, (b, y))))
 
--- src/lib.rt:484:1
 same-length-3 : tie.Need-same-length-3
 same-length-3 c = search needs
 
--- src/lib.rt:484:1
 returns-3 : tie.Need-returns-3
 returns-3 c =
-    let the-Start = c .before .before .before .before .before .before .before .before .before .before .before .before .before .before .before .before .before .before .before in
-    let the-get-row = c .before .before .before .before .before .before .before .before .before .before .before .before .before .before .get-row in
-    let the-count = c .before .before .before .before .before .before .before .before .before .before .count in
-    let the-become-row = c .before .before .before .before .before .before .before .before .become-row in
+    let p8 = c .before .before .before .before .before .before .before .before in
+    let p16 = p8 .before .before .before .before .before .before .before .before in
+    let the-Start = p16 .before .before .before in
+    let the-get-row = p8 .before .before .before .before .before .before .get-row in
+    let the-count = p8 .before .before .count in
+    let the-become-row = p8 .become-row in
     let the-if1 = c .before .before .before .before .before .if1 in
     let the-count2 = c .before .before .before .count2 in
     let the-is-many = c .before .before .is-many in
@@ -95,8 +84,9 @@ returns-3 c =
     let e = row-from 64 _ _ _ _ _ _ _ (the-get-row .ensures) (the-become-row .ensures) in
     let t = total-after 64 (the-Start .args .cells .now) (the-Start .args .target) _ _ (the-count .result)
     (the-get-row .ensures) refl (the-count .ensures) _ _ (the-count2 .ensures) in
-    let o = the-Start .pre .1 .1 .1 .1 .1 in (
-      told-total 64 _ _ _ _ _ (omega arith) (o .0) _ _ _ _ (λ z. the-if1 .left (sym z)) e (o .1) (the-count2 .ensures) _ _ (the-is-many .ensures ∙ the-if2 .left) t
+    let o = the-Start .pre .1 .1 .1 .1 .1 in
+    let m = the-is-many .ensures ∙ the-if2 .left in (
+      told-total 64 _ _ _ _ _ (omega (arith, the-Start .pre .1 .1 .1 .1 .0)) (o .0) _ _ _ _ (λ z. the-if1 .left (sym z)) e (o .1) (the-count2 .ensures) _ _ m t
           (the-over-total .ensures) refl,
       e,
     )

@@ -6,40 +6,30 @@ use Prim.Native.Nat.{ℕ, _-_, _+_}
 use borrow.Author.Needs.{needs}
 use Rattle.routing.proofs.over_total.Statement.{statement}
 use Rattle.routing.proofs.over_total.Tie as tie
-use Rattle.routing.proofs.over_total.Reads as reads
-use Rattle.routing.proofs.over_total.Lts as lts
-use Rattle.routing.proofs.count.Reads as count-reads
-use Rattle.routing.proofs.in_total.Reads as in-total-reads
 
--- src/lib.rt:463:9
 returns : tie.Need-returns
 returns c =
     let the-Start = c .before .before .before in
     over-other (the-Start .args .f) _ (λ e. omega arith)
 
--- src/lib.rt:465:20
 count-requires : tie.Need-count-requires
 count-requires c κs = search needs
 
--- src/lib.rt:465:20
 sub-in-total : tie.Need-sub-in-total
 sub-in-total c =
     let the-Start = c .before .before .before .before in
     let the-count = c .count in
     omega (arith, the-Start .pre .1 .1 .1 .0, the-count .ensures)
 
--- src/lib.rt:465:20
 add-in-total : tie.Need-add-in-total
 add-in-total c =
     let the-Start = c .before .before .before .before in
     let the-count = c .count in
     omega (arith, all-under (the-Start .args .cells .now) 4096 (the-count .result) (the-Start .pre .1 .1 .0) (the-count .ensures))
 
--- src/lib.rt:465:8
 in-total-requires : tie.Need-in-total-requires
 in-total-requires c κs = search needs
 
--- src/lib.rt:466:9
 returns-2 : tie.Need-returns-2
 returns-2 c =
     let the-Start = c .before .before .before .before .before .before in
@@ -48,7 +38,6 @@ returns-2 c =
     let the-if2 = c .if2 in
     over-no (the-Start .args .f) _ _ _ _ _ (omega arith) (the-count .ensures) (the-in-total .ensures ∙ the-if2 .taken) refl
 
--- src/lib.rt:454:1
 returns-3 : tie.Need-returns-3
 returns-3 c =
     let the-Start = c .before .before .before .before .before .before in

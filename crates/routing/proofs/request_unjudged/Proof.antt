@@ -6,41 +6,31 @@ use Rattle.routing.proofs.Laws.{fit-targets-le, fit-sources-le}
 use borrow.Author.Needs.{needs}
 use Rattle.routing.proofs.request_unjudged.Statement.{statement}
 use Rattle.routing.proofs.request_unjudged.Tie as tie
-use Rattle.routing.proofs.request_unjudged.Reads as reads
-use Rattle.routing.proofs.request_unjudged.Lts as lts
-use Rattle.routing.proofs.ask.Reads as ask-reads
-use Rattle.routing.proofs.figures_fit.Reads as figures-fit-reads
 
--- src/lib.rt:558:9
 figures-fit-requires : tie.Need-figures-fit-requires
 figures-fit-requires c κs = search needs
 
--- src/lib.rt:559:9
 returns : tie.Need-returns
 returns c =
     let the-figures-fit = c .before .figures-fit in
     let the-if1 = c .if1 in
     unjudged-figures 64 _ _ _ _ _ (the-figures-fit .ensures ∙ not-true _ (the-if1 .taken))
 
--- src/lib.rt:562:9
 returns-2 : tie.Need-returns-2
 returns-2 c =
     let the-figures-fit = c .before .before .figures-fit in
     let the-if1 = c .before .if1 in
     unjudged-count 64 _ _ _ _ _ (the-figures-fit .ensures ∙ not-false _ (the-if1 .left)) (λ e. omega arith)
 
--- src/lib.rt:565:9
 returns-3 : tie.Need-returns-3
 returns-3 c =
     let the-figures-fit = c .before .before .before .figures-fit in
     let the-if1 = c .before .before .if1 in
     unjudged-none 64 _ _ _ _ _ (the-figures-fit .ensures ∙ not-false _ (the-if1 .left)) (omega arith) (omega arith)
 
--- src/lib.rt:568:53
 slice-aggregate-ask : tie.Need-slice-aggregate-ask
 slice-aggregate-ask c = search needs
 
--- src/lib.rt:568:5
 ask-requires : tie.Need-ask-requires
 ask-requires c κs =
     let the-figures-fit = c .before .before .before .before .before .figures-fit in
@@ -48,11 +38,9 @@ ask-requires c κs =
     let h = the-figures-fit .ensures ∙ not-false _ (the-if1 .left) in
     (fit-targets-le 64 _ h, (fit-sources-le 64 _ h, (omega arith, refl)))
 
--- src/lib.rt:549:1
 same-length : tie.Need-same-length
 same-length c = search needs
 
--- src/lib.rt:549:1
 returns-4 : tie.Need-returns-4
 returns-4 c =
     let the-figures-fit = c .before .before .before .before .before .before .before .before .before .figures-fit in

@@ -1,47 +1,78 @@
 use borrow.Author.Needs.{needs}
-use native.Mathlib.Omega.{arith}
-use Prim.Native.Nat.{_-_, _+_, _≤_}
+use Rattle.routing.proofs.Sums.{Held, held-none, held-le, held-more, held-all}
+use Rattle.routing.specs.Crosspoints.{clear}
+use Rattle.routing.proofs.Laws.{part-length}
 use mathlib.Core.Path.{_≡_, refl, sym, _∙_}
-use Rattle.routing.specs.Crosspoints.{sourcesFit}
-use Rattle.routing.proofs.Laws.{sources-end, sources-not, sources-more}
+use Prim.Native.Nat.{_-_, _≤_, _*_, _+_}
+use native.Mathlib.Omega.{arith}
+use lib.ListN.{length}
 use Rattle.routing.proofs.sources_fit.Statement.{statement}
 use Rattle.routing.proofs.sources_fit.Tie as tie
 
 abbrev Inv-loop : tie.InvT-loop
-Inv-loop cells s₀ s = (sourcesFit 64 cells 64 ≡ sourcesFit 64 cells s) × (s ≤ 64)
+Inv-loop cells sums₀ t₀ sums t = Held 64 cells t sums × (t ≤ 64)
 
 abbrev μ-loop : tie.MeasureT-loop
-μ-loop cells s₀ s = s
+μ-loop cells sums₀ t₀ sums t = 64 - t
 
 loop-holds : tie.Need-loop-holds Inv-loop μ-loop
-loop-holds c = (refl, omega arith)
+unfolding clear
+loop-holds c = (held-none 64 _ _ refl, omega arith)
 
-sub-s : tie.Need-sub-s Inv-loop μ-loop
-sub-s c = omega arith
+mul-from : tie.Need-mul-from Inv-loop μ-loop
+mul-from c = omega arith
 
-holders-requires : tie.Need-holders-requires Inv-loop μ-loop
-holders-requires c κs = (omega arith, omega arith)
+add-to : tie.Need-add-to Inv-loop μ-loop
+add-to c = omega arith
 
-returns : tie.Need-returns Inv-loop μ-loop
-returns c =
+slice-aggregate-add-row : tie.Need-slice-aggregate-add-row Inv-loop μ-loop
+slice-aggregate-add-row c =
+    let the-loop = c .before .before .loop in
+    sym (the-loop .inv .0 .room)
+
+sub-add-row : tie.Need-sub-add-row Inv-loop μ-loop
+sub-add-row c = omega arith
+
+part-add-row-start : tie.Need-part-add-row-start Inv-loop μ-loop
+part-add-row-start c = omega arith
+
+part-add-row-end : tie.Need-part-add-row-end Inv-loop μ-loop
+part-add-row-end c = omega arith
+
+add-row-requires : tie.Need-add-row-requires Inv-loop μ-loop
+add-row-requires c κs =
+    let the-Start = c .before .before .before .before .before in
     let the-loop = c .before .before .before .loop in
-    let the-holders = c .before .holders in
-    the-loop .inv .0 ∙ sources-not 64 _ (the-loop .s) (the-loop .s - 1) (omega arith) (omega (arith, the-holders .ensures))
+    let h = the-loop .inv .0 in
+    let l = part-length 64 (the-Start .args .cells .now) (the-loop .t) (omega arith) in
+    (h .room ∙ sym l, λ s. omega (arith, held-le 64 _ (the-loop .t) _ h s, the-loop .inv .1))
+
+add-t : tie.Need-add-t Inv-loop μ-loop
+add-t c = omega arith
 
 loop-less : tie.Need-loop-less Inv-loop μ-loop
 loop-less c = omega arith
 
 loop-again : tie.Need-loop-again Inv-loop μ-loop
 loop-again c =
-    let the-loop = c .before .before .before .loop in
-    let the-holders = c .before .holders in
-    (the-loop .inv .0 ∙ sources-more 64 _ (the-loop .s) (the-loop .s - 1) (omega arith) (omega (arith, the-holders .ensures)), omega arith)
+    let the-loop = c .before .before .before .before .before .loop in
+    let the-add-row = c .before .add-row in
+    (held-more 64 _ (the-loop .t) _ _ _ _ (the-loop .inv .0) refl refl (the-add-row .kept .0) (the-add-row .ensures), omega arith)
 
-returns-2 : tie.Need-returns-2 Inv-loop μ-loop
-returns-2 c =
-    let the-loop = c .before .loop in
-    let the-loop-test = c .loop-test in
-    the-loop .inv .0 ∙ sources-end 64 _ (the-loop .s) (the-loop-test .left)
+slice-aggregate-all-bits : tie.Need-slice-aggregate-all-bits Inv-loop μ-loop
+slice-aggregate-all-bits c =
+    let the-loop = c .before .before .loop in
+    sym (the-loop .inv .0 .room)
+
+all-bits-requires : tie.Need-all-bits-requires Inv-loop μ-loop
+all-bits-requires c κs = search needs
+
+returns : tie.Need-returns Inv-loop μ-loop
+returns c =
+    let the-loop = c .before .before .before .loop in
+    let the-loop-test = c .before .before .loop-test in
+    let the-all-bits = c .all-bits in
+    held-all 64 _ (the-loop .t) _ (the-loop .inv .0) (omega (arith, the-loop .inv .1, the-loop-test .left)) ∙ the-all-bits .ensures
 
 pub sources-fit-spec : {M : Type 1} → statement M
 sources-fit-spec =
@@ -50,9 +81,16 @@ sources-fit-spec =
     Inv-loop
     μ-loop
     loop-holds
-    sub-s
-    holders-requires
-    returns
+    mul-from
+    add-to
+    slice-aggregate-add-row
+    sub-add-row
+    part-add-row-start
+    part-add-row-end
+    add-row-requires
+    add-t
     loop-less
     loop-again
-    returns-2)
+    slice-aggregate-all-bits
+    all-bits-requires
+    returns)
