@@ -15,7 +15,8 @@ use Rattle.entries.specs.Entry.{Entries, Rows, overlay}
 use Rattle.entries.proofs.Laws.{overlay-length}
 use Rattle.glow.specs.declared.Answer.{Answer}
 use Rattle.glow.specs.declared.Answer.the-variants.{Setup, Refused as No, Room, Read}
-use Rattle.glow.specs.Message.{Result, result, readOf, readAt, setup, walk}
+use Rattle.walk.specs.Walk.{walk}
+use Rattle.glow.specs.Message.{Result, result, readOf, readAt, setup}
 use Rattle.glow.proofs.Places.{OntoIn}
 use Rattle.glow.proofs.Within.{EntriesIn, walk-in}
 

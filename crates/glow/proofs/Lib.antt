@@ -1,8 +1,6 @@
 -- For what stands above: Answers (`answer-by-bytes`, `refused-as-was`, `past-untouched`, `rows-kept`, `count-bounded`, `place-within`, `parts-within`), over
--- Places and Within. Samples: Vectors. The rest is what the proofs of the code share.
-pub mod Ways
-pub mod Rooted
-pub mod Held
+-- Places and Within. Samples: Vectors. The rest is what the proof of the code needs.
+pub mod Laws
 pub mod Vectors
 pub mod Places
 pub mod Within

@@ -18,9 +18,10 @@ use Rattle.glow.specs.declared.Answer.{Answer}
 use Rattle.glow.specs.declared.Answer.the-variants.{Setup, Refused as No, Room, Read}
 use Rattle.members.specs.Members.{marked, mark, due, inOrder, again, afterListed, afterOther, column}
 use Rattle.members.specs.Members.{plainAt, innerAt, listedAt, ruledAt, memberAt, kindOf, itemAt}
-use Rattle.glow.specs.Tree.{closed, membersBy, itemsBy}
+use Rattle.walk.specs.Tree.{closed, membersBy, itemsBy}
 use Rattle.members.specs.Root.{rootKind, topAt}
-use Rattle.glow.specs.Message.{finished, walk, setup, result, readAt}
+use Rattle.walk.specs.Walk.{finished, walk}
+use Rattle.glow.specs.Message.{setup, result, readAt}
 
 -- an entry with a number in cell 0, by kind and parent's place and 1
 abbrev one : ℕ → ℕ → ℕ → Entry

@@ -26,9 +26,9 @@ use Rattle.members.specs.declared.Item.the-variants.{Done as NoMore, Element, R
 use Rattle.members.specs.declared.Top.{Top}
 use Rattle.members.specs.declared.Top.the-variants.{Root, Refused as NoRoot}
 use Rattle.members.specs.Members.{memberAt, itemAt}
-use Rattle.glow.specs.Tree.{Out, out, closed, onNext, thenClosed, onMember, onItem, membersBy, itemsBy}
+use Rattle.walk.specs.Tree.{Out, out, closed, onNext, thenClosed, onMember, onItem, membersBy, itemsBy}
 use Rattle.members.specs.Root.{unbounded, rootKind, rootIn, topOf, topAt}
-use Rattle.glow.specs.Message.{finished, walkOf, walk}
+use Rattle.walk.specs.Walk.{finished, walkOf, walk}
 use Rattle.glow.proofs.Places.{StandsIn, FoundIn, OntoIn, CellIn, MemberIn, ItemIn, enter-in, first-in, last-in, member-in, item-in}
 
 module _ (s : List ℕ) where

@@ -1,39 +1,16 @@
--- A whole message, and what the reader answers (document 01, "Glow" and "Numbers answered").
-use Prim.Native.Nat.{ℕ, suc, _-_}
-use mathlib.Core.List.{List, []}
-use mathlib.Core.Bool.{Bool, true, false}
+-- What the reader answers (document 01, "Glow" and "Numbers answered").
+use Prim.Native.Nat.{ℕ}
+use mathlib.Core.List.{List}
+use mathlib.Core.Bool.{Bool, true}
 use lib.ListN.{length}
-use lib.Dec.{leb, ltb, eqb}
+use lib.Dec.{ltb}
 use Rattle.integers.specs.Digits.{pick}
 use Rattle.containers.specs.declared.Onto.{Onto}
 use Rattle.containers.specs.declared.Onto.the-variants.{Next, Refused as Stopped}
-use Rattle.containers.specs.Ends.{no}
 use Rattle.entries.specs.Entry.{Entries, Rows, overlay}
-use Rattle.members.specs.declared.Top.{Top}
-use Rattle.members.specs.declared.Top.the-variants.{Root, Refused as NoRoot}
-use Rattle.members.specs.Root.{topAt}
+use Rattle.walk.specs.Walk.{Walk, walk}
 use Rattle.glow.specs.declared.Answer.{Answer}
 use Rattle.glow.specs.declared.Answer.the-variants.{Setup, Refused as No, Room, Read}
-use Rattle.glow.specs.Tree.{Out, out, closed, itemsBy}
-
--- "30 BER: .. bytes .. left after Root"
-unfoldable pub finished : List ℕ → Onto → Onto
-finished s (Next next) = pick (eqb next (length s)) (Next next) (Stopped (no 30 next))
-finished s (Stopped e) = Stopped e
-
--- Root's collection, and what was read of it
-pub record Walk : Type 0 where
-  pub which : ℕ
-  pub out : Out
-
-abbrev pub walkOf : List ℕ → Top → Walk
-walkOf s (Root which outer g) =
-    let x : Out = itemsBy (suc (length s)) s 62 (g .inner) which 0 0 (g .start) [] in
-    record { which = which; out = out (finished s (closed s outer 63 (x .answer))) (x .entries) }
-walkOf s (NoRoot e) = record { which = 0; out = out (Stopped e) [] }
-
-unfoldable pub walk : List ℕ → Walk
-walk s = walkOf s (topAt s)
 
 -- What the reader answers, for each case document 01's number and values: "The answer names Root's kind."
 pub record Said : Type 0 where

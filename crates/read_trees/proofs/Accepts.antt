@@ -19,7 +19,7 @@ use Rattle.entries.specs.Entry.{Entries, blank, putCell}
 use Rattle.grammar.specs.Grammar.{ruleOf, children, connections, applications}
 use Rattle.grammar.specs.Grammar as grammar
 use Rattle.members.specs.Members.{memberAt, itemAt}
-use Rattle.glow.specs.Tree.{Out, thenClosed, membersBy, itemsBy}
+use Rattle.walk.specs.Tree.{Out, thenClosed, membersBy, itemsBy}
 use Rattle.forest.specs.Content.{Content, Item, item, itemOf, itemsOf, contentsOf}
 use Rattle.forest.specs.Trees.{Trees, none, tree, count, flat, standsIn}
 use Rattle.forest.specs.Legal.{pathAfter, inner, empty, isNone, legal}

@@ -24,9 +24,9 @@ use Rattle.entries.specs.Entry.{Entries}
 use Rattle.grammar.specs.Grammar.{rootOf}
 use Rattle.members.specs.declared.Top.{Top}
 use Rattle.members.specs.declared.Top.the-variants.{Root, Refused as NoRoot}
-use Rattle.glow.specs.Tree.{Out, closed, itemsBy}
+use Rattle.walk.specs.Tree.{Out, closed, itemsBy}
 use Rattle.members.specs.Root.{unbounded, rootKind, rootIn, topOf, topAt}
-use Rattle.glow.specs.Message.{finished, walkOf, walk}
+use Rattle.walk.specs.Walk.{finished, walkOf, walk}
 use Rattle.forest.specs.Content.{itemsOf}
 use Rattle.forest.specs.Trees.{Trees, flat, taken, treesOf}
 use Rattle.forest.specs.Legal.{isRoot, legal, legalRoot}

@@ -14,7 +14,7 @@ use Rattle.entries.specs.Entry.{Entry, Entries, withCell, putCell}
 use Rattle.grammar.specs.Grammar.{ruleOf, isSet}
 use Rattle.grammar.specs.Grammar as grammar
 use Rattle.members.specs.Members.{marked, mark, again, afterListed, afterOther, column, memberAt}
-use Rattle.glow.specs.Tree.{thenClosed, membersBy, itemsBy}
+use Rattle.walk.specs.Tree.{thenClosed, membersBy, itemsBy}
 use Rattle.members.proofs.Marks.{marked-own, marked-other}
 use Rattle.forest.specs.Content.{Content, nothing, contentOf, contentsOf}
 use Rattle.forest.specs.Legal.{suits, suited, empty, ruleAt}

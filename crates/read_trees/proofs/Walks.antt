@@ -18,7 +18,7 @@ use Rattle.members.specs.declared.Member.the-variants.{Done, Over, Leaf, Conten
 use Rattle.members.specs.declared.Item.{Item}
 use Rattle.members.specs.declared.Item.the-variants.{Done as NoMore, Element, Refused as NoItem}
 use Rattle.members.specs.Members.{due}
-use Rattle.glow.specs.Tree.{Out, closed, onNext, thenClosed, onMember, onItem}
+use Rattle.walk.specs.Tree.{Out, closed, onNext, thenClosed, onMember, onItem}
 use Rattle.forest.specs.Trees.{standsIn}
 use Rattle.read_trees.proofs.Spans.{Closes, LastTell, last-tells}
 use Rattle.read_trees.proofs.Leaves.{RealsLeast}

@@ -17,8 +17,8 @@ use Rattle.grammar.specs.Grammar.{ruleOf, required, isSet, contentsOf, innerCla
 use Rattle.grammar.specs.Leaf.{expects}
 use Rattle.grammar.proofs.Tables.{expects-step}
 use Rattle.members.specs.Members.{afterListed, column}
-use Rattle.glow.specs.Tree.{out, MembersGive}
-use Rattle.glow.proofs.Ways.{members-done}
+use Rattle.walk.specs.Tree.{out, MembersGive}
+use Rattle.walk.proofs.Ways.{members-done}
 use Rattle.forest.specs.Content.{Content, nothing, word, bytes, wrong, isPart, item, contentsOf as say, itemsOf}
 use Rattle.forest.specs.Trees.{Trees, none, tree, count, flat}
 use Rattle.forest.specs.Legal.{suits, present, empty, complete, ruleAt, suited, pathOf, isNone, legal}

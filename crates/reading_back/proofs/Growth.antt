@@ -12,8 +12,8 @@ use Rattle.integers.specs.Digits.{pick}
 use Rattle.containers.specs.declared.Onto.the-variants.{Next}
 use Rattle.entries.specs.Entry.{Entries}
 use Rattle.grammar.specs.Grammar.{ruleOf, required, isSet, contentsOf, applications}
-use Rattle.glow.specs.Tree.{out, ItemsGive}
-use Rattle.glow.proofs.Ways.{items-done, element-in}
+use Rattle.walk.specs.Tree.{out, ItemsGive}
+use Rattle.walk.proofs.Ways.{items-done, element-in}
 use Rattle.forest.specs.Content.{Content, Item, item, itemsOf}
 use Rattle.forest.specs.Trees.{Trees, none, tree, count, flat, standsIn}
 use Rattle.forest.specs.Legal.{empty, complete, suited, pathOf, pathAfter, inner, isNone, legal}

@@ -14,8 +14,8 @@ use Rattle.entries.specs.Cell.{cell, absent}
 use Rattle.entries.specs.Entry.{Entry, Entries, blank, blanks, withCell, putCell}
 use Rattle.grammar.specs.Grammar.{ruleOf, required}
 use Rattle.members.specs.Members.{afterListed, column}
-use Rattle.glow.specs.Tree.{Out, MembersGive}
-use Rattle.glow.proofs.Ways.{members-leaf}
+use Rattle.walk.specs.Tree.{Out, MembersGive}
+use Rattle.walk.proofs.Ways.{members-leaf}
 use Rattle.forest.specs.Content.{Content, nothing, word, bytes, wrong, isPart, isWord, contentOf, contentsOf}
 use Rattle.forest.specs.Legal.{suits, present, complete, pathOf}
 use Rattle.forest.specs.Written.{outer, memberOctets, membersOctets}

@@ -26,9 +26,10 @@ use Rattle.entries.specs.Entry.{Entries, Rows, overlay}
 use Rattle.grammar.specs.Grammar.{rootOf}
 use Rattle.members.specs.declared.Top.the-variants.{Root}
 use Rattle.glow.specs.declared.Answer.the-variants.{Room, Read}
-use Rattle.glow.specs.Tree.{out, itemsBy}
+use Rattle.walk.specs.Tree.{out, itemsBy}
 use Rattle.members.specs.Root.{unbounded, rootKind, topAt}
-use Rattle.glow.specs.Message.{finished, Walk, walk, result, setup, readAt}
+use Rattle.walk.specs.Walk.{finished, Walk, walk}
+use Rattle.glow.specs.Message.{result, setup, readAt}
 use Rattle.forest.specs.Content.{itemsOf}
 use Rattle.forest.specs.Trees.{Trees, count, flat, Taken, taken, treesOf}
 use Rattle.forest.specs.Legal.{isFormed, isReal, isRoot, legal, legalRoot}

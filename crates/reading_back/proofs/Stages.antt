@@ -16,8 +16,8 @@ use Rattle.entries.specs.declared.Cell.{Cell}
 use Rattle.entries.specs.Entry.{Entries, blanks}
 use Rattle.grammar.specs.Grammar.{ruleOf, required, isSet, contentsOf, innerClass, innerNumber, collectionOf}
 use Rattle.members.specs.Members.{afterListed, column}
-use Rattle.glow.specs.Tree.{Out, out, closed, MembersGive, ItemsGive}
-use Rattle.glow.proofs.Ways.{members-done, contents-in, list-in}
+use Rattle.walk.specs.Tree.{Out, out, closed, MembersGive, ItemsGive}
+use Rattle.walk.proofs.Ways.{members-done, contents-in, list-in}
 use Rattle.forest.specs.Content.{Content, nothing, word, bytes, wrong, contentsOf as say, itemsOf}
 use Rattle.forest.specs.Trees.{Trees, none, tree, count, flat, standsIn}
 use Rattle.forest.specs.Legal.{suits, empty, complete, legal}

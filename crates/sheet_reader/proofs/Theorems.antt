@@ -14,7 +14,7 @@ use Rattle.containers.specs.declared.Onto.the-variants.{Next, Refused as Stoppe
 use Rattle.containers.proofs.Heads.{pick-by}
 use Rattle.entries.specs.Entry.{Entries, Rows}
 use Rattle.forest.specs.Content.{Item, itemsOf}
-use Rattle.glow.specs.Message.{walk}
+use Rattle.walk.specs.Walk.{walk}
 use Rattle.routing.specs.declared.Figures.{Figures}
 use Rattle.routing.specs.Figures.{side, both}
 use Rattle.routing.specs.Crosspoints.{Cells, clear}

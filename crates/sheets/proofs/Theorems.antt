@@ -16,7 +16,7 @@ use Rattle.forest.specs.Trees.{count, flat}
 use Rattle.forest.specs.Written.{writtenReal}
 use Rattle.framing_writer.specs.Read.{Bytes}
 use Rattle.framing_writer.specs.Written.{frame, requestBody}
-use Rattle.glow.specs.Message.{Walk, walk}
+use Rattle.walk.specs.Walk.{Walk, walk}
 use Rattle.reading_back.proofs.ReadBack.{reads-back, flat-count, written-spells}
 use Rattle.routing.specs.declared.Figures.{Figures}
 use Rattle.routing.specs.Figures.{side}

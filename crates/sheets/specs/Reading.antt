@@ -13,7 +13,7 @@ use Rattle.containers.specs.declared.Onto.the-variants.{Next, Refused as Stoppe
 use Rattle.entries.specs.Entry.{Entries}
 use Rattle.grammar.specs.Grammar.{qualifiedMatrix, connection}
 use Rattle.forest.specs.Content.{Content, nothing, word, bytes, wrong, Item, itemsOf}
-use Rattle.glow.specs.Message.{Walk, walk}
+use Rattle.walk.specs.Walk.{Walk, walk}
 use Rattle.framing.specs.Rules.{Place, outside, stray, inside, escaped, badByte, tooLong, Message, isOpen, State, Happening, begin, happens, after}
 use Rattle.routing.specs.declared.Limit.{Limit}
 use Rattle.routing.specs.declared.Limit.the-variants.{Absent, Most}

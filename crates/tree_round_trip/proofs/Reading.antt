@@ -15,7 +15,8 @@ use Rattle.containers.proofs.Heads.{pick-by}
 use Rattle.entries.specs.Entry.{Entries, Rows, overlay}
 use Rattle.glow.specs.declared.Answer.{Answer}
 use Rattle.glow.specs.declared.Answer.the-variants.{Read}
-use Rattle.glow.specs.Message.{saidBy, Result, readOf, readAt, setup, walk}
+use Rattle.walk.specs.Walk.{walk}
+use Rattle.glow.specs.Message.{saidBy, Result, readOf, readAt, setup}
 use Rattle.glow.proofs.Answers.{isRead}
 use Rattle.forest.specs.Rows.{itemsIn}
 use Rattle.forest.specs.Trees.{Trees, flat}

@@ -16,7 +16,8 @@ use Rattle.framing.specs.Session.{answers, feeds}
 use Rattle.entries.specs.Entry.{Entries, Rows}
 use Rattle.glow.specs.declared.Answer.{Answer}
 use Rattle.glow.specs.declared.Answer.the-variants.{Setup, Refused, Room, Read}
-use Rattle.glow.specs.Message.{Result, result, readOf, readAt, setup, walk}
+use Rattle.walk.specs.Walk.{walk}
+use Rattle.glow.specs.Message.{Result, result, readOf, readAt, setup}
 use Rattle.glow.proofs.Answers.{count-bounded}
 use Rattle.forest.specs.Rows.{itemsIn}
 use Rattle.routing.specs.declared.Figures.{Figures}

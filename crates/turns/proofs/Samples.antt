@@ -19,9 +19,10 @@ use Rattle.grammar.specs.Grammar.{innerClass, innerNumber, collectionOf, rootOf
 use Rattle.grammar.specs.Leaf.{expects, least, most, inRange, isLetter, noSlash, isName, allPositive, isPath, numberLeaf, textLeaf, numbersAt, leafAt}
 use Rattle.members.specs.Members.{marked, mark, due, inOrder, again, afterListed, afterOther, column}
 use Rattle.members.specs.Members.{plainAt, innerAt, listedAt, ruledAt, memberAt, kindOf, itemAt}
-use Rattle.glow.specs.Tree.{closed, membersBy, itemsBy}
+use Rattle.walk.specs.Tree.{closed, membersBy, itemsBy}
 use Rattle.members.specs.Root.{rootKind, topAt}
-use Rattle.glow.specs.Message.{finished, walk, setup, readAt}
+use Rattle.walk.specs.Walk.{finished, walk}
+use Rattle.glow.specs.Message.{setup, readAt}
 use Rattle.turns.specs.Samples.{All, p1-to-p12}
 
 pub samples : All p1-to-p12

@@ -13,7 +13,8 @@ use Rattle.containers.specs.declared.Onto.the-variants.{Next, Refused as Stoppe
 use Rattle.entries.specs.Entry.{Entries, Rows, overlay}
 use Rattle.glow.specs.declared.Answer.{Answer}
 use Rattle.glow.specs.declared.Answer.the-variants.{Setup, Refused, Room, Read}
-use Rattle.glow.specs.Message.{saidBy, result, readOf, readAt, setup, walk}
+use Rattle.walk.specs.Walk.{walk}
+use Rattle.glow.specs.Message.{saidBy, result, readOf, readAt, setup}
 use Rattle.forest.specs.Content.{Item, itemsOf}
 use Rattle.forest.specs.Rows.{itemsIn}
 use Rattle.read_trees.proofs.Lists.{items-length}

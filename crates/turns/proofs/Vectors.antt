@@ -20,9 +20,10 @@ use Rattle.grammar.specs.Leaf.{expects, least, most, inRange, isLetter, noSlash
 use Rattle.glow.specs.declared.Answer.the-variants.{Room, Read}
 use Rattle.members.specs.Members.{marked as markedAt, mark, due, inOrder, again, afterListed, afterOther, column}
 use Rattle.members.specs.Members.{plainAt, innerAt, listedAt, ruledAt, memberAt, kindOf, itemAt}
-use Rattle.glow.specs.Tree.{closed, membersBy, itemsBy}
+use Rattle.walk.specs.Tree.{closed, membersBy, itemsBy}
 use Rattle.members.specs.Root.{rootKind, topAt}
-use Rattle.glow.specs.Message.{finished, walk, setup, saidBy}
+use Rattle.walk.specs.Walk.{finished, walk}
+use Rattle.glow.specs.Message.{setup, saidBy}
 use Rattle.forest.specs.Content.{Content, nothing as absent, word, bytes, Item, item, contentOf, contentsOf as contentsIn, itemsOf}
 use Rattle.routing.specs.declared.Figures.{Figures}
 use Rattle.routing.specs.Figures.{side}

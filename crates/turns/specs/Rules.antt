@@ -11,7 +11,8 @@ use Rattle.containers.specs.declared.Onto.{Onto}
 use Rattle.containers.specs.declared.Onto.the-variants.{Next, Refused as Stopped}
 use Rattle.framing.specs.Rules.{State, Said, step}
 use Rattle.glow.specs.declared.Answer.the-variants.{Setup, Refused, Room, Read}
-use Rattle.glow.specs.Message.{walk, setup, saidBy, Said as TreeSaid}
+use Rattle.walk.specs.Walk.{walk}
+use Rattle.glow.specs.Message.{setup, saidBy, Said as TreeSaid}
 use Rattle.forest.specs.Content.{Item, itemsOf}
 use Rattle.routing.specs.declared.Figures.{Figures}
 use Rattle.routing.specs.Figures.{side}

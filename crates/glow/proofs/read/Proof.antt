@@ -1,4 +1,4 @@
-use Rattle.glow.proofs.Rooted.{read-tall, read-long, read-no, read-room, read-filled}
+use Rattle.glow.proofs.Laws.{read-tall, read-long, read-no, read-room, read-filled}
 use borrow.Author.Needs.{needs}
 use Rattle.glow.proofs.read.Statement.{statement}
 use Rattle.glow.proofs.read.Tie as tie

@@ -7,12 +7,12 @@ use Rattle.containers.specs.declared.Open.{Open}
 use Rattle.containers.specs.declared.Onto.{Onto}
 use Rattle.containers.specs.declared.Onto.the-variants.{Next, Refused as Stopped}
 use Rattle.entries.specs.Entry.{Entries, Rows, overlay}
-use Rattle.glow.specs.declared.Walked.{Walked}
-use Rattle.glow.specs.declared.Walked.the-variants.{Read, Refused as NotRead}
-use Rattle.glow.specs.declared.Whole.{Whole}
-use Rattle.glow.specs.declared.Whole.the-variants.{Read as ReadWhole, Refused as NotWhole}
-use Rattle.glow.specs.Tree.{Out, closed, MembersGive, ItemsGive}
-use Rattle.glow.specs.Message.{finished, walk}
+use Rattle.walk.specs.declared.Walked.{Walked}
+use Rattle.walk.specs.declared.Walked.the-variants.{Read, Refused as NotRead}
+use Rattle.walk.specs.declared.Whole.{Whole}
+use Rattle.walk.specs.declared.Whole.the-variants.{Read as ReadWhole, Refused as NotWhole}
+use Rattle.walk.specs.Tree.{Out, closed, MembersGive, ItemsGive}
+use Rattle.walk.specs.Walk.{finished, walk}
 
 -- read from p on, with n entries before it; an entry takes at least a byte
 abbrev pub WalkedOnward : ℕ → ℕ → Walked → Type 0

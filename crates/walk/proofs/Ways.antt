@@ -15,11 +15,11 @@ use Rattle.entries.specs.Entry.{Entries, blank, putCell}
 use Rattle.grammar.specs.Grammar.{contentsOf}
 use Rattle.members.specs.declared.Member.the-variants.{Done, Over, Leaf, Contents, Items, Refused as NoMember}
 use Rattle.members.specs.declared.Item.the-variants.{Done as NoMore, Element, Refused as NoItem}
-use Rattle.glow.specs.declared.Walked.{Walked}
-use Rattle.glow.specs.declared.Walked.the-variants.{Read, Refused as NotRead}
+use Rattle.walk.specs.declared.Walked.{Walked}
+use Rattle.walk.specs.declared.Walked.the-variants.{Read, Refused as NotRead}
 use Rattle.members.specs.Members.{memberAt, itemAt}
-use Rattle.glow.specs.Tree.{Out, out, closed, membersBy, itemsBy, MembersGive, ItemsGive}
-use Rattle.glow.specs.Progress.{counted}
+use Rattle.walk.specs.Tree.{Out, out, closed, membersBy, itemsBy, MembersGive, ItemsGive}
+use Rattle.walk.specs.Progress.{counted}
 
 module _ (s : List ℕ) (k : ℕ) (o : Open) (row me above p before : ℕ) (es : Entries) where
   pub members-done : {next : ℕ} → memberAt s p o k row above before ≡ Done next → MembersGive s k o row me above p before es (out (Next next) es)

@@ -1,10 +1,10 @@
-use Rattle.glow.proofs.Rooted.{overlay-nothing}
+use Rattle.walk.proofs.Rooted.{overlay-nothing}
 use mathlib.Core.List.{[]}
-use Rattle.glow.proofs.Rooted.{message-no, message-root}
+use Rattle.walk.proofs.Rooted.{message-no, message-root}
 use mathlib.Core.Path.{refl, _∙_}
 use borrow.Author.Needs.{needs}
-use Rattle.glow.proofs.message.Statement.{statement}
-use Rattle.glow.proofs.message.Tie as tie
+use Rattle.walk.proofs.message.Statement.{statement}
+use Rattle.walk.proofs.message.Tie as tie
 
 root-of-requires : tie.Need-root-of-requires
 root-of-requires c κs = search needs

@@ -10,44 +10,44 @@ use Rattle.containers.proofs.Laws.{enter-ended}
 use Rattle.entries.specs.declared.Cell.{Cell}
 use Rattle.entries.specs.Entry.{Entries, Rows, overlay}
 use Rattle.grammar.specs.declared.Leaf.the-variants.{Kept}
-use Rattle.glow.specs.Tree.{MembersGive, ItemsGive}
+use Rattle.walk.specs.Tree.{MembersGive, ItemsGive}
 use Rattle.members.specs.Progress.{MemberOnward, ItemOnward}
-use Rattle.glow.specs.Progress.{WalkedOnward}
+use Rattle.walk.specs.Progress.{WalkedOnward}
 use Rattle.members.proofs.Laws.{member-due, member-done, item-done}
 use Rattle.members.proofs.Quick.{quick-no, quick-kept, quick-contents, quick-items, quick-element}
-use Rattle.glow.proofs.Held.{Held, held-done, held-no, held-over, held-leaf, held-contents-no, held-contents, held-list-no, held-list}
-use Rattle.glow.proofs.Held.{item-held-done, item-held-no, item-held-element-no, item-held-element}
+use Rattle.walk.proofs.Held.{Held, held-done, held-no, held-over, held-leaf, held-contents-no, held-contents, held-list-no, held-list}
+use Rattle.walk.proofs.Held.{item-held-done, item-held-no, item-held-element-no, item-held-element}
 use borrow.Fn.Kinds.{In}
 use borrow.Fn.PlainCycle.{Measures, is, falls, and}
-use Rattle.glow.proofs.element.Reads as element
-use Rattle.glow.proofs.element.Kinds as element-kinds
-use Rattle.glow.proofs.+element+items.Lts-element as element-lts
-use Rattle.glow.proofs.items.Reads as items
-use Rattle.glow.proofs.items.Kinds as items-kinds
-use Rattle.glow.proofs.+element+items.Lts-items as items-lts
+use Rattle.walk.proofs.element.Reads as element
+use Rattle.walk.proofs.element.Kinds as element-kinds
+use Rattle.walk.proofs.+element+items.Lts-element as element-lts
+use Rattle.walk.proofs.items.Reads as items
+use Rattle.walk.proofs.items.Kinds as items-kinds
+use Rattle.walk.proofs.+element+items.Lts-items as items-lts
 use Rattle.containers.proofs.less.Reads as less-reads
 use Rattle.containers.proofs.shut.Reads as shut-reads
 use Rattle.entries.proofs.blank.Reads as blank-reads
 use Rattle.entries.proofs.put_cell.Reads as put-cell-reads
 use Rattle.members.proofs.after_listed.Reads as after-listed-reads
-use Rattle.glow.proofs.close.Reads as close-reads
+use Rattle.walk.proofs.close.Reads as close-reads
 use Rattle.members.proofs.collection_of.Reads as collection-of-reads
 use Rattle.members.proofs.column_of.Reads as column-of-reads
 use Rattle.members.proofs.is_due.Reads as is-due-reads
 use Rattle.members.proofs.item_at.Reads as item-at-reads
 use Rattle.members.proofs.kind_at.Reads as kind-at-reads
 use Rattle.members.proofs.member_at.Reads as member-at-reads
-use Rattle.glow.proofs.opened.Reads as opened-reads
+use Rattle.walk.proofs.opened.Reads as opened-reads
 use Rattle.members.proofs.rule_at.Reads as rule-at-reads
-use Rattle.glow.proofs.size.Reads as size-reads
-use Rattle.glow.proofs.wide.Reads as wide-reads
-use Rattle.glow.proofs.word.Reads as word-reads
-use Rattle.glow.proofs.worded.Reads as worded-reads
+use Rattle.walk.proofs.size.Reads as size-reads
+use Rattle.walk.proofs.wide.Reads as wide-reads
+use Rattle.walk.proofs.word.Reads as word-reads
+use Rattle.walk.proofs.worded.Reads as worded-reads
 use Rattle.grammar.proofs.contents_of.Reads as contents-of-reads
 use Rattle.grammar.proofs.read_leaf.Reads as read-leaf-reads
 use Rattle.grammar.proofs.word_of.Reads as word-of-reads
-use Rattle.glow.proofs.+element+items.{statement}
-use Rattle.glow.proofs.+element+items.Tie.{close}
+use Rattle.walk.proofs.+element+items.{statement}
+use Rattle.walk.proofs.+element+items.Tie.{close}
 
 -- what is left of a loop gives what the whole gives, whatever entries the rows held before
 record ElementTurn (s : List ℕ) (from : ℕ) (o : Open) (k row me path n : ℕ) (rows₀ rows : Rows) (p before above count : ℕ) : Type 0 where

@@ -15,13 +15,13 @@ use Rattle.entries.proofs.Laws.{overlay-put, overlay-new, length-put}
 use Rattle.grammar.specs.Grammar.{contentsOf}
 use Rattle.members.specs.declared.Member.the-variants.{Done, Over, Leaf, Contents, Items, Refused as NoMember}
 use Rattle.members.specs.declared.Item.the-variants.{Done as NoMore, Element, Refused as NoItem}
-use Rattle.glow.specs.declared.Walked.{Walked}
-use Rattle.glow.specs.declared.Walked.the-variants.{Read, Refused as NotRead}
+use Rattle.walk.specs.declared.Walked.{Walked}
+use Rattle.walk.specs.declared.Walked.the-variants.{Read, Refused as NotRead}
 use Rattle.members.specs.Members.{memberAt, itemAt}
-use Rattle.glow.specs.Tree.{Out, out, closed, MembersGive, ItemsGive}
-use Rattle.glow.specs.Progress.{counted, Closes, Fills, MembersFill, ItemsFill}
-use Rattle.glow.proofs.Ways.{members-done, members-no, members-over, members-leaf, contents-no, contents-in, list-no, list-in}
-use Rattle.glow.proofs.Ways.{items-done, items-no, element-no, element-in, counted-no, counted-read}
+use Rattle.walk.specs.Tree.{Out, out, closed, MembersGive, ItemsGive}
+use Rattle.walk.specs.Progress.{counted, Closes, Fills, MembersFill, ItemsFill}
+use Rattle.walk.proofs.Ways.{members-done, members-no, members-over, members-leaf, contents-no, contents-in, list-no, list-in}
+use Rattle.walk.proofs.Ways.{items-done, items-no, element-no, element-in, counted-no, counted-read}
 
 -- the rows hold entries, `count` of them, from which what is left, Left, gives what the whole, All, gives
 pub record Held (All : Out → Type 0) (Left : Entries → Out → Type 0) (base rows : Rows) (count : ℕ) : Type 0 where

@@ -1,7 +1,7 @@
-use Rattle.glow.proofs.Rooted.{finish-no, finish-left, finish-read}
+use Rattle.walk.proofs.Rooted.{finish-no, finish-left, finish-read}
 use borrow.Author.Needs.{needs}
-use Rattle.glow.proofs.finish.Statement.{statement}
-use Rattle.glow.proofs.finish.Tie as tie
+use Rattle.walk.proofs.finish.Statement.{statement}
+use Rattle.walk.proofs.finish.Tie as tie
 
 enum-known-w : tie.Need-enum-known-w
 enum-known-w c = search needs
