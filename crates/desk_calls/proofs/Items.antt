@@ -5,15 +5,15 @@ use mathlib.Core.List.{List, [], _∷_, _++_}
 use mathlib.Core.Bool.{Bool, true, false}
 use native.Mathlib.Omega.{arith}
 use borrow.Author.Tests.{eq-eqb, ne-eqb, le-leb, lt-leb, lt-ltb}
-use lib.ListN.{length, take, drop, getD, List·getD-eq-default}
+use lib.ListN.{length, take, drop, getD}
 use lib.Dec.{leb, ltb, eqb}
 use Rattle.integers.specs.Digits.{pick}
 use Rattle.entries.specs.Entry.{Rows}
 use Rattle.entries.specs.declared.Cell.{Cell}
-use Rattle.entries.specs.Cell.{cell, absent}
 use Rattle.forest.specs.Content.{Content, nothing, word, bytes, wrong, Item, contentOf, contentsOf, itemOf, itemsOf, isPart, isWord}
-use Rattle.forest.specs.Rows.{cellAt, cellsFrom, entryOf, entriesOf, itemsIn}
-use Rattle.desk_calls.specs.Connections.{cellIn, numberOf, octetsOf, numbersIn, isQualified, memberOf, nobody, pathUp}
+use Rattle.forest.specs.Rows.{cellsFrom, entryOf, entriesOf, itemsIn}
+use Rattle.tree_sizes.specs.Sizes.{rowCell}
+use Rattle.desk_calls.specs.Connections.{numberOf, octetsOf, numbersIn, isQualified, memberOf, nobody, pathUp}
 use Rattle.desk_calls.specs.declared.Part.{Part}
 
 items-length : (s : List ℕ) (rows : Rows) (n : ℕ) → n ≤ length rows → length (itemsOf s (entriesOf (take n rows))) ≡ n
@@ -46,55 +46,17 @@ module _ (s : List ℕ) (rows : Rows) (n : ℕ) (h : n ≤ length rows) where
     pub in-parent : getD (itemsIn s rows n) i nobody .parent ≡ getD (getD rows i []) 1 0
     in-parent = ap (λ (e : Item). e .parent) in-at
 
-    pub in-first : memberOf (getD (itemsIn s rows n) i nobody) 0 ≡ contentOf s (cellIn rows i 0)
-    unfolding contentsOf cellsFrom cellIn
+    pub in-first : memberOf (getD (itemsIn s rows n) i nobody) 0 ≡ contentOf s (rowCell rows i 0)
+    unfolding contentsOf cellsFrom rowCell
     in-first = ap (λ (e : Item). memberOf e 0) in-at
 
-    pub in-second : memberOf (getD (itemsIn s rows n) i nobody) 1 ≡ contentOf s (cellIn rows i 1)
-    unfolding contentsOf cellsFrom cellIn
+    pub in-second : memberOf (getD (itemsIn s rows n) i nobody) 1 ≡ contentOf s (rowCell rows i 1)
+    unfolding contentsOf cellsFrom rowCell
     in-second = ap (λ (e : Item). memberOf e 1) in-at
 
-    pub in-third : memberOf (getD (itemsIn s rows n) i nobody) 2 ≡ contentOf s (cellIn rows i 2)
-    unfolding contentsOf cellsFrom cellIn
+    pub in-third : memberOf (getD (itemsIn s rows n) i nobody) 2 ≡ contentOf s (rowCell rows i 2)
+    unfolding contentsOf cellsFrom rowCell
     in-third = ap (λ (e : Item). memberOf e 2) in-at
-
--- the cells of a row, one by one
-cells-at : (n k c : ℕ) (r : List ℕ) → c < n → getD (cellsFrom n k r) c absent ≡ cellAt r (k + c)
-unfolding cellsFrom
-cells-at zero k c r h = absurd (omega (arith, h))
-cells-at (suc n) k zero r h = let d : k ≡ k + 0 = omega arith in ap (cellAt r) d
-cells-at (suc n) k (suc c) r h =
-    let d : suc k + c ≡ k + suc c = omega arith in cells-at n (suc k) c r (omega (arith, h)) ∙ ap (cellAt r) d
-
-cells-past : (n k c : ℕ) (r : List ℕ) → n ≤ c → getD (cellsFrom n k r) c absent ≡ absent
-unfolding cellsFrom
-cells-past zero k c r h = refl
-cells-past (suc n) k zero r h = absurd (omega (arith, h))
-cells-past (suc n) k (suc c) r h = cells-past n (suc k) c r (omega (arith, h))
-
-cells-none : (n k c : ℕ) → getD (cellsFrom n k []) c absent ≡ absent
-unfolding cellsFrom
-cells-none zero k c = refl
-cells-none (suc n) k zero = refl
-cells-none (suc n) k (suc c) = cells-none n (suc k) c
-
-module _ (rows : Rows) (i c : ℕ) where
-  pub cell-rowless : length rows ≤ i → absent ≡ cellIn rows i c
-  unfolding cellIn
-  cell-rowless h = sym (ap (λ (r : List ℕ). getD (cellsFrom 16 0 r) c absent) (List·getD-eq-default rows [] h) ∙ cells-none 16 0 c)
-
-  pub cell-past : 16 ≤ c → absent ≡ cellIn rows i c
-  unfolding cellIn
-  cell-past h = sym (cells-past 16 0 c (getD rows i []) h)
-
-  pub cell-words : c < 16
-      → cell (getD (getD rows i []) (2 + c * 3) 0) (getD (getD rows i []) (2 + c * 3 + 1) 0) (getD (getD rows i []) (2 + c * 3 + 2) 0) ≡ cellIn rows i c
-  unfolding cellIn
-  cell-words h =
-      let a : 2 + c * 3 + 1 ≡ 3 + c * 3 = omega arith in
-      let b : 2 + c * 3 + 2 ≡ 4 + c * 3 = omega arith in
-      let z : 0 + c ≡ c = omega arith in
-      rw (a, b) (sym (cells-at 16 0 c (getD rows i []) h ∙ ap (cellAt (getD rows i [])) z))
 
 pub qualified-low : (kind : ℕ) → kind < 5 → isQualified kind ≡ false
 unfolding isQualified

@@ -11,9 +11,10 @@ use Rattle.entries.specs.Entry.{Rows}
 use Rattle.entries.specs.declared.Cell.{Cell}
 use Rattle.forest.specs.Content.{Item, contentOf}
 use Rattle.forest.specs.Rows.{itemsIn}
+use Rattle.tree_sizes.specs.Sizes.{rowCell}
 use Rattle.routing.specs.declared.Figures.{Figures}
 use Rattle.routing.specs.Crosspoints.{Cells, Answer, answer}
-use Rattle.desk_calls.specs.Connections.{cellIn, numberOf, octetsOf, numbersIn, nobody, fullPath, askOf, asksIn, memberOf}
+use Rattle.desk_calls.specs.Connections.{numberOf, octetsOf, numbersIn, nobody, fullPath, askOf, asksIn, memberOf}
 use Rattle.desk_calls.specs.Calls.{Request, requests, same, answered, Served, answers, served, handled, outcome, laid}
 use Rattle.desk_calls.specs.Steps.{laidAt, answeredAt, servedIn, leftFrom, Takes}
 use Rattle.routing.specs.Figures.{side}
@@ -110,7 +111,7 @@ module _ (request : Request) (path : List ℕ) (s : List ℕ) (rows : Rows) (cou
     other-matrix h = rw (matrix-is, h)
 
     pub own-matrix : same (fullPath items p) path ≡ true → (target operation : ℕ) (t o v : Cell)
-        → t ≡ cellIn rows i 0 → o ≡ cellIn rows i 2 → v ≡ cellIn rows i 1
+        → t ≡ rowCell rows i 0 → o ≡ rowCell rows i 2 → v ≡ rowCell rows i 1
         → numberOf (contentOf s t) ≡ target → numberOf (contentOf s o) ≡ operation
         → (a : Answer) → request target (numbersIn (octetsOf (contentOf s v))) operation cells ≡ a
         → answered request path (askOf items here) cells ≡ a

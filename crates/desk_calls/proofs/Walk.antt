@@ -13,7 +13,8 @@ use Rattle.entries.specs.Entry.{Rows}
 use Rattle.entries.specs.declared.Cell.{Cell}
 use Rattle.forest.specs.Content.{Item, contentOf}
 use Rattle.forest.specs.Rows.{itemsIn}
-use Rattle.desk_calls.specs.Connections.{cellIn, numberOf, octetsOf, numbersIn, isQualified, memberOf, nobody, pathUp, fullPath}
+use Rattle.tree_sizes.specs.Sizes.{rowCell}
+use Rattle.desk_calls.specs.Connections.{numberOf, octetsOf, numbersIn, isQualified, memberOf, nobody, pathUp, fullPath}
 use Rattle.desk_calls.specs.Calls.{same}
 use Rattle.desk_calls.proofs.Items.{in-length, in-kind, in-parent, in-first, up-root, up-past, up-qualified, up-number}
 
@@ -88,7 +89,7 @@ module _ (s : List ℕ) (rows : Rows) (n : ℕ) (path : List ℕ) (entry k p : �
   pub walk-past : n < p → same (fullPath es entry) path ≡ eqb k 0
   walk-past h = empty (up-past (w .0) es p (omega (arith, h, in-length s rows n c)))
 
-  module _ (a : 0 < p) (b : p ≤ n) (i : ℕ) (j : i ≡ p - 1) (v : Cell) (x : v ≡ cellIn rows i 0) where
+  module _ (a : 0 < p) (b : p ≤ n) (i : ℕ) (j : i ≡ p - 1) (v : Cell) (x : v ≡ rowCell rows i 0) where
     at : i < n
     at = omega (arith, a, b, j)
 

@@ -12,17 +12,9 @@ use Rattle.identifiers.specs.declared.Oid.{Oid}
 use Rattle.identifiers.specs.declared.Oid.the-variants.{Numbers, Range, Refused}
 use Rattle.desk_calls.specs.declared.Step.{Step}
 use Rattle.identifiers.specs.Identifier.{Arcs, bad, over, numbers, arcs, arcsFrom}
-use Rattle.entries.specs.Entry.{Rows}
-use Rattle.entries.specs.declared.Cell.{Cell}
-use Rattle.entries.specs.Cell.{absent}
 use Rattle.grammar.specs.Grammar.{qualifiedParameter, qualifiedMatrix, connection}
 use Rattle.grammar.specs.Leaf.{both}
-use Rattle.forest.specs.Rows.{entryOf}
 use Rattle.forest.specs.Content.{Content, nothing, word, bytes, wrong, Item, item}
-
--- what the entry in row i keeps of its member c, "an absent one as absent"
-unfoldable pub cellIn : Rows → ℕ → ℕ → Cell
-cellIn rows i c = getD (entryOf (getD rows i []) .cells) c absent
 
 -- A member's number (an integer, universal 2), and the octets of a relative identifier (13). Trees that the reader accepts have what is asked for; else
 -- anything serves.

@@ -3,18 +3,18 @@ use entries::Cell;
 use identifiers::Arc;
 use identifiers::Oid;
 use routing::Figures;
+use tree_sizes::cell_at;
 ghost use mathlib.Core.Path.{_≡_};
 ghost use mathlib.Core.List.{List, []};
 ghost use mathlib.Core.Bool.{true};
 ghost use Prim.Native.Nat.{ℕ, _+_, _-_, _≤_, _<_};
 ghost use lib.ListN.{length, getD, take, drop};
 ghost use Rattle.forest.specs.Content.{contentOf};
-ghost use Rattle.entries.specs.Cell.{absent};
 ghost use Rattle.forest.specs.Rows.{itemsIn};
 ghost use Rattle.routing.specs.Figures.{side};
 ghost use Rattle.routing.specs.Crosspoints.{clear, legal, answer};
 ghost use Rattle.identifiers.specs.Identifier.{arcAt, oidAt};
-ghost use Rattle.desk_calls.specs.Connections.{cellIn, numberOf, octetsOf, numbersIn, endOf, stepOf, Left, Goes, isQualified, fullPath};
+ghost use Rattle.desk_calls.specs.Connections.{numberOf, octetsOf, numbersIn, endOf, stepOf, Left, Goes, isQualified, fullPath};
 ghost use Rattle.desk_calls.specs.Calls.{pathFits, deskLegal, deskOpened, same, called, outcome, told};
 ghost use Rattle.desk_calls.specs.Steps.{once, Kept, Handed, askedOf, answeredAt, servedIn, Takes};
 
@@ -88,34 +88,6 @@ fn word_at(rows: &[[u64; 50]], i: usize, j: usize) -> u64
     ensures { λ r. ⌜ r ≡ getD (getD (now (rows .entry)) i []) j 0 ⌝ }
 {
     rows[i][j]
-}
-
-fn no_cell() -> Cell
-    ensures { λ r. ⌜ r ≡ absent ⌝ }
-{
-    Cell {
-        kind: 0,
-        first: 0,
-        second: 0,
-    }
-}
-
-// The cell c of the entry in row i; an absent one past the rows' end, or past the sixteen cells.
-pub fn cell_at(rows: &[[u64; 50]], i: usize, c: usize) -> Cell
-    ensures { λ r. ⌜ r ≡ cellIn (now (rows .entry)) i c ⌝ }
-{
-    if rows.len() <= i {
-        return no_cell();
-    }
-    if 16 <= c {
-        return no_cell();
-    }
-    let j = 2 + c * 3;
-    Cell {
-        kind: rows[i][j],
-        first: rows[i][j + 1],
-        second: rows[i][j + 2],
-    }
 }
 
 // The number of a member, 0 where it has none.

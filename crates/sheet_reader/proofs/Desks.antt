@@ -20,7 +20,8 @@ use Rattle.routing.specs.Crosspoints.{Cells, clear, Answer, answer, opened}
 use Rattle.routing.proofs.Rows.{clear-length}
 use Rattle.desk_calls.specs.declared.Called.{Called}
 use Rattle.desk_calls.specs.declared.Called.the-variants.{Setup as Unready, Done}
-use Rattle.desk_calls.specs.Connections.{cellIn, octetsOf, numbersIn, nobody}
+use Rattle.tree_sizes.specs.Sizes.{rowCell}
+use Rattle.desk_calls.specs.Connections.{octetsOf, numbersIn, nobody}
 use Rattle.desk_calls.specs.Calls.{pathFits, deskLegal, deskOpened, Served, handled, Outcome, laid, called, told as answered}
 use Rattle.desk_calls.proofs.Items.{in-at}
 use Rattle.desk_calls.proofs.Setup.{ready-from, path-short, opened-not}
@@ -159,7 +160,7 @@ module _ (w : ℕ) (s : List ℕ) (rows : Rows) (n : ℕ) (h : n ≤ length rows
       entries-are w (itemsIn s rows n) sheet
       ∙ ap (λ (e : Item). opens w (figuresIn e) (pathIn e) (modeIn e) (itemsIn s rows n)) (in-at s rows n h 0 (sheet-some s rows n h sheet))
 
-  module _ (v : Cell) (e : v ≡ cellIn rows 0 0) (r : ℕ) (list : List ℕ) (t : Taken (numbersIn (octetsOf (contentOf s v))) r list) where
+  module _ (v : Cell) (e : v ≡ rowCell rows 0 0) (r : ℕ) (list : List ℕ) (t : Taken (numbersIn (octetsOf (contentOf s v))) r list) where
     path-first : pathIn first ≡ numbersIn (octetsOf (contentOf s v))
     path-first =
         ap (λ (c : Rattle.forest.specs.Content.Content). numbersIn (octetsOf c)) (first-member s rows)

@@ -15,7 +15,8 @@ use Rattle.forest.specs.Content.{nothing, bytes, wrong, Item, contentOf, conten
 use Rattle.forest.specs.Rows.{cellsFrom, entriesOf, itemsIn}
 use Rattle.routing.specs.declared.Limit.{Limit}
 use Rattle.routing.specs.declared.Limit.the-variants.{Absent, Most}
-use Rattle.desk_calls.specs.Connections.{cellIn, numberOf, memberOf, nobody}
+use Rattle.tree_sizes.specs.Sizes.{rowCell}
+use Rattle.desk_calls.specs.Connections.{numberOf, memberOf, nobody}
 use Rattle.desk_calls.proofs.Items.{in-length, in-kind}
 use Rattle.sheets.specs.Reading.{limitIn, figuresIn, modeIn, allLinks}
 use Rattle.sheet_reader.specs.Steps.{firstOf, isSheet}
@@ -58,13 +59,13 @@ module _ (s : List ℕ) (v : Cell) where
 -- ---- the figures
 
 pub figures-is : (rows : Rows) (v3 v5 v6 v7 v8 : Cell) (kind targets sources : ℕ) (total each : Limit)
-    → v3 ≡ cellIn rows 0 3 → v5 ≡ cellIn rows 0 5 → v6 ≡ cellIn rows 0 6
-    → v7 ≡ cellIn rows 0 7 → v8 ≡ cellIn rows 0 8
+    → v3 ≡ rowCell rows 0 3 → v5 ≡ rowCell rows 0 5 → v6 ≡ rowCell rows 0 6
+    → v7 ≡ rowCell rows 0 7 → v8 ≡ rowCell rows 0 8
     → ((s : List ℕ) → numberOf (contentOf s v3) ≡ kind) → ((s : List ℕ) → numberOf (contentOf s v5) ≡ targets)
     → ((s : List ℕ) → numberOf (contentOf s v6) ≡ sources)
     → ((s : List ℕ) → limitIn (contentOf s v7) ≡ total) → ((s : List ℕ) → limitIn (contentOf s v8) ≡ each)
     → (s : List ℕ) → figuresIn (firstOf s rows) ≡ record { kind = kind; targets = targets; sources = sources; total = total; each = each }
-unfolding contentsOf cellsFrom cellIn
+unfolding contentsOf cellsFrom rowCell
 figures-is rows v3 v5 v6 v7 v8 kind targets sources total each e3 e5 e6 e7 e8 a b c d e s =
     rw (
       ap (λ (v : Cell). numberOf (contentOf s v)) (sym e3) ∙ a s,
@@ -74,14 +75,14 @@ figures-is rows v3 v5 v6 v7 v8 kind targets sources total each e3 e5 e6 e7 e8 a 
       ap (λ (v : Cell). limitIn (contentOf s v)) (sym e8) ∙ e s,
     )
 
-pub mode-is : (rows : Rows) (v : Cell) (mode : ℕ) → v ≡ cellIn rows 0 4 → ((s : List ℕ) → numberOf (contentOf s v) ≡ mode)
+pub mode-is : (rows : Rows) (v : Cell) (mode : ℕ) → v ≡ rowCell rows 0 4 → ((s : List ℕ) → numberOf (contentOf s v) ≡ mode)
     → (s : List ℕ) → modeIn (firstOf s rows) ≡ mode
-unfolding contentsOf cellsFrom cellIn
+unfolding contentsOf cellsFrom rowCell
 mode-is rows v mode e a s = ap (λ (x : Cell). numberOf (contentOf s x)) (sym e) ∙ a s
 
 -- the path's member
-pub first-member : (s : List ℕ) (rows : Rows) → memberOf (firstOf s rows) 0 ≡ contentOf s (cellIn rows 0 0)
-unfolding contentsOf cellsFrom cellIn
+pub first-member : (s : List ℕ) (rows : Rows) → memberOf (firstOf s rows) 0 ≡ contentOf s (rowCell rows 0 0)
+unfolding contentsOf cellsFrom rowCell
 first-member s rows = refl
 
 -- ---- which entries

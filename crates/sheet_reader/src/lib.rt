@@ -67,11 +67,11 @@ fn limit_of(v: Cell) -> Limit
 fn figures_of(rows: &[[u64; 50]]) -> Figures
     ensures { λ r. ⌜ ((s : List ℕ) → figuresIn (firstOf s (now (rows .entry))) ≡ r) ⌝ }
 {
-    let kind = desk_calls::number_of(desk_calls::cell_at(rows, 0, 3));
-    let targets = desk_calls::number_of(desk_calls::cell_at(rows, 0, 5));
-    let sources = desk_calls::number_of(desk_calls::cell_at(rows, 0, 6));
-    let total = limit_of(desk_calls::cell_at(rows, 0, 7));
-    let each = limit_of(desk_calls::cell_at(rows, 0, 8));
+    let kind = desk_calls::number_of(tree_sizes::cell_at(rows, 0, 3));
+    let targets = desk_calls::number_of(tree_sizes::cell_at(rows, 0, 5));
+    let sources = desk_calls::number_of(tree_sizes::cell_at(rows, 0, 6));
+    let total = limit_of(tree_sizes::cell_at(rows, 0, 7));
+    let each = limit_of(tree_sizes::cell_at(rows, 0, 8));
     Figures {
         kind,
         targets,
@@ -250,12 +250,12 @@ fn of_entries(
         return Sheet::Refused { number: 33 };
     }
     let mut numbers = [0u64; 16];
-    let n = path_of(s, desk_calls::cell_at(rows, 0, 0), &mut numbers);
+    let n = path_of(s, tree_sizes::cell_at(rows, 0, 0), &mut numbers);
     if 16 < n {
         return Sheet::Refused { number: 45 };
     }
     let f = figures_of(rows);
-    let mode = desk_calls::number_of(desk_calls::cell_at(rows, 0, 4));
+    let mode = desk_calls::number_of(tree_sizes::cell_at(rows, 0, 4));
     let mut cells = [0u8; 4096];
     let number = apply(f, mode, &numbers[..n], rows, count, root, s, &mut cells);
     hand_over(number, f, &numbers[..n], &cells, path, crosspoints)
