@@ -8,8 +8,6 @@ use crate::tree::{self, Answer, TABLE_MAX};
 
 /// "A line of over 131,072 bytes ... print[s] `bad line`"
 pub const LINE_MAX: usize = 131_072;
-/// "a list of over 1,024 numbers makes a bad line"
-pub const LIST_MAX: usize = 1_024;
 
 /// What one line of the script makes.
 #[derive(Clone, PartialEq, Eq, Debug)]
@@ -222,8 +220,7 @@ fn list(word: &[u8]) -> Option<Vec<u64>> {
     if word == b"-" {
         return Some(Vec::new());
     }
-    let numbers: Vec<u64> = word.split(|&byte| byte == b'.').map(number).collect::<Option<_>>()?;
-    Some(numbers).filter(|numbers| numbers.len() <= LIST_MAX)
+    word.split(|&byte| byte == b'.').map(number).collect()
 }
 
 /// "one or more pairs of digits of either case, not `-`"
@@ -332,7 +329,7 @@ mod tests {
             assert_eq!(said(line), [expected], "{line}");
         }
         let path = |count| format!("open 2 - 1 1 - - {}\n", vec!["1"; count].join("."));
-        assert_eq!(said(&(path(1_024) + &path(1_025))), ["45", "bad line"]);
+        assert_eq!(said(&(path(16) + &path(17) + &path(65_528) + &path(65_529))), ["0", "45", "45", "bad line"]);
         assert_eq!(said(""), Vec::<String>::new());
         assert_eq!(said("\n"), ["bad line"]);
     }
@@ -376,9 +373,9 @@ mod tests {
         assert_eq!(said[..7], picture);
         assert_eq!(crate::programs::sheets(said[7].as_bytes()), format!("0\n{}\n", said[7]));
         assert_eq!(said.len(), 8);
-        // A list of 1,024 numbers is none too long, a line of 131,072 bytes neither.
+        // A list is as long as its line, and a line of 131,072 bytes is none too long.
         let list = |count| vec!["0"; count].join(".");
-        let script = format!("open 2 - 1 1 - - 1\nrequest 0 {} 1\nrequest 0 {} 1\n", list(1_024), list(1_025));
+        let script = format!("open 2 - 1 1 - - 1\nrequest 0 {} 1\nrequest 0 {} 1\n", list(65_530), list(65_531));
         assert_eq!(self::said(&script), ["0", "0", "bad line"]);
         let bytes = |count: usize| format!("bytes {}\n", "FE".repeat(count));
         let script = format!("open 2 - 1 1 - - 1\n{}{}bytes FF\n", bytes(65_533), bytes(65_534));

@@ -117,7 +117,7 @@ fn open_word(
     path: &mut [u64],
     cells: &mut [u8],
 ) -> Desk {
-    let mut room = [0u64; 1024];
+    let mut room = [0u64; 65536];
     let list: &mut [u64] = &mut room;
     let n = words::list(word, list);
     open_path(desk, f, mode, list, n, path, cells)
@@ -146,7 +146,7 @@ fn ask(f: Figures, target: u64, list: &[u64], n: usize, operation: u64, cells: &
 
 // .. with the sources that a word is.
 fn ask_list(f: Figures, target: u64, sources: &[u8], operation: u64, cells: &mut [u8]) {
-    let mut room = [0u64; 1024];
+    let mut room = [0u64; 65536];
     let list: &mut [u64] = &mut room;
     let n = words::list(sources, list);
     ask(f, target, list, n, operation, cells);

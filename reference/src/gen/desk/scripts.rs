@@ -2,7 +2,7 @@
 
 use super::{ask, asked, figures, requests, Asked};
 use crate::desk::{Figures, SIDE_MAX};
-use crate::desk_text::{Program, Said, LINE_MAX, LIST_MAX};
+use crate::desk_text::{Program, Said, LINE_MAX};
 use crate::framing::{packet, write_frame, write_keep_alive, MESSAGE_MAX, PAYLOAD_MAX};
 use crate::gen::tree::{self, rules, spell, spell_changed, Style};
 use crate::gen::{bad_hex_line, frames, mutate_bytes, rows, Random};
@@ -269,8 +269,8 @@ impl Script {
     fn long_line(&mut self) {
         let more = self.random.below(2);
         let line = match self.random.below(5) {
-            0 => format!("request 0 {} 0", dots(&vec![0; LIST_MAX + more])),
-            1 => format!("open 2 - 2 2 - - {}", dots(&vec![1; LIST_MAX + more])),
+            0 => format!("request 0 {} 0", dots(&vec![0; (LINE_MAX - "request 0  0".len() + 1) / 2 + more])),
+            1 => format!("open 2 - 2 2 - - {}", dots(&vec![1; (LINE_MAX - "open 2 - 2 2 - - ".len() + 1) / 2 + more])),
             2 => format!("request {}0 0 -", "0".repeat(LINE_MAX + more - "request 0 0 -".len())),
             3 => format!("bytes {}", "FE".repeat((LINE_MAX - 6) / 2 + more)),
             _ => format!("show{}", " ".repeat(LINE_MAX - 4 + more)),
@@ -609,7 +609,7 @@ impl Script {
                 self.push("request 0 0 1");
             }
         }
-        for count in [15, 16, 17, LIST_MAX, LIST_MAX + 1] {
+        for count in [15, 16, 17, 1_025] {
             self.push(format!("open 2 0 3 3 - - {}", dots(&vec![3; count])));
             self.push("show");
         }
