@@ -18,9 +18,9 @@ use Rattle.framing.specs.Numbers.{storeLength}
 use Rattle.framing.specs.Rules.{begin}
 use Rattle.framing.specs.Session.{sessionOf, saidBy, Whole, answers, feeds}
 use Rattle.framing.proofs.Calls.{some-call}
-use Rattle.framing_c.specs.Words.{wordsOf, sessionAt}
+use Rattle.session_words.specs.Words.{wordsOf, sessionAt}
 use Rattle.framing_c.specs.Calls.{Called, accepts, told as framed, calls}
-use Rattle.framing_c.proofs.Laws.{words-back}
+use Rattle.session_words.proofs.Laws.{words-back}
 use Rattle.entries.specs.Entry.{Rows}
 use Rattle.routing.specs.Figures.{both}
 use Rattle.routing.specs.Crosspoints.{Cells}

@@ -1,5 +1,5 @@
 -- Laws of the C library, at plain variables.
-use Prim.Native.Nat.{ℕ, zero, suc, _≤_, _<_}
+use Prim.Native.Nat.{ℕ, _≤_, _<_}
 use mathlib.Core.Path.{_≡_, refl, sym, ap, _∙_}
 use mathlib.Core.Bool.{Bool, true, false}
 use mathlib.Core.List.{List, [], _∷_, _++_}
@@ -42,11 +42,6 @@ use Rattle.ember.specs.Calls.{SheetPut, sheetPut, measured, sheetWrites,
 use Rattle.ember.specs.Steps.{wordsIn, Words}
 
 -- ---- figures and words
-
-pub word-past : (ws : List ℕ) (i : ℕ) → length ws ≤ i → 0 ≡ getD ws i 0
-word-past [] i h = refl
-word-past (w ∷ ws) zero h = absurd (omega arith)
-word-past (w ∷ ws) (suc i) h = word-past ws i (omega arith)
 
 limit-back : (l : Limit) → limitAt (givenWord l) (limitWord l) ≡ l
 unfolding limitAt

@@ -18,9 +18,9 @@ use Rattle.framing.proofs.Laws.{true-legal}
 use Rattle.framing.proofs.Sayable.{legal-answered}
 use Rattle.framing.proofs.Chunks.{call-ran, fresh-legal}
 use Rattle.framing.proofs.Calls as framing
-use Rattle.framing_c.specs.Words.{wordsOf, sessionAt}
+use Rattle.session_words.specs.Words.{wordsOf, sessionAt}
 use Rattle.framing_c.specs.Calls.{accepts, told as framed, calls}
-use Rattle.framing_c.proofs.Laws.{words-back, words-session}
+use Rattle.session_words.proofs.Laws.{words-back, words-session}
 use Rattle.entries.specs.Entry.{Rows}
 use Rattle.routing.specs.declared.Figures.{Figures}
 use Rattle.routing.specs.Figures.{side, both, figuresFit}

@@ -21,12 +21,6 @@ pub struct Six {
     pub answers: u64,
 }
 
-pub(crate) fn word(n: usize) -> u64
-    ensures { λ r. ⌜ r ≡ n ⌝ }
-{
-    n as u64
-}
-
 fn make(tree: u64, place: u64, count: u64, root: u64, desk: u64, answers: u64) -> Six
     ensures { λ r. ⌜ r ≡ record { tree = tree; place = place; count = count; root = root; desk = desk; answers = answers } ⌝ }
 {
@@ -46,9 +40,9 @@ fn refused(a: Answer) -> Six
 {
     match a {
         Answer::Setup => make(1, 0, 0, 0, 0, 0),
-        Answer::Refused { number, place } => make(number, word(place), 0, 0, 0, 0),
-        Answer::Room { count } => make(38, 0, word(count), 0, 0, 0),
-        Answer::Read { root, count } => make(0, 0, word(count), root, 0, 0),
+        Answer::Refused { number, place } => make(number, session_words::word(place), 0, 0, 0, 0),
+        Answer::Room { count } => make(38, 0, session_words::word(count), 0, 0, 0),
+        Answer::Read { root, count } => make(0, 0, session_words::word(count), root, 0, 0),
     }
 }
 
@@ -58,7 +52,7 @@ fn served(root: u64, count: u64, called: Called) -> Six
 {
     match called {
         Called::Setup => make(0, 0, count, root, 1, 0),
-        Called::Done(n) => make(0, 0, count, root, 0, word(n)),
+        Called::Done(n) => make(0, 0, count, root, 0, session_words::word(n)),
     }
 }
 
@@ -72,6 +66,6 @@ pub(crate) fn later(x: After) -> Six
             root,
             count,
             called,
-        } => served(root, word(count), called),
+        } => served(root, session_words::word(count), called),
     }
 }

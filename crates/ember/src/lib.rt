@@ -179,7 +179,7 @@ fn count_answers(called: Called, answer: &mut [u64]) -> u64
     match called {
         Called::Setup => 1,
         Called::Done(n) => {
-            answer[0] = after::word(n);
+            answer[0] = session_words::word(n);
             0
         }
     }

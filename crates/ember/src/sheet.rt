@@ -23,7 +23,7 @@ pub(crate) fn wrote(a: Answer, answer: &mut [u64]) -> u64
             46
         }
         Answer::Done { length } => {
-            answer[0] = crate::after::word(length);
+            answer[0] = session_words::word(length);
             0
         }
     }
@@ -44,7 +44,7 @@ pub(crate) fn read(x: Sheet, figures: &mut [u64], answer: &mut [u64]) -> u64
         }
         Sheet::Read { figures: f, length } => {
             crate::words::put_figures(figures, f);
-            answer[0] = crate::after::word(length);
+            answer[0] = session_words::word(length);
             0
         }
     }

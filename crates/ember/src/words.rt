@@ -2,17 +2,8 @@
 use routing::Figures;
 use routing::Limit;
 ghost use mathlib.Core.Path.{_≡_};
-ghost use lib.ListN.{length, getD, set};
+ghost use lib.ListN.{length, set};
 ghost use Rattle.ember.specs.Words.{givenWord, limitWord, wordsOf, limitAt, figuresAt, isLimit, isFigures};
-
-fn word_at(words: &[u64], i: usize) -> u64
-    ensures { λ r. ⌜ r ≡ getD (now (words .entry)) i 0 ⌝ }
-{
-    if i < words.len() {
-        return words[i];
-    }
-    0
-}
 
 fn limit_at(given: u64, n: u64) -> Limit
     ensures { λ r. ⌜ r ≡ limitAt given n ⌝ }
@@ -49,11 +40,17 @@ pub(crate) fn figures_at(words: &[u64]) -> Figures
     ensures { λ r. ⌜ r ≡ figuresAt (now (words .entry)) ⌝ }
 {
     Figures {
-        kind: word_at(words, 0),
-        targets: word_at(words, 1),
-        sources: word_at(words, 2),
-        total: limit_at(word_at(words, 3), word_at(words, 4)),
-        each: limit_at(word_at(words, 5), word_at(words, 6)),
+        kind: session_words::word_at(words, 0),
+        targets: session_words::word_at(words, 1),
+        sources: session_words::word_at(words, 2),
+        total: limit_at(
+            session_words::word_at(words, 3),
+            session_words::word_at(words, 4),
+        ),
+        each: limit_at(
+            session_words::word_at(words, 5),
+            session_words::word_at(words, 6),
+        ),
     }
 }
 

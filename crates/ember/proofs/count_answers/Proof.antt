@@ -4,7 +4,7 @@ use Rattle.ember.proofs.count_answers.Statement.{statement}
 use Rattle.ember.proofs.count_answers.Tie as tie
 use Rattle.ember.proofs.count_answers.Reads as reads
 use Rattle.ember.proofs.count_answers.Lts as lts
-use Rattle.ember.proofs.after.word.Reads as word-reads
+use Rattle.session_words.proofs.word.Reads as word-reads
 
 -- src/lib.rt:171:26
 enum-told : tie.Need-enum-told

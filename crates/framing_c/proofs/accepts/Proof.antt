@@ -1,6 +1,5 @@
 use mathlib.Core.Path.{sym, _∙_}
 use borrow.Author.Tests.{eq-eqb, ne-eqb}
-use Rattle.framing_c.proofs.Laws.{session-length}
 use Rattle.framing_c.specs.Calls.{accepts}
 use borrow.Author.Needs.{needs}
 use Rattle.framing_c.proofs.accepts.Statement.{statement}
@@ -14,7 +13,7 @@ is-session-requires : tie.Need-is-session-requires
 is-session-requires c κs = search needs
 
 legal-words-requires : tie.Need-legal-words-requires
-legal-words-requires c κs = session-length _ (sym (c .before .is-session .ensures) ∙ c .if2 .taken)
+legal-words-requires c κs = search needs
 
 returns-2 : tie.Need-returns-2
 unfolding accepts

@@ -1,7 +1,7 @@
 use Prim.Native.Nat.{ℕ, min}
 use lib.ListN
 use mathlib.Core.Path.{sym, ap, _∙_}
-use Rattle.framing_c.proofs.Laws.{accepts-session, accepts-answer, calls-setup, calls-taken}
+use Rattle.framing_c.proofs.Laws.{accepts-answer, calls-setup, calls-taken}
 use borrow.Author.Needs.{needs}
 use Rattle.framing_c.proofs.framing_feed.Statement.{statement}
 use Rattle.framing_c.proofs.framing_feed.Tie as tie
@@ -10,13 +10,13 @@ accepts-requires : tie.Need-accepts-requires
 accepts-requires c κs = search needs
 
 session-at-requires : tie.Need-session-at-requires
-session-at-requires c κs = accepts-session _ _ _ (sym (c .before .before .accepts .ensures) ∙ c .before .if1 .taken)
+session-at-requires c κs = search needs
 
 feed-requires : tie.Need-feed-requires
 feed-requires c κs = search needs
 
 put-session-requires : tie.Need-put-session-requires
-put-session-requires c κs = accepts-session _ _ _ (sym (c .before .before .before .before .before .before .before .before .before .accepts .ensures) ∙ c .before .before .before .before .before .before .before .before .if1 .taken)
+put-session-requires c κs = search needs
 
 message-length-requires : tie.Need-message-length-requires
 message-length-requires c κs = search needs

@@ -1,6 +1,7 @@
 use mathlib.Core.List.{List}
 use Prim.Native.Nat.{ℕ}
-use Rattle.framing_c.specs.Words.{wordsOf}
+use Rattle.session_words.specs.Words.{wordsOf}
+use Rattle.session_words.proofs.Laws.{put-four}
 use mathlib.Core.Path.{sym, ap, _∙_}
 use borrow.Author.Tests.{eq-eqb, ne-eqb}
 use Rattle.framing_c.specs.Calls.{starts}
@@ -24,7 +25,8 @@ same-length c = search needs
 returns-2 : tie.Need-returns-2
 unfolding starts
 returns-2 c =
-    simp (eq-eqb _ _ (c .before .before .before .before .before .if1 .left)) (ap (λ (ws : List ℕ). record { number = 0; session = ws }) (sym (c .before .before .put-session .ensures ∙ ap wordsOf (c .before .before .before .start .ensures))))
+    let four = c .before .before .before .before .before .if1 .left in
+    simp (eq-eqb _ _ four) (ap (λ (ws : List ℕ). record { number = 0; session = ws }) (sym (c .before .before .put-session .ensures ∙ (put-four _ _ four ∙ ap wordsOf (c .before .before .before .start .ensures)))))
 
 pub framing-start-spec : {M : Type 1} → statement M
 framing-start-spec =

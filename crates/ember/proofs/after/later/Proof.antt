@@ -7,7 +7,7 @@ use Rattle.ember.proofs.after.later.Lts as lts
 use Rattle.ember.proofs.after.make.Reads as make-reads
 use Rattle.ember.proofs.after.refused.Reads as refused-reads
 use Rattle.ember.proofs.after.served.Reads as served-reads
-use Rattle.ember.proofs.after.word.Reads as word-reads
+use Rattle.session_words.proofs.word.Reads as word-reads
 
 -- src/after.rt:69:27
 enum-told : tie.Need-enum-told

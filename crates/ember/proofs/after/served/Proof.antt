@@ -5,7 +5,7 @@ use Rattle.ember.proofs.after.served.Tie as tie
 use Rattle.ember.proofs.after.served.Reads as reads
 use Rattle.ember.proofs.after.served.Lts as lts
 use Rattle.ember.proofs.after.make.Reads as make-reads
-use Rattle.ember.proofs.after.word.Reads as word-reads
+use Rattle.session_words.proofs.word.Reads as word-reads
 
 -- src/after.rt:60:26
 enum-told : tie.Need-enum-told

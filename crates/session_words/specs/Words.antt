@@ -28,6 +28,10 @@ openWord (Part n) = 1
 abbrev pub wordsOf : Session → List ℕ
 wordsOf s = placeWord (s .frame) ∷ frameLength (s .frame) ∷ openWord (s .message) ∷ messageLength (s .message) ∷ []
 
+-- A session put into a lent slice: of four words, else it stays as it was.
+unfoldable pub sessionPut : List ℕ → Session → List ℕ
+sessionPut ws s = pick (eqb (length ws) 4) (wordsOf s) ws
+
 unfoldable pub frameAt : ℕ → ℕ → Frame
 frameAt p n =
     pick (eqb p 0) Outside

@@ -1,7 +1,7 @@
 use borrow.Author.Tests.{eq-eqb, ne-eqb}
-use Rattle.framing_c.specs.Words.{frameAt}
-use Rattle.framing_c.proofs.words.frame_at.Statement.{statement}
-use Rattle.framing_c.proofs.words.frame_at.Tie as tie
+use Rattle.session_words.specs.Words.{frameAt}
+use Rattle.session_words.proofs.frame_at.Statement.{statement}
+use Rattle.session_words.proofs.frame_at.Tie as tie
 
 returns : tie.Need-returns
 unfolding frameAt

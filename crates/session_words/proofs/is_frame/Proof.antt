@@ -1,7 +1,7 @@
 use borrow.Author.Tests.{lt-ltb, le-ltb}
-use Rattle.framing_c.specs.Words.{isFrame}
-use Rattle.framing_c.proofs.words.is_frame.Statement.{statement}
-use Rattle.framing_c.proofs.words.is_frame.Tie as tie
+use Rattle.session_words.specs.Words.{isFrame}
+use Rattle.session_words.proofs.is_frame.Statement.{statement}
+use Rattle.session_words.proofs.is_frame.Tie as tie
 
 returns : tie.Need-returns
 unfolding isFrame

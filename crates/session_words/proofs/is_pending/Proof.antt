@@ -1,7 +1,7 @@
 use borrow.Author.Tests.{eq-eqb, ne-eqb}
-use Rattle.framing_c.specs.Words.{isPending}
-use Rattle.framing_c.proofs.words.is_pending.Statement.{statement}
-use Rattle.framing_c.proofs.words.is_pending.Tie as tie
+use Rattle.session_words.specs.Words.{isPending}
+use Rattle.session_words.proofs.is_pending.Statement.{statement}
+use Rattle.session_words.proofs.is_pending.Tie as tie
 
 returns : tie.Need-returns
 unfolding isPending

@@ -1,9 +1,9 @@
 use mathlib.Core.Path.{sym, _∙_}
 use borrow.Author.Tests.{eq-eqb, ne-eqb}
-use Rattle.framing_c.specs.Words.{isSession}
+use Rattle.session_words.specs.Words.{isSession}
 use borrow.Author.Needs.{needs}
-use Rattle.framing_c.proofs.words.is_session.Statement.{statement}
-use Rattle.framing_c.proofs.words.is_session.Tie as tie
+use Rattle.session_words.proofs.is_session.Statement.{statement}
+use Rattle.session_words.proofs.is_session.Tie as tie
 
 returns : tie.Need-returns
 unfolding isSession

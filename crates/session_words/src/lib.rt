@@ -1,10 +1,10 @@
-// A session as four words, and back.
+// A session as four words of a lent slice, and back.
 use framing::Frame;
 use framing::Pending;
 use framing::Session;
 ghost use mathlib.Core.Path.{_≡_};
-ghost use lib.ListN.{length};
-ghost use Rattle.framing_c.specs.Words.{placeWord, openWord, wordsOf, frameAt, pendingAt, sessionAt, isFrame, isPending, isSession};
+ghost use lib.ListN.{getD};
+ghost use Rattle.session_words.specs.Words.{placeWord, openWord, frameAt, pendingAt, sessionAt, isFrame, isPending, isSession, sessionPut};
 
 fn place_word(frame: Frame) -> u64
     ensures { λ r. ⌜ r ≡ placeWord frame ⌝ }
@@ -28,7 +28,7 @@ fn open_word(message: Pending) -> u64
     }
 }
 
-pub(crate) fn word(n: usize) -> u64
+pub fn word(n: usize) -> u64
     ensures { λ r. ⌜ r ≡ n ⌝ }
 {
     n as u64
@@ -38,6 +38,16 @@ fn size(n: u64) -> usize
     ensures { λ r. ⌜ r ≡ n ⌝ }
 {
     n as usize
+}
+
+// A word of a lent slice, 0 past its end.
+pub fn word_at(words: &[u64], i: usize) -> u64
+    ensures { λ r. ⌜ r ≡ getD (now (words .entry)) i 0 ⌝ }
+{
+    if i < words.len() {
+        return words[i];
+    }
+    0
 }
 
 fn frame_at(place: u64, length: usize) -> Frame
@@ -87,7 +97,7 @@ fn is_pending(pending: u64, length: u64) -> bool
 }
 
 // Whether the words are a session's.
-pub(crate) fn is_session(words: &[u64]) -> bool
+pub fn is_session(words: &[u64]) -> bool
     ensures { λ r. ⌜ r ≡ isSession (now (words .entry)) ⌝ }
 {
     if words.len() != 4 {
@@ -99,20 +109,23 @@ pub(crate) fn is_session(words: &[u64]) -> bool
     false
 }
 
-pub(crate) fn session_at(words: &[u64]) -> Session
-    requires { ⌜ length (now words) ≡ 4 ⌝ }
+// The session that the words are; a word that is not there counts as 0.
+pub fn session_at(words: &[u64]) -> Session
     ensures { λ r. ⌜ r ≡ sessionAt (now (words .entry)) ⌝ }
 {
     Session {
-        frame: frame_at(words[0], size(words[1])),
-        message: pending_at(words[2], size(words[3])),
+        frame: frame_at(word_at(words, 0), size(word_at(words, 1))),
+        message: pending_at(word_at(words, 2), size(word_at(words, 3))),
     }
 }
 
-pub(crate) fn put_session(words: &mut [u64], session: Session)
-    requires { ⌜ length (now words) ≡ 4 ⌝ }
-    ensures { λ _. ⌜ now (words .exit) ≡ wordsOf session ⌝ }
+// Any slice but one of four words stays as it was.
+pub fn put_session(words: &mut [u64], session: Session)
+    ensures { λ _. ⌜ now (words .exit) ≡ sessionPut (now (words .entry)) session ⌝ }
 {
+    if words.len() != 4 {
+        return;
+    }
     let frame = session.frame;
     let message = session.message;
     words[0] = place_word(frame);

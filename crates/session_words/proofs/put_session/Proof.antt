@@ -1,8 +1,14 @@
 use mathlib.Core.Path.{_∙_}
-use Rattle.framing_c.proofs.Laws.{set-four}
+use borrow.Author.Tests.{ne-eqb}
+use Rattle.session_words.specs.Words.{sessionPut}
+use Rattle.session_words.proofs.Laws.{put-as}
 use borrow.Author.Needs.{needs}
-use Rattle.framing_c.proofs.words.put_session.Statement.{statement}
-use Rattle.framing_c.proofs.words.put_session.Tie as tie
+use Rattle.session_words.proofs.put_session.Statement.{statement}
+use Rattle.session_words.proofs.put_session.Tie as tie
+
+returns : tie.Need-returns
+unfolding sessionPut
+returns c = simp (ne-eqb _ _ (c .if1 .taken))
 
 place-word-requires : tie.Need-place-word-requires
 place-word-requires c κs = search needs
@@ -37,15 +43,27 @@ slice-write-words-4 c = search needs
 same-length : tie.Need-same-length
 same-length c = search needs
 
-returns : tie.Need-returns
-returns c =
-    set-four (c .before .before .before .before .before .before .before .args .words .now) (c .before .before .before .before .before .place-word .result) (c .before .before .before .word .result) (c .before .before .open-word .result) (c .word2 .result) (c .before .before .before .before .before .before .before .pre)
-    ∙ rw (c .before .before .before .before .before .place-word .ensures, c .before .before .before .word .ensures, c .before .before .before .before .frame-length .ensures, c .before .before .open-word .ensures, c .word2 .ensures, c .before .message-length .ensures)
+returns-2 : tie.Need-returns-2
+returns-2 c =
+    let the-Start = c .before .before .before .before .before .before .before .before in
+    let the-if1 = c .before .before .before .before .before .before .if1 in
+    let the-place-word = c .before .before .before .before .before .place-word in
+    let the-frame-length = c .before .before .before .before .frame-length in
+    let the-word = c .before .before .before .word in
+    let the-open-word = c .before .before .open-word in
+    let the-message-length = c .before .message-length in
+    let the-word2 = c .word2 in
+    put-as (the-Start .args .words .now) (the-Start .args .session) (the-if1 .left)
+    (the-place-word .ensures)
+    (the-word .ensures ∙ the-frame-length .ensures)
+    (the-open-word .ensures)
+    (the-word2 .ensures ∙ the-message-length .ensures)
 
 pub put-session-spec : {M : Type 1} → statement M
 put-session-spec =
     tie.close
     (tie.spec
+    returns
     place-word-requires
     slice-write-words
     frame-length-requires
@@ -57,4 +75,4 @@ put-session-spec =
     word-requires-2
     slice-write-words-4
     same-length
-    returns)
+    returns-2)

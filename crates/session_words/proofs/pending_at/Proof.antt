@@ -1,7 +1,7 @@
 use borrow.Author.Tests.{eq-eqb, ne-eqb}
-use Rattle.framing_c.specs.Words.{pendingAt}
-use Rattle.framing_c.proofs.words.pending_at.Statement.{statement}
-use Rattle.framing_c.proofs.words.pending_at.Tie as tie
+use Rattle.session_words.specs.Words.{pendingAt}
+use Rattle.session_words.proofs.pending_at.Statement.{statement}
+use Rattle.session_words.proofs.pending_at.Tie as tie
 
 returns : tie.Need-returns
 unfolding pendingAt
