@@ -1,18 +1,19 @@
 // frames: reads lines of hexadecimal digits on standard input, each a chunk of an S101 stream, and prints a line for
 // each event and one at the end.
-mod line;
-mod text;
-
+use frame_lines::line;
+use frame_lines::line::Line;
+use frame_lines::line::Stop;
+use frame_lines::text;
 use framing::Event;
 use framing::Session;
 use libc::STDERR_FILENO;
 use libc::STDIN_FILENO;
 use libc::STDOUT_FILENO;
-use line::Line;
-use line::Stop;
 ghost use mathlib.Core.Path.{_≡_};
 ghost use Prim.Native.Nat.{_+_, _≤_, min};
 ghost use lib.ListN.{length};
+ghost use Rattle.framing.specs.Session.{saidBy};
+ghost use Rattle.frame_lines.specs.Text.{wrote, badLineText, eventText, endText, lineRoom};
 
 // What is kept from chunk to chunk: the session, the count of bytes consumed, how many bytes of output wait, and
 // whether all is done.
@@ -48,6 +49,31 @@ fn make_room(out: &[u8], waiting: usize) -> usize
     0
 }
 
+// An event's line, which has room.
+fn put_event(out: &mut [u8], at: usize, offset: u64, event: Event, store: &[u8]) -> usize
+    requires { ⌜ (at + lineRoom ≤ length (now out)) × (length (now store) ≤ 17408) ⌝ }
+    ensures { λ r. ⌜ wrote (now (out .entry)) at (eventText offset (saidBy event (now (store .entry)))) ≡ record { next = r; output = now (out .exit) } ⌝ }
+    ensures { λ r. ⌜ r ≤ at + lineRoom ⌝ }
+{
+    text::put_event(out, at, offset, event, store)
+}
+
+fn put_bad_line(out: &mut [u8], at: usize) -> usize
+    requires { ⌜ at + lineRoom ≤ length (now out) ⌝ }
+    ensures { λ r. ⌜ wrote (now (out .entry)) at badLineText ≡ record { next = r; output = now (out .exit) } ⌝ }
+    ensures { λ r. ⌜ r ≤ at + lineRoom ⌝ }
+{
+    text::put_bad_line(out, at)
+}
+
+fn put_end(out: &mut [u8], at: usize, offset: u64, session: Session) -> usize
+    requires { ⌜ at + lineRoom ≤ length (now out) ⌝ }
+    ensures { λ r. ⌜ wrote (now (out .entry)) at (endText offset session) ≡ record { next = r; output = now (out .exit) } ⌝ }
+    ensures { λ r. ⌜ r ≤ at + lineRoom ⌝ }
+{
+    text::put_end(out, at, offset, session)
+}
+
 // Puts an event's line to the output that waits.
 fn report(out: &mut [u8], waiting: usize, offset: u64, event: Event, store: &[u8]) -> usize
     requires { ⌜ (length (now out) ≡ 65536) × ((waiting ≤ 65536) × (length (now store) ≤ 17408)) ⌝ }
@@ -57,7 +83,7 @@ fn report(out: &mut [u8], waiting: usize, offset: u64, event: Event, store: &[u8
         return waiting;
     }
     let at = make_room(out, waiting);
-    text::put_event(out, at, offset, event, store)
+    put_event(out, at, offset, event, store)
 }
 
 // The sum, or the largest number of 64 bits where it is more.
@@ -114,7 +140,7 @@ fn refuse(reader: Reader, out: &mut [u8]) -> Reader
 {
     let at = make_room(out, reader.waiting);
     let mut last = reader;
-    last.waiting = text::put_bad_line(out, at);
+    last.waiting = put_bad_line(out, at);
     last.done = true;
     last
 }
@@ -131,7 +157,7 @@ fn finish(run: Run, out: &mut [u8]) -> Reader
     }
     let at = make_room(out, last.waiting);
     let session = last.session;
-    last.waiting = text::put_end(out, at, last.offset, session);
+    last.waiting = put_end(out, at, last.offset, session);
     last.done = true;
     last
 }

@@ -19,53 +19,105 @@ loop-holds : tie.Need-loop-holds Inv-loop μ-loop
 loop-holds c = (refl, (refl, (refl, (omega arith, (omega arith, omega arith)))))
 
 scan-requires : tie.Need-scan-requires Inv-loop μ-loop
-scan-requires c κs = (omega arith, (omega arith, omega arith))
+scan-requires c κs = search needs
 
 slice-reshare-prefix-offer : tie.Need-slice-reshare-prefix-offer Inv-loop μ-loop
-slice-reshare-prefix-offer c = omega (arith, c .before .before .before .before .scan .ensures .1, c .before .before .before .before .scan .kept .1 .1 .1 .0)
+slice-reshare-prefix-offer c =
+    let the-Start = c .before .before .before .before .before .before .before .before .before .before .before .before .before .before in
+    let the-loop = c .before .before .before .before .before .before .before .loop in
+    let the-scan = c .before .before .before .before .scan in
+    let fits : length (the-Start .args .block .now) ≤ length (the-loop .chunk) = omega arith in
+    omega (arith, the-scan .ensures .1 .1 .0 fits, the-scan .kept .1 .1 .1 .0)
 
 slice-aggregate-offer : tie.Need-slice-aggregate-offer Inv-loop μ-loop
-slice-aggregate-offer c = sym (length-take-le _ _ (omega (arith, c .before .before .before .before .before .scan .ensures .1, c .before .before .before .before .before .scan .kept .1 .1 .1 .0)))
+slice-aggregate-offer c =
+    let the-Start = c .before .before .before .before .before .before .before .before .before .before .before .before .before .before .before in
+    let the-loop = c .before .before .before .before .before .before .before .before .loop in
+    let the-scan = c .before .before .before .before .before .scan in
+    let fits : length (the-Start .args .block .now) ≤ length (the-loop .chunk) = omega arith in
+    sym (length-take-le _ _ (omega (arith, the-scan .ensures .1 .1 .0 fits, the-scan .kept .1 .1 .1 .0)))
 
 offer-requires : tie.Need-offer-requires Inv-loop μ-loop
 offer-requires c κs = (omega arith, (omega arith, omega arith))
 
 same-length : tie.Need-same-length Inv-loop μ-loop
-same-length c = c .before .before .before .before .before .before .before .before .before .before .before .before .scan .kept .1 .1 .1 .0 ∙ c .before .before .before .before .before .before .before .before .before .before .before .before .before .before .before .loop .inv .0
+same-length c =
+    let the-loop = c .before .before .before .before .before .before .before .before .before .before .before .before .before .before .before .loop in
+    let the-scan = c .before .before .before .before .before .before .before .before .before .before .before .before .scan in
+    the-scan .kept .1 .1 .1 .0 ∙ the-loop .inv .0
 
 same-length-2 : tie.Need-same-length-2 Inv-loop μ-loop
-same-length-2 c = c .before .before .before .before .before .offer .kept .1 .0 ∙ c .before .before .before .before .before .before .before .before .before .before .before .before .before .before .before .loop .inv .1 .0
+same-length-2 c =
+    let the-loop = c .before .before .before .before .before .before .before .before .before .before .before .before .before .before .before .loop in
+    let the-offer = c .before .before .before .before .before .offer in
+    the-offer .kept .1 .0 ∙ the-loop .inv .1 .0
 
 same-length-3 : tie.Need-same-length-3 Inv-loop μ-loop
-same-length-3 c = c .before .before .before .before .before .offer .kept .1 .1 .1 .0 ∙ c .before .before .before .before .before .before .before .before .before .before .before .before .before .before .before .loop .inv .1 .1 .0
+same-length-3 c =
+    let the-loop = c .before .before .before .before .before .before .before .before .before .before .before .before .before .before .before .loop in
+    let the-offer = c .before .before .before .before .before .offer in
+    the-offer .kept .1 .1 .1 .0 ∙ the-loop .inv .1 .1 .0
 
 returns : tie.Need-returns Inv-loop μ-loop
-returns c = (c .before .before .before .before .before .offer .ensures, c .before .before .before .before .before .before .before .before .before .before .before .before .scan .ensures .1 .1 .1 .1)
+returns c =
+    let the-scan = c .before .before .before .before .before .before .before .before .before .before .before .before .scan in
+    let the-offer = c .before .before .before .before .before .offer in
+    (the-offer .ensures, the-scan .ensures .1 .1 .1)
 
 enum-told : tie.Need-enum-told Inv-loop μ-loop
 enum-told c = search needs
 
 refuse-requires : tie.Need-refuse-requires Inv-loop μ-loop
-refuse-requires c κs = (c .before .before .before .before .before .before .before .before .offer .kept .1 .1 .1 .0 ∙ c .before .before .before .before .before .before .before .before .before .before .before .before .before .before .before .before .before .before .loop .inv .1 .1 .0 ∙ c .before .before .before .before .before .before .before .before .before .before .before .before .before .before .before .before .before .before .before .before .before .before .before .before .before .pre .0 .1 .1, c .before .before .before .before .before .before .before .before .offer .ensures)
+refuse-requires c κs =
+    let the-Start = c .before .before .before .before .before .before .before .before .before .before .before .before .before .before .before .before .before .before .before .before .before .before .before .before .before in
+    let the-loop = c .before .before .before .before .before .before .before .before .before .before .before .before .before .before .before .before .before .before .loop in
+    let the-offer = c .before .before .before .before .before .before .before .before .offer in
+    (the-offer .kept .1 .1 .1 .0 ∙ the-loop .inv .1 .1 .0 ∙ the-Start .pre .0 .1 .1, the-offer .ensures)
 
 same-length-4 : tie.Need-same-length-4 Inv-loop μ-loop
-same-length-4 c = c .before .before .before .before .before .before .before .before .before .before .before .before .before .before .before .before .before .before .scan .kept .1 .1 .1 .0 ∙ c .before .before .before .before .before .before .before .before .before .before .before .before .before .before .before .before .before .before .before .before .before .loop .inv .0
+same-length-4 c =
+    let the-loop = c .before .before .before .before .before .before .before .before .before .before .before .before .before .before .before .before .before .before .before .before .before .loop in
+    let the-scan = c .before .before .before .before .before .before .before .before .before .before .before .before .before .before .before .before .before .before .scan in
+    the-scan .kept .1 .1 .1 .0 ∙ the-loop .inv .0
 
 same-length-5 : tie.Need-same-length-5 Inv-loop μ-loop
-same-length-5 c = c .before .before .before .before .before .before .before .before .before .before .before .offer .kept .1 .0 ∙ c .before .before .before .before .before .before .before .before .before .before .before .before .before .before .before .before .before .before .before .before .before .loop .inv .1 .0
+same-length-5 c =
+    let the-loop = c .before .before .before .before .before .before .before .before .before .before .before .before .before .before .before .before .before .before .before .before .before .loop in
+    let the-offer = c .before .before .before .before .before .before .before .before .before .before .before .offer in
+    the-offer .kept .1 .0 ∙ the-loop .inv .1 .0
 
 same-length-6 : tie.Need-same-length-6 Inv-loop μ-loop
-same-length-6 c = c .before .before .refuse .kept .1 .0 ∙ c .before .before .before .before .before .before .before .before .before .before .before .offer .kept .1 .1 .1 .0 ∙ c .before .before .before .before .before .before .before .before .before .before .before .before .before .before .before .before .before .before .before .before .before .loop .inv .1 .1 .0
+same-length-6 c =
+    let the-loop = c .before .before .before .before .before .before .before .before .before .before .before .before .before .before .before .before .before .before .before .before .before .loop in
+    let the-offer = c .before .before .before .before .before .before .before .before .before .before .before .offer in
+    let the-refuse = c .before .before .refuse in
+    the-refuse .kept .1 .0 ∙ the-offer .kept .1 .1 .1 .0 ∙ the-loop .inv .1 .1 .0
 
 returns-2 : tie.Need-returns-2 Inv-loop μ-loop
-returns-2 c = (c .before .before .refuse .ensures, c .before .before .before .before .before .before .before .before .before .before .before .before .before .before .before .before .before .before .scan .ensures .1 .1 .1 .1)
+returns-2 c =
+    let the-scan = c .before .before .before .before .before .before .before .before .before .before .before .before .before .before .before .before .before .before .scan in
+    let the-refuse = c .before .before .refuse in
+    (the-refuse .ensures, the-scan .ensures .1 .1 .1)
 
 loop-less : tie.Need-loop-less Inv-loop μ-loop
-loop-less c = omega (arith, c .before .before .before .before .before .before .before .before .before .before .before .before .before .scan .ensures .1)
+loop-less c =
+    let the-loop-test = c .before .before .before .before .before .before .before .before .before .before .before .before .before .before .before .loop-test in
+    let the-scan = c .before .before .before .before .before .before .before .before .before .before .before .before .before .scan in
+    omega (arith, the-scan .ensures .1 .0 (the-loop-test .taken))
 
 loop-again : tie.Need-loop-again Inv-loop μ-loop
 loop-again c =
-    (c .before .before .before .before .before .before .before .before .before .before .before .before .before .scan .kept .1 .1 .1 .0 ∙ c .before .before .before .before .before .before .before .before .before .before .before .before .before .before .before .before .loop .inv .0, (c .before .before .before .before .before .before .offer .kept .1 .0 ∙ c .before .before .before .before .before .before .before .before .before .before .before .before .before .before .before .before .loop .inv .1 .0, (c .before .before .before .before .before .before .offer .kept .1 .1 .1 .0 ∙ c .before .before .before .before .before .before .before .before .before .before .before .before .before .before .before .before .loop .inv .1 .1 .0, (omega arith, (c .before .before .before .before .before .before .before .before .before .before .before .before .before .scan .ensures .1 .1 .1 .1, c .before .before .before .before .before .before .before .before .before .before .before .before .before .scan .ensures .1 .1 .0)))))
+    let the-loop = c .before .before .before .before .before .before .before .before .before .before .before .before .before .before .before .before .loop in
+    let the-loop-test = c .before .before .before .before .before .before .before .before .before .before .before .before .before .before .before .loop-test in
+    let the-scan = c .before .before .before .before .before .before .before .before .before .before .before .before .before .scan in
+    let the-offer = c .before .before .before .before .before .before .offer in
+    let onward = the-scan .ensures .1 .0 (the-loop-test .taken) in (
+      the-scan .kept .1 .1 .1 .0 ∙ the-loop .inv .0,
+      (
+        the-offer .kept .1 .0 ∙ the-loop .inv .1 .0,
+        (the-offer .kept .1 .1 .1 .0 ∙ the-loop .inv .1 .1 .0, (the-offer .ensures, (the-scan .ensures .1 .1 .1, onward .1))),
+      ),
+    )
 
 same-length-7 : tie.Need-same-length-7 Inv-loop μ-loop
 same-length-7 c = c .before .loop .inv .0
