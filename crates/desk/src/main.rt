@@ -17,14 +17,14 @@ mod show;
 mod stream;
 mod words;
 
+use crosspoints::Figures;
+use crosspoints::Limit;
 use framing::Session;
 use requests::input;
 use requests::input::Input;
 use requests::print;
 use requests::text;
 use requests::text::Hex;
-use routing::Figures;
-use routing::Limit;
 use words::Word;
 ghost use mathlib.Core.Path.{_≡_};
 ghost use lib.ListN.{length};

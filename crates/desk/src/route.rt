@@ -1,6 +1,6 @@
 // The route sheet.
+use crosspoints::Figures;
 use requests::print;
-use routing::Figures;
 use sheet_writer::Answer;
 
 fn lines(out: &[u8], length: usize) {

@@ -1,11 +1,11 @@
 // A chunk of the stream: whole turns of session, tree reader and desk, and a line for each event.
+use crosspoints::Figures;
 use desk_calls::Called;
 use framing::Event;
 use framing::Fed;
 use framing::Session;
 use glow::Answer;
 use requests::print;
-use routing::Figures;
 use turns::After;
 use turns::Turned;
 ghost use Prim.Native.Nat.{_≤_};

@@ -10,9 +10,9 @@ use Rattle.integers.specs.Digits.{pick}
 use Rattle.entries.specs.Entry.{Rows}
 use Rattle.forest.specs.Content.{Item}
 use Rattle.forest.specs.Rows.{itemsIn}
-use Rattle.routing.specs.declared.Figures.{Figures}
-use Rattle.routing.specs.Crosspoints.{Cells, legal, opened, Answer, answer}
-use Rattle.routing.proofs.Opened.{open-legal}
+use Rattle.crosspoints.specs.declared.Figures.{Figures}
+use Rattle.crosspoints.specs.Crosspoints.{Cells, legal, opened, Answer, answer}
+use Rattle.crosspoints.proofs.Opened.{open-legal}
 use Rattle.routing.proofs.Claims.{request-legal, refused-same, request-length}
 use Rattle.desk_calls.specs.Connections.{Ask, askOf, asksIn, asksOf}
 use Rattle.desk_calls.specs.Calls.{Request, requests, pathFits, deskLegal, deskOpened, same, answered, Served, answers, served, handled, Outcome, outcome, laid}

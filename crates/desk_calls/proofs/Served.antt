@@ -12,12 +12,12 @@ use Rattle.entries.specs.declared.Cell.{Cell}
 use Rattle.forest.specs.Content.{Item, contentOf}
 use Rattle.forest.specs.Rows.{itemsIn}
 use Rattle.tree_sizes.specs.Sizes.{rowCell}
-use Rattle.routing.specs.declared.Figures.{Figures}
-use Rattle.routing.specs.Crosspoints.{Cells, Answer, answer}
+use Rattle.crosspoints.specs.declared.Figures.{Figures}
+use Rattle.crosspoints.specs.Crosspoints.{Cells, Answer, answer}
 use Rattle.desk_calls.specs.Connections.{numberOf, octetsOf, numbersIn, nobody, fullPath, askOf, asksIn, memberOf}
 use Rattle.desk_calls.specs.Calls.{Request, requests, same, answered, Served, answers, served, handled, outcome, laid}
 use Rattle.desk_calls.specs.Steps.{laidAt, answeredAt, servedIn, leftFrom, Takes}
-use Rattle.routing.specs.Figures.{side}
+use Rattle.crosspoints.specs.Figures.{side}
 use Rattle.desk_calls.proofs.Items.{in-length, in-kind, in-parent, in-first, in-second, in-third}
 use Rattle.desk_calls.proofs.Sources.{append-again}
 

@@ -9,12 +9,13 @@ use lib.ListN.{length, getD, set}
 use lib.Seq.{getD-set-same, getD-set-other, set-set, ext-getD}
 use lib.Dec.{ltb, leb, eqb}
 use Rattle.integers.specs.Digits.{pick}
-use Rattle.routing.specs.declared.Figures.{Figures}
-use Rattle.routing.specs.Figures.{both}
-use Rattle.routing.specs.Crosspoints.{Cells, count, clear, rowAt, takenFrom, legal, Answer, answer}
+use Rattle.crosspoints.specs.declared.Figures.{Figures}
+use Rattle.crosspoints.specs.Figures.{both}
+use Rattle.crosspoints.specs.Crosspoints.{Cells, count, clear, rowAt, takenFrom, legal, Answer, answer}
 use Rattle.routing.specs.Request.{marked, named, allBelow, replaces, becomes, takes, others, result, many, overTotal, judged, asked, requested}
-use Rattle.routing.proofs.Laws.{both-right, fit-sources-le}
-use Rattle.routing.proofs.Answers.{legal-fit, request-legal-not}
+use Rattle.crosspoints.proofs.Laws.{both-right, fit-sources-le}
+use Rattle.crosspoints.proofs.Legal.{legal-fit}
+use Rattle.routing.proofs.Answers.{request-legal-not}
 use Rattle.routing.proofs.Rows.{marked-length, named-other, named-one}
 use Rattle.desk_calls.specs.Steps.{has}
 

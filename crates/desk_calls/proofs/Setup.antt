@@ -15,10 +15,10 @@ use Rattle.forest.specs.Content.{Item}
 use Rattle.forest.specs.Rows.{itemsIn}
 use Rattle.member_sizes.specs.Spelling.{leastReal}
 use Rattle.tree_sizes.specs.Accepted.{accepted, fits, lengthOf, isWhole, octetsOf}
-use Rattle.routing.specs.declared.Figures.{Figures}
-use Rattle.routing.specs.Figures.{both}
-use Rattle.routing.specs.Crosspoints.{Cells, legal, opened, answer}
-use Rattle.routing.proofs.Laws.{both-left, both-right, both-no, both-yes}
+use Rattle.crosspoints.specs.declared.Figures.{Figures}
+use Rattle.crosspoints.specs.Figures.{both}
+use Rattle.crosspoints.specs.Crosspoints.{Cells, legal, opened, answer}
+use Rattle.crosspoints.proofs.Laws.{both-left, both-right, both-no, both-yes}
 use Rattle.desk_calls.specs.Calls.{allNumbers, pathFits, deskLegal, deskOpened, handled, outcome, laid, isReady, called}
 use Rattle.desk_calls.proofs.Items.{in-length}
 

@@ -9,12 +9,13 @@ use lib.ListN.{length, take, getD, set, length-set}
 use lib.Seq.{getD-set-same, take-suc-set}
 use lib.Dec.{eqb}
 use Rattle.integers.specs.Digits.{pick}
-use Rattle.routing.specs.declared.Figures.{Figures}
-use Rattle.routing.specs.Figures.{side}
-use Rattle.routing.specs.Crosspoints.{Cells, count, clear, Answer}
+use Rattle.crosspoints.specs.declared.Figures.{Figures}
+use Rattle.crosspoints.specs.Figures.{side}
+use Rattle.crosspoints.specs.Crosspoints.{Cells, count, clear, Answer}
 use Rattle.routing.specs.Request.{marked, named}
-use Rattle.routing.proofs.Laws.{bit-set, bit-clear, count-le}
-use Rattle.routing.proofs.Rows.{clear-cell, clear-count, named-length}
+use Rattle.crosspoints.proofs.Laws.{bit-set, bit-clear, count-le}
+use Rattle.crosspoints.proofs.Counts.{clear-cell, clear-count}
+use Rattle.routing.proofs.Rows.{named-length}
 use Rattle.desk_calls.specs.Connections.{numbersIn}
 use Rattle.desk_calls.specs.Calls.{requests}
 use Rattle.desk_calls.specs.Steps.{has, once, Kept, Handed}

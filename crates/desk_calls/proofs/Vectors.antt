@@ -5,11 +5,11 @@ use mathlib.Core.List.{List, [], _∷_}
 use mathlib.Core.Bool.{true, false}
 use Rattle.forest.specs.Content.{Content, nothing, word, bytes, Item, item}
 use Rattle.identifiers.specs.Identifier.{arcIs, arcFrom, arcAt, arcsFrom}
-use Rattle.routing.specs.declared.Limit.the-variants.{Absent}
-use Rattle.routing.specs.declared.Figures.{Figures}
-use Rattle.routing.specs.Figures.{isCount, figuresFit, mostEach, mostTotal}
-use Rattle.routing.specs.Crosspoints.{Cells, bit, count, allBits, clear, rowAt, withRow, holders, takenFrom, mostAt, rowFits, rowsFit, sourcesFit}
-use Rattle.routing.specs.Crosspoints.{kindFits, cellsFit, legal}
+use Rattle.crosspoints.specs.declared.Limit.the-variants.{Absent}
+use Rattle.crosspoints.specs.declared.Figures.{Figures}
+use Rattle.crosspoints.specs.Figures.{isCount, figuresFit, mostEach, mostTotal}
+use Rattle.crosspoints.specs.Crosspoints.{Cells, bit, count, allBits, clear, rowAt, withRow, holders, takenFrom, mostAt, rowFits, rowsFit, sourcesFit}
+use Rattle.crosspoints.specs.Crosspoints.{kindFits, cellsFit, legal}
 use Rattle.routing.specs.Request.{marked, named, allBelow, replaces, becomes, takes, others, result, many, overTotal, judged, asked, requested}
 use Rattle.desk_calls.specs.Connections.{numbersIn, isQualified, pathUp, fullPath, ask, askOf, asksIn}
 use Rattle.desk_calls.specs.Calls.{same, answered, answers, served, handled, pathFits, allNumbers, deskLegal, outcome, laid, isReady, called}

@@ -9,9 +9,9 @@ use Rattle.entries.specs.Entry.{Rows}
 use Rattle.forest.specs.Content.{Item}
 use Rattle.forest.specs.Rows.{itemsIn}
 use Rattle.tree_sizes.specs.Accepted.{accepted}
-use Rattle.routing.specs.declared.Figures.{Figures}
-use Rattle.routing.specs.Figures.{both}
-use Rattle.routing.specs.Crosspoints.{Cells, legal, opened, Answer, answer}
+use Rattle.crosspoints.specs.declared.Figures.{Figures}
+use Rattle.crosspoints.specs.Figures.{both}
+use Rattle.crosspoints.specs.Crosspoints.{Cells, legal, opened, Answer, answer}
 use Rattle.routing.specs.Request.{requested}
 use Rattle.desk_calls.specs.declared.Called.{Called}
 use Rattle.desk_calls.specs.declared.Called.the-variants.{Setup, Done}

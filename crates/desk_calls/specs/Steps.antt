@@ -6,13 +6,13 @@ use mathlib.Core.Bool.{Bool, true, false}
 use lib.ListN.{length, take, drop, getD}
 use lib.Dec.{eqb}
 use Rattle.integers.specs.Digits.{pick}
-use Rattle.routing.specs.declared.Figures.{Figures}
+use Rattle.crosspoints.specs.declared.Figures.{Figures}
 use Rattle.entries.specs.Entry.{Rows}
 use Rattle.entries.specs.declared.Cell.{Cell}
 use Rattle.forest.specs.Content.{contentOf}
 use Rattle.forest.specs.Rows.{itemsIn}
-use Rattle.routing.specs.Figures.{side}
-use Rattle.routing.specs.Crosspoints.{Cells, count, Answer}
+use Rattle.crosspoints.specs.Figures.{side}
+use Rattle.crosspoints.specs.Crosspoints.{Cells, count, Answer}
 use Rattle.routing.specs.Request.{named}
 use Rattle.desk_calls.specs.Connections.{octetsOf, numbersIn, nobody, askOf, asksIn}
 use Rattle.desk_calls.specs.Calls.{requests, answered, Served, served, handled, Outcome, outcome, laid}

@@ -1,8 +1,8 @@
 // The desk's call on a message's entries, as the tree reader left them.
+use crosspoints::Figures;
 use entries::Cell;
 use identifiers::Arc;
 use identifiers::Oid;
-use routing::Figures;
 use tree_sizes::cell_at;
 ghost use mathlib.Core.Path.{_≡_};
 ghost use mathlib.Core.List.{List, []};
@@ -11,8 +11,8 @@ ghost use Prim.Native.Nat.{ℕ, _+_, _-_, _≤_, _<_};
 ghost use lib.ListN.{length, getD, take, drop};
 ghost use Rattle.forest.specs.Content.{contentOf};
 ghost use Rattle.forest.specs.Rows.{itemsIn};
-ghost use Rattle.routing.specs.Figures.{side};
-ghost use Rattle.routing.specs.Crosspoints.{clear, legal, answer};
+ghost use Rattle.crosspoints.specs.Figures.{side};
+ghost use Rattle.crosspoints.specs.Crosspoints.{clear, legal, answer};
 ghost use Rattle.identifiers.specs.Identifier.{arcAt, oidAt};
 ghost use Rattle.desk_calls.specs.Connections.{numberOf, octetsOf, numbersIn, endOf, stepOf, Left, Goes, isQualified, fullPath};
 ghost use Rattle.desk_calls.specs.Calls.{pathFits, deskLegal, deskOpened, same, called, outcome, told};
@@ -66,7 +66,7 @@ pub fn is_legal(f: Figures, path: &[u64], crosspoints: &[u8]) -> bool
     if !path_fits(path) {
         return false;
     }
-    routing::is_legal(f, crosspoints)
+    crosspoints::is_legal(f, crosspoints)
 }
 
 // Opens a desk: 0 and its crosspoints cleared; 45, or 1 for crosspoints of another count, and they stay as they were.
@@ -74,7 +74,7 @@ pub fn open(f: Figures, mode: u64, path: &[u64], crosspoints: &mut [u8]) -> u64
     ensures { λ r. ⌜ deskOpened side f (now (path .entry)) mode (now (crosspoints .entry)) ≡ answer r (now (crosspoints .exit)) ⌝ }
 {
     if path_fits(path) {
-        return routing::open(f, mode, crosspoints);
+        return crosspoints::open(f, mode, crosspoints);
     }
     if crosspoints.len() != 4096 {
         return 1;

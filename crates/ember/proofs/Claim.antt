@@ -22,9 +22,9 @@ use Rattle.session_words.specs.Words.{wordsOf, sessionAt}
 use Rattle.framing_c.specs.Calls.{Called, accepts, told as framed, calls}
 use Rattle.session_words.proofs.Laws.{words-back}
 use Rattle.entries.specs.Entry.{Rows}
-use Rattle.routing.specs.Figures.{both}
-use Rattle.routing.specs.Crosspoints.{Cells}
-use Rattle.routing.proofs.Laws.{both-left, both-right}
+use Rattle.crosspoints.specs.Figures.{both}
+use Rattle.crosspoints.specs.Crosspoints.{Cells}
+use Rattle.crosspoints.proofs.Laws.{both-left, both-right}
 use Rattle.turns.specs.declared.After.{After}
 use Rattle.turns.specs.Rules.{Desk, isLegal}
 use Rattle.turns.specs.Turns as claim

@@ -13,11 +13,11 @@ use Rattle.glow.specs.declared.Answer as tree
 use Rattle.glow.specs.declared.Answer.the-variants as trees
 use Rattle.glow.specs.Message.{saidBy}
 use Rattle.framing_c.specs.Calls.{calls}
-use Rattle.routing.specs.declared.Figures.{Figures}
-use Rattle.routing.specs.declared.Limit.{Limit}
-use Rattle.routing.specs.declared.Limit.the-variants.{Absent, Most}
-use Rattle.routing.specs.Figures.{side, both}
-use Rattle.routing.specs.Crosspoints.{Cells, Answer, answer}
+use Rattle.crosspoints.specs.declared.Figures.{Figures}
+use Rattle.crosspoints.specs.declared.Limit.{Limit}
+use Rattle.crosspoints.specs.declared.Limit.the-variants.{Absent, Most}
+use Rattle.crosspoints.specs.Figures.{side, both}
+use Rattle.crosspoints.specs.Crosspoints.{Cells, Answer, answer}
 use Rattle.routing.specs.Request.{requested}
 use Rattle.desk_calls.specs.declared.Called as asked
 use Rattle.desk_calls.specs.declared.Called.the-variants.{Setup, Done}

@@ -22,10 +22,10 @@ use Rattle.session_words.specs.Words.{wordsOf, sessionAt}
 use Rattle.framing_c.specs.Calls.{accepts, told as framed, calls}
 use Rattle.session_words.proofs.Laws.{words-back, words-session}
 use Rattle.entries.specs.Entry.{Rows}
-use Rattle.routing.specs.declared.Figures.{Figures}
-use Rattle.routing.specs.Figures.{side, both, figuresFit}
-use Rattle.routing.specs.Crosspoints.{Cells, cellsFit, legal}
-use Rattle.routing.proofs.Laws.{both-left, both-right}
+use Rattle.crosspoints.specs.declared.Figures.{Figures}
+use Rattle.crosspoints.specs.Figures.{side, both, figuresFit}
+use Rattle.crosspoints.specs.Crosspoints.{Cells, cellsFit, legal}
+use Rattle.crosspoints.proofs.Laws.{both-left, both-right}
 use Rattle.desk_calls.specs.Calls.{pathFits, allNumbers}
 use Rattle.desk_calls.proofs.Setup.{desk-fits, desk-legal, path-short}
 use Rattle.turns.specs.Rules.{Desk, isLegal, keep, tells, after}

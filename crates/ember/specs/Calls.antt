@@ -10,8 +10,8 @@ use Rattle.integers.specs.Digits.{pick}
 use Rattle.entries.specs.Entry.{Rows}
 use Rattle.glow.specs.Message.{saidBy, Said}
 use Rattle.framing_c.specs.Calls.{Called, calls}
-use Rattle.routing.specs.Figures.{side, both}
-use Rattle.routing.specs.Crosspoints.{Cells, Answer, answer}
+use Rattle.crosspoints.specs.Figures.{side, both}
+use Rattle.crosspoints.specs.Crosspoints.{Cells, Answer, answer}
 use Rattle.routing.specs.Request.{requested}
 use Rattle.desk_calls.specs.Calls.{deskLegal, deskOpened, Outcome, called}
 use Rattle.turns.specs.Rules.{Desk}

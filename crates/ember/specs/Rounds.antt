@@ -7,7 +7,7 @@ use lib.ListN.{length, getD, drop}
 use Rattle.framing.specs.Rules.{Said}
 use Rattle.framing.specs.Session.{saidBy}
 use Rattle.entries.specs.Entry.{Rows}
-use Rattle.routing.specs.Crosspoints.{Cells}
+use Rattle.crosspoints.specs.Crosspoints.{Cells}
 use Rattle.turns.specs.declared.After.{After}
 use Rattle.turns.specs.Turns as claim
 use Rattle.turns.specs.Whole.{laterOf}

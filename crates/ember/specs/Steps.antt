@@ -3,7 +3,7 @@ use Prim.Native.Nat.{ℕ}
 use mathlib.Core.Path.{_≡_}
 use mathlib.Core.List.{List, [], _∷_}
 use Rattle.entries.specs.Entry.{Rows}
-use Rattle.routing.specs.Crosspoints.{Cells}
+use Rattle.crosspoints.specs.Crosspoints.{Cells}
 use Rattle.turns.specs.declared.After.{After}
 use Rattle.turns.specs.Whole.{laterOf}
 use Rattle.ember.specs.declared.after.Six.{Six}

@@ -5,10 +5,10 @@ use mathlib.Core.List.{List, [], _∷_}
 use lib.Dec.{eqb}
 use lib.ListN.{length, getD}
 use Rattle.integers.specs.Digits.{pick}
-use Rattle.routing.specs.declared.Limit.{Limit}
-use Rattle.routing.specs.declared.Limit.the-variants.{Absent, Most}
-use Rattle.routing.specs.declared.Figures.{Figures}
-use Rattle.routing.specs.Figures.{both}
+use Rattle.crosspoints.specs.declared.Limit.{Limit}
+use Rattle.crosspoints.specs.declared.Limit.the-variants.{Absent, Most}
+use Rattle.crosspoints.specs.declared.Figures.{Figures}
+use Rattle.crosspoints.specs.Figures.{both}
 
 abbrev pub givenWord : Limit → ℕ
 givenWord Absent = 0

@@ -7,7 +7,7 @@ ghost use mathlib.Core.List.{List};
 ghost use Prim.Native.Nat.{ℕ};
 ghost use Rattle.glow.specs.Message.{saidBy};
 ghost use Rattle.entries.specs.Entry.{Rows};
-ghost use Rattle.routing.specs.Crosspoints.{Cells};
+ghost use Rattle.crosspoints.specs.Crosspoints.{Cells};
 ghost use Rattle.desk_calls.specs.Calls.{told};
 ghost use Rattle.ember.specs.Calls.{treeWords, deskWords};
 ghost use Rattle.ember.specs.Steps.{wordsIn, Words};

@@ -4,8 +4,8 @@ mod sheet;
 mod words;
 
 use after::Six;
+use crosspoints::Figures;
 use desk_calls::Called;
-use routing::Figures;
 use turns::After;
 ghost use mathlib.Core.Path.{_≡_};
 ghost use mathlib.Core.List.{List, [], _∷_};
@@ -14,7 +14,7 @@ ghost use lib.ListN.{length, take};
 ghost use Rattle.framing_writer.specs.Written.{frame, requestBody, responseBody, into, frameInto, messageInto};
 ghost use Rattle.framing_c.specs.Calls.{starts, calls, puts};
 ghost use Rattle.glow_c.specs.Calls.{call, calls as readCalls, writing, writeCalls, acceptCalls};
-ghost use Rattle.routing.specs.Crosspoints.{Cells, answer as answered};
+ghost use Rattle.crosspoints.specs.Crosspoints.{Cells, answer as answered};
 ghost use Rattle.desk_calls.specs.Calls.{told};
 ghost use Rattle.turns.specs.Whole.{deskAt, gave};
 ghost use Rattle.ember.specs.Calls.{opens, legals, requests, counted, deskCall, deskCalls, lengthsFit, next, turned, turns};

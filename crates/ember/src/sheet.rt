@@ -6,7 +6,7 @@ ghost use mathlib.Core.List.{List};
 ghost use Prim.Native.Nat.{ℕ};
 ghost use lib.ListN.{length};
 ghost use Rattle.entries.specs.Entry.{Rows};
-ghost use Rattle.routing.specs.Crosspoints.{Cells};
+ghost use Rattle.crosspoints.specs.Crosspoints.{Cells};
 ghost use Rattle.sheet_writer.specs.Calls.{told as wroteAs};
 ghost use Rattle.sheet_reader.specs.Calls.{told as readAs};
 ghost use Rattle.ember.specs.Calls.{measured, sheetPut, given, sheetCall};

@@ -1,6 +1,6 @@
 // A desk's figures as seven words, and back.
-use routing::Figures;
-use routing::Limit;
+use crosspoints::Figures;
+use crosspoints::Limit;
 ghost use mathlib.Core.Path.{_≡_};
 ghost use lib.ListN.{length, set};
 ghost use Rattle.ember.specs.Words.{givenWord, limitWord, wordsOf, limitAt, figuresAt, isLimit, isFigures};

@@ -8,11 +8,11 @@ use borrow.Author.Tests.{leb-true, leb-false, eqb-true, lt-leb, le-leb, lt-ltb, 
 use lib.ListN.{length}
 use lib.Dec.{leb, ltb, eqb}
 use Rattle.integers.specs.Digits.{pick}
-use Rattle.routing.specs.declared.Figures.{Figures}
-use Rattle.routing.specs.Figures.{both, figuresFit, mostEach, mostTotal}
-use Rattle.routing.specs.Crosspoints.{Cells, count, allBits, rowAt, withRow, rowsFit, kindFits, cellsFit, legal, answer}
+use Rattle.crosspoints.specs.declared.Figures.{Figures}
+use Rattle.crosspoints.specs.Figures.{both, figuresFit, mostEach, mostTotal}
+use Rattle.crosspoints.specs.Crosspoints.{Cells, count, rowAt, withRow, legal, answer}
+use Rattle.crosspoints.proofs.Legal.{legal-fit, legal-length}
 use Rattle.routing.specs.Request.{named, allBelow, becomes, others, result, many, overTotal, judged, asked, sized, unjudged, requested}
-use Rattle.routing.proofs.Laws.{both-yes, both-left, both-right}
 use Rattle.routing.proofs.Parts.{others-kind}
 
 pub over-not : (m n : ℕ) (b : Bool) → leb n m ≡ b → ltb m n ≡ not b
@@ -134,23 +134,8 @@ module _ (w : ℕ) (f : Figures) (target : ℕ) (l : List ℕ) (operation : ℕ)
   unfolding unjudged sized
   unjudged-asked h n o = simp (h, eq-eqb _ _ n, le-leb _ _ o)
 
--- what a legal desk tells
+-- on a legal desk a request needs no judging
 module _ (w : ℕ) (f : Figures) (cells : Cells) (h : legal w f cells ≡ true) where
-  pub legal-fit : figuresFit w f ≡ true
-  unfolding legal
-  legal-fit = both-left (figuresFit w f) (cellsFit w f cells) h
-
-  pub legal-cells-fit : cellsFit w f cells ≡ true
-  unfolding legal
-  legal-cells-fit = both-right (figuresFit w f) (cellsFit w f cells) h
-
-  pub legal-length : length cells ≡ w * w
-  unfolding cellsFit
-  legal-length =
-      eqb-true (length cells) (w * w)
-      (both-left (eqb (length cells) (w * w)) (both (allBits cells) (both (rowsFit w f cells w) (kindFits w f cells))) legal-cells-fit)
-
-  -- on a legal desk a request needs no judging
   pub unjudged-legal : (target : ℕ) (l : List ℕ) (operation : ℕ) → unjudged w f target l operation cells ≡ requested w f target l operation cells
   unfolding unjudged sized requested
-  unjudged-legal target l operation = rw (legal-fit, eq-eqb _ _ legal-length, h)
+  unjudged-legal target l operation = rw (legal-fit w f cells h, eq-eqb _ _ (legal-length w f cells h), h)

@@ -11,25 +11,21 @@ use lib.ListN.{length, drop, getD}
 use lib.Dec.{leb, ltb, eqb}
 use Rattle.integers.specs.Digits.{pick}
 use Rattle.integers.proofs.Radix.{lt-or-le}
-use Rattle.routing.specs.declared.Figures.{Figures}
-use Rattle.routing.specs.Figures.{both, figuresFit, isCount, isLimit, mostEach, mostTotal}
-use Rattle.routing.specs.Crosspoints.{Cells, count, rowAt, withRow, takenFrom, rowFits, legal, Answer, answer}
+use Rattle.crosspoints.specs.declared.Figures.{Figures}
+use Rattle.crosspoints.specs.Figures.{both, mostEach, mostTotal}
+use Rattle.crosspoints.specs.Crosspoints.{Cells, count, rowAt, withRow, takenFrom, rowFits, legal, Answer, answer}
+use Rattle.crosspoints.proofs.Laws.{both-left, both-right, both-yes, fit-kind-le, fit-sources-le, fit-targets-le, each-one, at-there, kind-many}
+use Rattle.crosspoints.proofs.Under.{Under, under-count, under-drop, row-cell, row-past, row-length, bits-tell}
+use Rattle.crosspoints.proofs.Under.{fits-most, fits-past, rows-tell, with-inside}
+use Rattle.crosspoints.proofs.Counts.{count-none}
+use Rattle.crosspoints.proofs.Legal.{legal-fit, legal-length, legal-bits, legal-rows, legal-kind, legal-row-there}
+use Rattle.crosspoints.proofs.Kept.{Single, after-other, after-under, after-legal}
 use Rattle.routing.specs.Request.{marked, named, allBelow, replaces, becomes, takes, others, result, many, overTotal, judged, asked, requested}
-use Rattle.routing.proofs.Laws.{both-left, both-right, both-yes, replaces-if, fit-sources-le, fit-targets-le, each-one, at-there, kind-many}
-use Rattle.routing.proofs.Laws.{becomes-less, becomes-list, becomes-one, becomes-more}
+use Rattle.routing.proofs.Laws.{replaces-if, becomes-less, becomes-list, becomes-one, becomes-more}
 use Rattle.routing.proofs.Parts.{first-below, others-kind, others-take}
-use Rattle.routing.proofs.Answers.{legal-fit, legal-length, request-asked}
-use Rattle.routing.proofs.Under.{Under, under-count, under-drop, row-cell, row-past, row-length, bits-tell}
-use Rattle.routing.proofs.Under.{fits-most, fits-past, rows-tell, with-inside}
-use Rattle.routing.proofs.Rows.{count-none, taken-length, taken-under, taken-cell, marked-length, marked-under, marked-bits, marked-past}
+use Rattle.routing.proofs.Answers.{request-asked}
+use Rattle.routing.proofs.Rows.{taken-length, taken-under, taken-cell, marked-length, marked-under, marked-bits, marked-past}
 use Rattle.routing.proofs.Rows.{named-length, named-bits, named-past, named-none, named-other, named-one}
-use Rattle.routing.proofs.Kept.{Single, legal-bits, legal-rows, legal-kind, legal-row-there, after-other, after-under, after-legal}
-
-pub fit-kind-le : (w : ℕ) (f : Figures) → figuresFit w f ≡ true → f .kind ≤ 2
-unfolding figuresFit
-fit-kind-le w f h =
-    leb-true (f .kind) 2
-    (both-left (leb (f .kind) 2) (both (isCount w (f .targets)) (both (isCount w (f .sources)) (both (isLimit (f .total)) (isLimit (f .each))))) h)
 
 marked-none : (v : ℕ) (r : Cells) → marked v r [] ≡ r
 unfolding marked

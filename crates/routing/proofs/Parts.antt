@@ -7,17 +7,12 @@ use native.Mathlib.Omega.{arith}
 use borrow.Author.Tests.{lt-ltb, le-ltb, ne-eqb, ltb-true}
 use lib.ListN.{length, take, drop, getD, take-append-drop}
 use lib.Seq.{drop-drop}
-use Rattle.routing.proofs.Laws.{count-le}
 use lib.Dec.{ltb}
 use Rattle.integers.specs.Digits.{pick}
-use Rattle.routing.specs.declared.Figures.{Figures}
-use Rattle.routing.specs.Crosspoints.{Cells, count, rowAt, withRow, takenFrom}
+use Rattle.crosspoints.specs.declared.Figures.{Figures}
+use Rattle.crosspoints.specs.Crosspoints.{Cells, count, rowAt, withRow, takenFrom}
+use Rattle.crosspoints.proofs.Laws.{count-le, count-append}
 use Rattle.routing.specs.Request.{named, allBelow, takes, others}
-
-pub count-append : (a b : Cells) → count (a ++ b) ≡ count a + count b
-unfolding count
-count-append [] b = omega arith
-count-append (x ∷ xs) b = omega (arith, count-append xs b)
 
 module _ (w : ℕ) (f : Figures) (l : List ℕ) (operation : ℕ) (cells : Cells) where
   pub others-kind : (f .kind ≡ 1 → ⊥) → others w f l operation cells ≡ cells

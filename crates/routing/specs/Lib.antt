@@ -1,4 +1,2 @@
-pub mod Figures
-pub mod Crosspoints
 pub mod Request
 pub mod Vectors

@@ -5,9 +5,9 @@ use mathlib.Core.Bool.{Bool, true, false}
 use lib.ListN.{length, getD, set}
 use lib.Dec.{leb, ltb, eqb}
 use Rattle.integers.specs.Digits.{pick}
-use Rattle.routing.specs.declared.Figures.{Figures}
-use Rattle.routing.specs.Figures.{oneToOne, nToN, both, figuresFit, mostEach, mostTotal}
-use Rattle.routing.specs.Crosspoints.{Cells, count, clear, rowAt, withRow, takenFrom, legal, Answer, answer}
+use Rattle.crosspoints.specs.declared.Figures.{Figures}
+use Rattle.crosspoints.specs.Figures.{oneToOne, nToN, both, figuresFit, mostEach, mostTotal}
+use Rattle.crosspoints.specs.Crosspoints.{Cells, count, clear, rowAt, withRow, takenFrom, legal, Answer, answer}
 
 -- "Operations: absolute (0, default) .., connect (1) .., disconnect (2)"
 abbrev pub absolute : ℕ

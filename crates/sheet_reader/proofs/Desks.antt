@@ -14,10 +14,10 @@ use Rattle.entries.specs.declared.Cell.{Cell}
 use Rattle.forest.specs.Content.{Item, contentOf}
 use Rattle.forest.specs.Rows.{itemsIn}
 use Rattle.tree_sizes.specs.Accepted.{accepted}
-use Rattle.routing.specs.declared.Figures.{Figures}
-use Rattle.routing.specs.Figures.{both, figuresFit}
-use Rattle.routing.specs.Crosspoints.{Cells, clear, Answer, answer, opened}
-use Rattle.routing.proofs.Rows.{clear-length}
+use Rattle.crosspoints.specs.declared.Figures.{Figures}
+use Rattle.crosspoints.specs.Figures.{both, figuresFit}
+use Rattle.crosspoints.specs.Crosspoints.{Cells, clear, Answer, answer, opened}
+use Rattle.crosspoints.proofs.Counts.{clear-length}
 use Rattle.desk_calls.specs.declared.Called.{Called}
 use Rattle.desk_calls.specs.declared.Called.the-variants.{Setup as Unready, Done}
 use Rattle.tree_sizes.specs.Sizes.{rowCell}

@@ -13,8 +13,8 @@ use Rattle.entries.specs.Entry.{Rows}
 use Rattle.entries.specs.declared.Cell.{Cell}
 use Rattle.forest.specs.Content.{nothing, bytes, wrong, Item, contentOf, contentsOf, itemsOf, isPart, isWord}
 use Rattle.forest.specs.Rows.{cellsFrom, entriesOf, itemsIn}
-use Rattle.routing.specs.declared.Limit.{Limit}
-use Rattle.routing.specs.declared.Limit.the-variants.{Absent, Most}
+use Rattle.crosspoints.specs.declared.Limit.{Limit}
+use Rattle.crosspoints.specs.declared.Limit.the-variants.{Absent, Most}
 use Rattle.tree_sizes.specs.Sizes.{rowCell}
 use Rattle.desk_calls.specs.Connections.{numberOf, memberOf, nobody}
 use Rattle.desk_calls.proofs.Items.{in-length, in-kind}

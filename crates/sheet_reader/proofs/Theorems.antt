@@ -15,9 +15,9 @@ use Rattle.containers.proofs.Heads.{pick-by}
 use Rattle.entries.specs.Entry.{Entries, Rows}
 use Rattle.forest.specs.Content.{Item, itemsOf}
 use Rattle.walk.specs.Walk.{walk}
-use Rattle.routing.specs.declared.Figures.{Figures}
-use Rattle.routing.specs.Figures.{side, both}
-use Rattle.routing.specs.Crosspoints.{Cells, clear}
+use Rattle.crosspoints.specs.declared.Figures.{Figures}
+use Rattle.crosspoints.specs.Figures.{side, both}
+use Rattle.crosspoints.specs.Crosspoints.{Cells, clear}
 use Rattle.desk_calls.specs.Calls.{deskLegal, deskOpened, handled}
 use Rattle.desk_calls.proofs.Setup.{desk-fits, desk-legal, desk-rest}
 use Rattle.desk_calls.proofs.Claims.{desk-opened-legal, handled-legal}

@@ -10,7 +10,7 @@ use lib.ListN.{length, take}
 use Rattle.integers.specs.Digits.{pick}
 use Rattle.entries.specs.Entry.{Rows}
 use Rattle.framing.specs.Numbers.{storeLength}
-use Rattle.routing.specs.Figures.{both}
+use Rattle.crosspoints.specs.Figures.{both}
 use Rattle.sheets.specs.Lines.{linesIn}
 use Rattle.sheets.specs.Reading.{Held, refusal, message, heldIn, ofHeld, ofMessage, readSheet}
 use Rattle.sheet_stream.specs.declared.Found.{Found}

@@ -8,9 +8,9 @@ use lib.Dec.{eqb}
 use Rattle.integers.specs.Digits.{pick}
 use Rattle.entries.specs.Entry.{Rows}
 use Rattle.framing.specs.Numbers.{storeLength}
-use Rattle.routing.specs.declared.Figures.{Figures}
-use Rattle.routing.specs.Figures.{both}
-use Rattle.routing.specs.Crosspoints.{Cells}
+use Rattle.crosspoints.specs.declared.Figures.{Figures}
+use Rattle.crosspoints.specs.Figures.{both}
+use Rattle.crosspoints.specs.Crosspoints.{Cells}
 use Rattle.sheets.specs.Reading as reading
 use Rattle.sheets.specs.Reading.{readSheet}
 use Rattle.sheet_reader.specs.declared.Sheet.{Sheet}

@@ -10,9 +10,9 @@ use Rattle.entries.specs.Entry.{Rows}
 use Rattle.grammar.specs.Grammar.{qualifiedMatrix}
 use Rattle.forest.specs.Content.{Item, itemOf}
 use Rattle.forest.specs.Rows.{entryOf}
-use Rattle.routing.specs.declared.Figures.{Figures}
-use Rattle.routing.specs.Figures.{both}
-use Rattle.routing.specs.Crosspoints.{Cells}
+use Rattle.crosspoints.specs.declared.Figures.{Figures}
+use Rattle.crosspoints.specs.Figures.{both}
+use Rattle.crosspoints.specs.Crosspoints.{Cells}
 use Rattle.sheets.specs.Sheet.{desk}
 use Rattle.sheets.specs.Reading as reading
 use Rattle.sheets.specs.Reading.{refused, read, allLinks}

@@ -1,9 +1,9 @@
 // The route sheet reader: from a sheet's text to a desk, or the first refusal.
+use crosspoints::Figures;
+use crosspoints::Limit;
 use desk_calls::Called;
 use entries::Cell;
 use glow::Answer;
-use routing::Figures;
-use routing::Limit;
 use sheet_stream::Found;
 ghost use mathlib.Core.Path.{_≡_};
 ghost use mathlib.Core.Bool.{true};
@@ -13,7 +13,7 @@ ghost use lib.ListN.{length, drop};
 ghost use Rattle.forest.specs.Content.{contentOf, isWord};
 ghost use Rattle.forest.specs.Rows.{itemsIn};
 ghost use Rattle.tree_sizes.specs.Accepted.{accepted};
-ghost use Rattle.routing.specs.Figures.{side};
+ghost use Rattle.crosspoints.specs.Figures.{side};
 ghost use Rattle.desk_calls.specs.Connections.{octetsOf, numbersIn};
 ghost use Rattle.sheets.specs.Reading.{firstRefused, limitIn, figuresIn, opens, ofEntries, ofMessage};
 ghost use Rattle.sheet_reader.specs.Calls.{sheetRead, told};

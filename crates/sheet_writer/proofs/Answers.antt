@@ -11,8 +11,8 @@ use Rattle.framing_writer.specs.declared.Written.the-variants as written
 use Rattle.framing_writer.specs.Written.{outcome, into, inPackets}
 use Rattle.framing_writer.specs.Read.{Bytes}
 use Rattle.framing_writer.proofs.Laws.{limited-fits}
-use Rattle.routing.specs.declared.Figures.{Figures}
-use Rattle.routing.specs.Crosspoints.{Cells}
+use Rattle.crosspoints.specs.declared.Figures.{Figures}
+use Rattle.crosspoints.specs.Crosspoints.{Cells}
 use Rattle.desk_calls.specs.Calls.{deskLegal}
 use Rattle.sheets.specs.Sheet.{desk, sheetMessage, sheetOf}
 use Rattle.sheets.specs.Sheet.{breaksInto}

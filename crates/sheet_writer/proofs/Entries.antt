@@ -29,15 +29,14 @@ use Rattle.grammar.specs.Grammar.{qualifiedMatrix, connection}
 use Rattle.read_trees.proofs.Lists.{items-length, flat-length}
 use Rattle.tree_round_trip.proofs.Rows.{rows-items, tree-sixteen}
 use Rattle.tree_round_trip.proofs.Writing.{whole-tree, octets-tree, fits-by, writes-yes}
-use Rattle.routing.specs.declared.Limit.{Limit}
-use Rattle.routing.specs.declared.Limit.the-variants.{Absent, Most}
-use Rattle.routing.specs.declared.Figures.{Figures}
-use Rattle.routing.specs.Figures.{isLimit, figuresFit}
-use Rattle.routing.specs.Crosspoints.{Cells, rowAt}
-use Rattle.routing.proofs.Laws.{both-right, fit-targets-le, fit-sources-le}
-use Rattle.routing.proofs.Claims.{fit-kind-le}
-use Rattle.routing.proofs.Answers.{legal-fit, legal-length}
-use Rattle.routing.proofs.Under.{take-short}
+use Rattle.crosspoints.specs.declared.Limit.{Limit}
+use Rattle.crosspoints.specs.declared.Limit.the-variants.{Absent, Most}
+use Rattle.crosspoints.specs.declared.Figures.{Figures}
+use Rattle.crosspoints.specs.Figures.{isLimit, figuresFit}
+use Rattle.crosspoints.specs.Crosspoints.{Cells, rowAt}
+use Rattle.crosspoints.proofs.Laws.{both-right, fit-targets-le, fit-sources-le, fit-kind-le}
+use Rattle.crosspoints.proofs.Legal.{legal-fit, legal-length}
+use Rattle.crosspoints.proofs.Under.{take-short}
 use Rattle.desk_calls.specs.Calls.{deskLegal}
 use Rattle.sheets.specs.Sheet.{desk, sourcesFrom, sourcesAt, number, list, limit, leftOut, linkMembers, matrixMembers, links, sheetTree, sheetMessage}
 use Rattle.sheets.proofs.Asked.{flat-sheet, path-ok, cells-ok, path-small}

@@ -16,9 +16,9 @@ use Rattle.entries.specs.Entry.{blanks, words, row, Rows}
 use Rattle.framing_writer.specs.Stores.{wrote}
 use Rattle.framing_writer.specs.Stores as stores
 use Rattle.framing_writer.proofs.Laws.{wrote-none}
-use Rattle.routing.specs.declared.Figures.{Figures}
-use Rattle.routing.specs.Crosspoints.{Cells, rowAt}
-use Rattle.routing.proofs.Under.{take-short}
+use Rattle.crosspoints.specs.declared.Figures.{Figures}
+use Rattle.crosspoints.specs.Crosspoints.{Cells, rowAt}
+use Rattle.crosspoints.proofs.Under.{take-short}
 use Rattle.sheets.specs.Sheet.{sourcesFrom, sourcesAt}
 use Rattle.sheet_writer.specs.Steps.{oneSource, numberCell, limitCell, listCell, matrixEntry, linkEntry, Filled, filled, withLink, withLinks}
 

@@ -9,9 +9,9 @@ use lib.ListN.{length, take, drop}
 use Rattle.integers.specs.Digits.{pick}
 use Rattle.framing_writer.specs.Written.{Outcome, into}
 use Rattle.framing_writer.proofs.Laws.{into-back}
-use Rattle.routing.specs.declared.Figures.{Figures}
-use Rattle.routing.specs.Figures.{side}
-use Rattle.routing.specs.Crosspoints.{Cells}
+use Rattle.crosspoints.specs.declared.Figures.{Figures}
+use Rattle.crosspoints.specs.Figures.{side}
+use Rattle.crosspoints.specs.Crosspoints.{Cells}
 use Rattle.desk_calls.specs.Calls.{deskLegal}
 use Rattle.sheets.specs.Sheet.{desk, sheetOf}
 use Rattle.sheets.specs.Reading.{read, readSheet}

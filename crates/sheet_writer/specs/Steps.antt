@@ -11,10 +11,10 @@ use Rattle.entries.specs.Entry.{Entry, blanks, row, Rows}
 use Rattle.grammar.specs.Grammar.{qualifiedMatrix, connection}
 use Rattle.framing_writer.specs.declared.Written.{Written}
 use Rattle.framing_writer.specs.declared.Written.the-variants as written
-use Rattle.routing.specs.declared.Limit.{Limit}
-use Rattle.routing.specs.declared.Limit.the-variants.{Absent, Most}
-use Rattle.routing.specs.declared.Figures.{Figures}
-use Rattle.routing.specs.Crosspoints.{Cells}
+use Rattle.crosspoints.specs.declared.Limit.{Limit}
+use Rattle.crosspoints.specs.declared.Limit.the-variants.{Absent, Most}
+use Rattle.crosspoints.specs.declared.Figures.{Figures}
+use Rattle.crosspoints.specs.Crosspoints.{Cells}
 use Rattle.sheets.specs.Sheet.{sourcesAt}
 use Rattle.sheet_writer.specs.declared.Answer.{Answer}
 use Rattle.sheet_writer.specs.declared.Answer.the-variants as answers

@@ -1,9 +1,9 @@
 // The route sheet writer: a legal desk's sheet, into a lent output.
+use crosspoints::Figures;
+use crosspoints::Limit;
 use entries::Cell;
 use framing_writer::Written;
 use integers::Wrote;
-use routing::Figures;
-use routing::Limit;
 ghost use mathlib.Core.Path.{_≡_};
 ghost use mathlib.Core.Bool.{true};
 ghost use mathlib.Core.List.{[], _∷_};
@@ -15,7 +15,7 @@ ghost use Rattle.forest.specs.Trees.{flat};
 ghost use Rattle.framing_writer.specs.Written.{inPackets};
 ghost use Rattle.framing_writer.specs.Stores.{wrote};
 ghost use Rattle.member_sizes.specs.Sizes.{nextOf};
-ghost use Rattle.routing.specs.Figures.{side};
+ghost use Rattle.crosspoints.specs.Figures.{side};
 ghost use Rattle.desk_calls.specs.Calls.{deskLegal};
 ghost use Rattle.sheets.specs.Sheet.{desk, sourcesFrom, sheetTree, sheetMessage};
 ghost use Rattle.sheet_writer.specs.Calls.{told, writesSheet};

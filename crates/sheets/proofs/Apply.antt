@@ -10,9 +10,9 @@ use lib.ListN.{length, take, drop, getD, set, length-append}
 use lib.Dec.{leb, ltb, eqb}
 use Rattle.integers.specs.Digits.{pick}
 use Rattle.integers.proofs.Radix.{lt-or-le}
-use Rattle.routing.specs.Crosspoints.{Cells, bit, count, clear, holders, takenFrom}
+use Rattle.crosspoints.specs.Crosspoints.{Cells, bit, count, clear, holders, takenFrom}
 use Rattle.routing.specs.Request.{marked, named, allBelow}
-use Rattle.routing.proofs.Laws.{bit-set, bit-clear}
+use Rattle.crosspoints.proofs.Laws.{bit-set, bit-clear}
 use Rattle.sheets.specs.Sheet.{sourcesFrom}
 
 -- ---- the list of a row names the row

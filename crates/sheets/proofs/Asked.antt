@@ -14,15 +14,15 @@ use Rattle.identifiers.proofs.RoundTrip.{arcs-read}
 use Rattle.grammar.specs.Grammar.{qualifiedMatrix, connection}
 use Rattle.forest.specs.Content.{Content, nothing, word, bytes, Item, item}
 use Rattle.forest.specs.Trees.{Trees, none, tree, flat, count}
-use Rattle.routing.specs.declared.Limit.{Limit}
-use Rattle.routing.specs.declared.Limit.the-variants.{Absent, Most}
-use Rattle.routing.specs.declared.Figures.{Figures}
-use Rattle.routing.specs.Figures.{both}
-use Rattle.routing.specs.Crosspoints.{Cells, rowAt, clear, withRow, legal, Answer, answer, opened}
-use Rattle.routing.proofs.Laws.{open-done, both-left, both-right}
-use Rattle.routing.proofs.Answers.{legal-fit}
-use Rattle.routing.proofs.Rows.{clear-length}
-use Rattle.routing.proofs.Under.{take-short}
+use Rattle.crosspoints.specs.declared.Limit.{Limit}
+use Rattle.crosspoints.specs.declared.Limit.the-variants.{Absent, Most}
+use Rattle.crosspoints.specs.declared.Figures.{Figures}
+use Rattle.crosspoints.specs.Figures.{both}
+use Rattle.crosspoints.specs.Crosspoints.{Cells, rowAt, clear, withRow, legal, Answer, answer, opened}
+use Rattle.crosspoints.proofs.Laws.{open-done, both-left, both-right}
+use Rattle.crosspoints.proofs.Legal.{legal-fit}
+use Rattle.crosspoints.proofs.Counts.{clear-length}
+use Rattle.crosspoints.proofs.Under.{take-short}
 use Rattle.desk_calls.specs.Connections.{listOf, numbersIn, octetsOf, isQualified, memberOf, pathUp, fullPath, Ask, ask, askOf, asksIn, asksOf}
 use Rattle.desk_calls.specs.Calls.{allNumbers, pathFits, deskLegal, deskOpened, same, requests, answered, Served, answers, served, handled}
 use Rattle.sheets.specs.Sheet.{Desk, desk, sourcesFrom, sourcesAt, number, identifier, list, limit, leftOut, linkMembers, matrixMembers, links, sheetTree}

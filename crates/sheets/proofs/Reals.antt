@@ -11,10 +11,10 @@ use Rattle.forest.specs.Trees.{Trees, none, tree, flat}
 use Rattle.forest.specs.Legal.{inner, legalRoot}
 use Rattle.forest.specs.Written.{tagged, spelled, memberOctets, membersOctets, wrapped, own, treesOctets, rootNumber, messageOctets, writtenReal}
 use Rattle.tree_round_trip.proofs.Octets.{Octets, message-below}
-use Rattle.routing.specs.declared.Limit.{Limit}
-use Rattle.routing.specs.declared.Limit.the-variants.{Absent, Most}
-use Rattle.routing.specs.declared.Figures.{Figures}
-use Rattle.routing.specs.Crosspoints.{Cells}
+use Rattle.crosspoints.specs.declared.Limit.{Limit}
+use Rattle.crosspoints.specs.declared.Limit.the-variants.{Absent, Most}
+use Rattle.crosspoints.specs.declared.Figures.{Figures}
+use Rattle.crosspoints.specs.Crosspoints.{Cells}
 use Rattle.sheets.specs.Sheet.{Desk, number, identifier, sourcesAt, list, limit, leftOut, linkMembers, matrixMembers, links, sheetTree, sheetMessage}
 
 abbrev noReal : ℕ → List ℕ

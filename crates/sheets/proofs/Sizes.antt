@@ -25,16 +25,14 @@ use Rattle.forest.specs.Legal.{inner}
 use Rattle.forest.specs.Written.{tagged, spelled, memberOctets, membersOctets, wrapped, own, treesOctets, rootNumber, messageOctets, writtenReal}
 use Rattle.read_trees.proofs.Sizes.{length-few, around, tagged-size}
 use Rattle.tree_round_trip.proofs.Octets.{PartOctets, PartsOctets, Octets}
-use Rattle.routing.specs.declared.Limit.{Limit}
-use Rattle.routing.specs.declared.Limit.the-variants.{Absent, Most}
-use Rattle.routing.specs.declared.Figures.{Figures}
-use Rattle.routing.specs.Figures.{both, isLimit, figuresFit}
-use Rattle.routing.specs.Crosspoints.{Cells, rowAt}
-use Rattle.routing.proofs.Laws as routing
-use Rattle.routing.proofs.Laws.{fit-counts, fit-targets-le, fit-sources-le}
-use Rattle.routing.proofs.Claims.{fit-kind-le}
-use Rattle.routing.proofs.Answers.{legal-fit}
-use Rattle.routing.proofs.Under.{take-short}
+use Rattle.crosspoints.specs.declared.Limit.{Limit}
+use Rattle.crosspoints.specs.declared.Limit.the-variants.{Absent, Most}
+use Rattle.crosspoints.specs.declared.Figures.{Figures}
+use Rattle.crosspoints.specs.Figures.{both, isLimit, figuresFit}
+use Rattle.crosspoints.specs.Crosspoints.{Cells, rowAt}
+use Rattle.crosspoints.proofs.Laws.{fit-counts, fit-targets-le, fit-sources-le, fit-kind-le}
+use Rattle.crosspoints.proofs.Legal.{legal-fit}
+use Rattle.crosspoints.proofs.Under.{take-short}
 use Rattle.desk_calls.specs.Calls.{deskLegal}
 use Rattle.sheets.specs.Sheet.{desk, sourcesFrom, sourcesAt, number, list, limit, leftOut, linkMembers, matrixMembers, links, sheetTree, sheetMessage}
 use Rattle.sheets.proofs.Suited.{int-of, path-short, total-fits, each-fits}

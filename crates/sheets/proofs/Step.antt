@@ -11,17 +11,20 @@ use lib.Seq.{getD-drop}
 use lib.Dec.{leb, ltb, eqb}
 use Rattle.integers.specs.Digits.{pick}
 use Rattle.integers.proofs.Radix.{lt-or-le}
-use Rattle.routing.specs.declared.Figures.{Figures}
-use Rattle.routing.specs.Figures.{both, mostEach, mostTotal}
-use Rattle.routing.specs.Crosspoints.{Cells, bit, count, clear, rowAt, withRow, holders, takenFrom, rowFits, legal, answer}
+use Rattle.crosspoints.specs.declared.Figures.{Figures}
+use Rattle.crosspoints.specs.Figures.{both, mostEach, mostTotal}
+use Rattle.crosspoints.specs.Crosspoints.{Cells, bit, count, clear, rowAt, withRow, holders, takenFrom, rowFits, legal, answer}
 use Rattle.routing.specs.Request.{named, allBelow, becomes, others, result, judged, asked, requested}
-use Rattle.routing.proofs.Laws.{at-there, at-none, each-one, kind-one, kind-many, fit-targets-le, fit-sources-le, becomes-list}
+use Rattle.crosspoints.proofs.Laws.{at-there, at-none, each-one, kind-one, kind-many, fit-targets-le, fit-sources-le}
+use Rattle.routing.proofs.Laws.{becomes-list}
 use Rattle.routing.proofs.Parts.{others-kind, others-none, others-take, first-below, row-same}
-use Rattle.routing.proofs.Answers.{legal-fit, legal-length, told-limits, asked-yes, request-asked}
-use Rattle.routing.proofs.Under.{Under, under-count, under-drop, row-cell, row-past, row-length, row-under, with-length, with-before, with-inside, with-after}
-use Rattle.routing.proofs.Under.{rows-apart, bits-tell, fits-most, fits-past, rows-tell, sources-tell}
-use Rattle.routing.proofs.Kept.{Single, legal-bits, legal-rows, legal-kind, legal-row-there, after-under, after-legal}
-use Rattle.routing.proofs.Rows.{bit-zero, bit-one, count-one, named-one, clear-cell, clear-length}
+use Rattle.crosspoints.proofs.Legal.{legal-fit, legal-length, legal-bits, legal-rows, legal-kind, legal-row-there}
+use Rattle.routing.proofs.Answers.{told-limits, asked-yes, request-asked}
+use Rattle.crosspoints.proofs.Under.{Under, under-count, under-drop, row-cell, row-past, row-length, row-under, with-length, with-before, with-inside, with-after}
+use Rattle.crosspoints.proofs.Under.{rows-apart, bits-tell, fits-most, fits-past, rows-tell, sources-tell}
+use Rattle.crosspoints.proofs.Kept.{Single, after-under, after-legal}
+use Rattle.crosspoints.proofs.Counts.{bit-zero, bit-one, count-one, clear-cell, clear-length}
+use Rattle.routing.proofs.Rows.{named-one}
 use Rattle.sheets.specs.Sheet.{sourcesFrom, sourcesAt}
 use Rattle.sheets.proofs.Apply.{row-named, row-below, taken-none, holders-two, same-cells}
 

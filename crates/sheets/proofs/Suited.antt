@@ -17,15 +17,14 @@ use Rattle.forest.specs.Legal.{wordSuits, partSuits, pathSuits, listSuits, suit
 use Rattle.forest.specs.Trees.{Trees, none, tree, among, count}
 use Rattle.grammar.specs.Grammar.{ruleOf, members, contentsOf, contentsRows, holds, required, requirements}
 use Rattle.read_trees.proofs.Bools.{never, both-make}
-use Rattle.routing.specs.declared.Limit.{Limit}
-use Rattle.routing.specs.declared.Limit.the-variants.{Absent, Most}
-use Rattle.routing.specs.declared.Figures.{Figures}
-use Rattle.routing.specs.Figures.{both, isCount, isLimit, figuresFit}
-use Rattle.routing.specs.Crosspoints.{Cells}
-use Rattle.routing.proofs.Laws as routing
-use Rattle.routing.proofs.Laws.{fit-counts, fit-targets-le, fit-sources-le}
-use Rattle.routing.proofs.Claims.{fit-kind-le}
-use Rattle.routing.proofs.Answers.{legal-fit}
+use Rattle.crosspoints.specs.declared.Limit.{Limit}
+use Rattle.crosspoints.specs.declared.Limit.the-variants.{Absent, Most}
+use Rattle.crosspoints.specs.declared.Figures.{Figures}
+use Rattle.crosspoints.specs.Figures.{both, isCount, isLimit, figuresFit}
+use Rattle.crosspoints.specs.Crosspoints.{Cells}
+use Rattle.crosspoints.proofs.Laws as crosspoints
+use Rattle.crosspoints.proofs.Laws.{fit-counts, fit-targets-le, fit-sources-le, fit-kind-le}
+use Rattle.crosspoints.proofs.Legal.{legal-fit}
 use Rattle.desk_calls.specs.Calls.{allNumbers, pathFits, deskLegal}
 use Rattle.sheets.specs.Sheet.{desk, number, identifier, list, limit, leftOut, linkMembers, matrixMembers, sourcesAt, links, sheetTree}
 use Rattle.sheets.proofs.Asked.{arcs-back, row-range, path-ok, cells-ok, path-small}
@@ -62,7 +61,7 @@ path-suits ns r p = ap pathSuits (arcs-back ns r) ∙ p
 limit-suits : (l : Limit) → isLimit l ≡ true → suits 8 (limit l) ≡ true
 unfolding suits
 limit-suits Absent e = refl
-limit-suits (Most n) e = from0-suits n (leb-true n 2147483647 (routing.both-right (leb 1 n) (leb n 2147483647) e))
+limit-suits (Most n) e = from0-suits n (leb-true n 2147483647 (crosspoints.both-right (leb 1 n) (leb n 2147483647) e))
 
 positive : (ns : List ℕ) → allNumbers ns ≡ true → allPositive ns ≡ true
 unfolding allNumbers allPositive
@@ -78,18 +77,18 @@ positive (n ∷ ns) e = go (leb 1 n) refl (leb n 2147483647) e (positive ns)
 pub is-path : (ns : List ℕ) → pathFits ns ≡ true → isPath ns ≡ true
 unfolding pathFits isPath
 is-path ns e =
-    let a = routing.both-left (both (leb 1 (length ns)) (leb (length ns) 16)) (allNumbers ns) e in
-    let l = leb-true 1 (length ns) (routing.both-left (leb 1 (length ns)) (leb (length ns) 16) a) in
+    let a = crosspoints.both-left (both (leb 1 (length ns)) (leb (length ns) 16)) (allNumbers ns) e in
+    let l = leb-true 1 (length ns) (crosspoints.both-left (leb 1 (length ns)) (leb (length ns) 16) a) in
     let p : 0 < length ns = omega arith in
     both-make _ _ (lt-ltb _ _ p)
-    (both-make _ _ (routing.both-right (leb 1 (length ns)) (leb (length ns) 16) a)
-    (positive ns (routing.both-right (both (leb 1 (length ns)) (leb (length ns) 16)) (allNumbers ns) e)))
+    (both-make _ _ (crosspoints.both-right (leb 1 (length ns)) (leb (length ns) 16) a)
+    (positive ns (crosspoints.both-right (both (leb 1 (length ns)) (leb (length ns) 16)) (allNumbers ns) e)))
 
 pub path-short : (ns : List ℕ) → pathFits ns ≡ true → length ns ≤ 16
 unfolding pathFits
 path-short ns e =
     leb-true (length ns) 16
-    (routing.both-right (leb 1 (length ns)) (leb (length ns) 16) (routing.both-left (both (leb 1 (length ns)) (leb (length ns) 16)) (allNumbers ns) e))
+    (crosspoints.both-right (leb 1 (length ns)) (leb (length ns) 16) (crosspoints.both-left (both (leb 1 (length ns)) (leb (length ns) 16)) (allNumbers ns) e))
 
 -- ---- members
 
@@ -99,16 +98,16 @@ link-suited t ns h r = both-make _ _ (from0-suits t h) (both-make _ _ (list-suit
 
 module _ (w : ℕ) (f : Figures) (fit : figuresFit w f ≡ true) where
   rest2 : both (isCount w (f .sources)) (both (isLimit (f .total)) (isLimit (f .each))) ≡ true
-  rest2 = routing.both-right (isCount w (f .targets)) _ (fit-counts w f fit)
+  rest2 = crosspoints.both-right (isCount w (f .targets)) _ (fit-counts w f fit)
 
   rest3 : both (isLimit (f .total)) (isLimit (f .each)) ≡ true
-  rest3 = routing.both-right (isCount w (f .sources)) _ rest2
+  rest3 = crosspoints.both-right (isCount w (f .sources)) _ rest2
 
   pub total-fits : isLimit (f .total) ≡ true
-  total-fits = routing.both-left (isLimit (f .total)) (isLimit (f .each)) rest3
+  total-fits = crosspoints.both-left (isLimit (f .total)) (isLimit (f .each)) rest3
 
   pub each-fits : isLimit (f .each) ≡ true
-  each-fits = routing.both-right (isLimit (f .total)) (isLimit (f .each)) rest3
+  each-fits = crosspoints.both-right (isLimit (f .total)) (isLimit (f .each)) rest3
 
   matrix-suited : w ≤ 64 → (path : List ℕ) → oid.inRange path ≡ true → pathFits path ≡ true → suited 7 0 (matrixMembers f path) ≡ true
   unfolding suited suits ruleAt ruleOf members contentsOf contentsRows leftOut

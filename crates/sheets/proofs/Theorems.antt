@@ -18,11 +18,11 @@ use Rattle.framing_writer.specs.Read.{Bytes}
 use Rattle.framing_writer.specs.Written.{frame, requestBody}
 use Rattle.walk.specs.Walk.{Walk, walk}
 use Rattle.reading_back.proofs.ReadBack.{reads-back, flat-count, written-spells}
-use Rattle.routing.specs.declared.Figures.{Figures}
-use Rattle.routing.specs.Figures.{side}
-use Rattle.routing.specs.Crosspoints.{Cells}
-use Rattle.routing.proofs.Laws.{fit-targets-le}
-use Rattle.routing.proofs.Answers.{legal-fit}
+use Rattle.crosspoints.specs.declared.Figures.{Figures}
+use Rattle.crosspoints.specs.Figures.{side}
+use Rattle.crosspoints.specs.Crosspoints.{Cells}
+use Rattle.crosspoints.proofs.Laws.{fit-targets-le}
+use Rattle.crosspoints.proofs.Legal.{legal-fit}
 use Rattle.desk_calls.specs.Calls.{deskLegal}
 use Rattle.sheets.specs.Sheet.{Desk, desk, lineOf, sheetTree, sheetMessage, sheetOf}
 use Rattle.sheets.specs.Reading.{Sheet, refused, read, ofEntries, ofAnswer, ofMessage, readSheet}

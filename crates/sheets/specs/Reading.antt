@@ -15,11 +15,11 @@ use Rattle.grammar.specs.Grammar.{qualifiedMatrix, connection}
 use Rattle.forest.specs.Content.{Content, nothing, word, bytes, wrong, Item, itemsOf}
 use Rattle.walk.specs.Walk.{Walk, walk}
 use Rattle.framing.specs.Rules.{Place, outside, stray, inside, escaped, badByte, tooLong, Message, isOpen, State, Happening, begin, happens, after}
-use Rattle.routing.specs.declared.Limit.{Limit}
-use Rattle.routing.specs.declared.Limit.the-variants.{Absent, Most}
-use Rattle.routing.specs.declared.Figures.{Figures}
-use Rattle.routing.specs.Figures.{both}
-use Rattle.routing.specs.Crosspoints.{Cells, clear, Answer}
+use Rattle.crosspoints.specs.declared.Limit.{Limit}
+use Rattle.crosspoints.specs.declared.Limit.the-variants.{Absent, Most}
+use Rattle.crosspoints.specs.declared.Figures.{Figures}
+use Rattle.crosspoints.specs.Figures.{both}
+use Rattle.crosspoints.specs.Crosspoints.{Cells, clear, Answer}
 use Rattle.desk_calls.specs.Connections.{numberOf, octetsOf, numbersIn, memberOf}
 use Rattle.desk_calls.specs.Calls.{deskOpened, Served, handled}
 use Rattle.sheets.specs.Sheet.{Desk, desk}

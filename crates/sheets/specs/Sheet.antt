@@ -12,10 +12,10 @@ use Rattle.forest.specs.Content.{Content, nothing, word, bytes}
 use Rattle.forest.specs.Trees.{Trees, none, tree}
 use Rattle.forest.specs.Written.{messageOctets, writtenReal}
 use Rattle.framing_writer.specs.Written.{packet, payloadLimit, earlier, Outcome, limited}
-use Rattle.routing.specs.declared.Limit.{Limit}
-use Rattle.routing.specs.declared.Limit.the-variants.{Absent, Most}
-use Rattle.routing.specs.declared.Figures.{Figures}
-use Rattle.routing.specs.Crosspoints.{Cells, rowAt}
+use Rattle.crosspoints.specs.declared.Limit.{Limit}
+use Rattle.crosspoints.specs.declared.Limit.the-variants.{Absent, Most}
+use Rattle.crosspoints.specs.declared.Figures.{Figures}
+use Rattle.crosspoints.specs.Crosspoints.{Cells, rowAt}
 
 -- A desk: its figures with the limits as given, its path and its crosspoints, rows of w cells.
 pub record Desk : Type 0 where

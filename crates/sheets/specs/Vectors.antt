@@ -17,13 +17,13 @@ use Rattle.framing.specs.Checksum.{table, crcStep, crcFrom, checksum}
 use Rattle.framing.specs.Rules.{begin, inside, part, none, outside, Happening, happens, after}
 use Rattle.framing_writer.specs.Written.{escape, escapes, frame, packet}
 use Rattle.framing_writer.specs.Read.{happening}
-use Rattle.routing.specs.declared.Limit.{Limit}
-use Rattle.routing.specs.declared.Limit.the-variants.{Absent, Most}
-use Rattle.routing.specs.declared.Figures.{Figures}
-use Rattle.routing.specs.Figures.{isCount, figuresFit, mostEach, mostTotal}
-use Rattle.routing.specs.Crosspoints as crosspoints
-use Rattle.routing.specs.Crosspoints.{bit, allBits, clear, rowAt, withRow, holders, takenFrom, mostAt, rowFits, rowsFit, sourcesFit}
-use Rattle.routing.specs.Crosspoints.{kindFits, cellsFit, legal, opened}
+use Rattle.crosspoints.specs.declared.Limit.{Limit}
+use Rattle.crosspoints.specs.declared.Limit.the-variants.{Absent, Most}
+use Rattle.crosspoints.specs.declared.Figures.{Figures}
+use Rattle.crosspoints.specs.Figures.{isCount, figuresFit, mostEach, mostTotal}
+use Rattle.crosspoints.specs.Crosspoints as crosspoints
+use Rattle.crosspoints.specs.Crosspoints.{bit, allBits, clear, rowAt, withRow, holders, takenFrom, mostAt, rowFits, rowsFit, sourcesFit}
+use Rattle.crosspoints.specs.Crosspoints.{kindFits, cellsFit, legal, opened}
 use Rattle.routing.specs.Request.{marked, named, allBelow, replaces, becomes, takes, others, result, many, overTotal, judged, asked, requested}
 use Rattle.desk_calls.specs.Connections.{numbersIn, isQualified, pathUp, askOf, asksIn}
 use Rattle.desk_calls.specs.Calls.{same, answered, served, handled, pathFits, allNumbers, deskOpened}

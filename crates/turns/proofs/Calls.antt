@@ -23,9 +23,9 @@ use Rattle.glow.specs.Message.{result, readAt}
 use Rattle.glow.proofs.read
 use Rattle.glow.proofs.read.Kinds as read-kinds
 use Rattle.glow.proofs.read.Reads as read-reads
-use Rattle.routing.specs.declared.Figures.{Figures}
-use Rattle.routing.specs.Figures.{side}
-use Rattle.routing.specs.Crosspoints.{Cells}
+use Rattle.crosspoints.specs.declared.Figures.{Figures}
+use Rattle.crosspoints.specs.Figures.{side}
+use Rattle.crosspoints.specs.Crosspoints.{Cells}
 use Rattle.desk_calls.specs.declared.Called.{Called}
 use Rattle.desk_calls.specs.Calls.{called, told as answered}
 use Rattle.desk_calls.proofs.call

@@ -20,9 +20,9 @@ use Rattle.walk.specs.Walk.{walk}
 use Rattle.glow.specs.Message.{Result, result, readOf, readAt, setup}
 use Rattle.glow.proofs.Answers.{count-bounded}
 use Rattle.forest.specs.Rows.{itemsIn}
-use Rattle.routing.specs.declared.Figures.{Figures}
-use Rattle.routing.specs.Figures.{side}
-use Rattle.routing.specs.Crosspoints.{Cells}
+use Rattle.crosspoints.specs.declared.Figures.{Figures}
+use Rattle.crosspoints.specs.Figures.{side}
+use Rattle.crosspoints.specs.Crosspoints.{Cells}
 use Rattle.desk_calls.specs.declared.Called.{Called}
 use Rattle.desk_calls.specs.declared.Called.the-variants.{Setup as Unready, Done}
 use Rattle.desk_calls.specs.Calls.{handled, Outcome, laid, isReady, called, told as answered}

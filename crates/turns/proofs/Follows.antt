@@ -22,8 +22,8 @@ use Rattle.glow.specs.declared.Answer.the-variants.{Read}
 use Rattle.glow.specs.Message.{Result, result, readAt, saidBy as treeSaid}
 use Rattle.forest.specs.Content.{Item}
 use Rattle.forest.specs.Rows.{itemsIn}
-use Rattle.routing.specs.Figures.{side}
-use Rattle.routing.specs.Crosspoints.{Cells}
+use Rattle.crosspoints.specs.Figures.{side}
+use Rattle.crosspoints.specs.Crosspoints.{Cells}
 use Rattle.desk_calls.specs.declared.Called.{Called}
 use Rattle.desk_calls.specs.declared.Called.the-variants.{Setup, Done}
 use Rattle.desk_calls.specs.Calls.{deskLegal, Served, handled, Outcome, laid, isReady, called, told as answered}

@@ -13,8 +13,8 @@ use Rattle.framing.specs.Offers as offers
 use Rattle.framing.proofs.Chunks.{fresh-legal}
 use Rattle.framing.proofs.Calls as framing
 use Rattle.entries.specs.Entry.{Rows}
-use Rattle.routing.specs.declared.Figures.{Figures}
-use Rattle.routing.specs.Crosspoints.{Cells}
+use Rattle.crosspoints.specs.declared.Figures.{Figures}
+use Rattle.crosspoints.specs.Crosspoints.{Cells}
 use Rattle.turns.specs.Rules.{Desk, isLegal, keep, tells, after}
 use Rattle.turns.specs.Turns.{Turn, calls, told, AsRules}
 use Rattle.turns.specs.Whole.{deskAt}

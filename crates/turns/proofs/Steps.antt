@@ -17,8 +17,8 @@ use Rattle.glow.proofs.Answer as answer
 use Rattle.glow.specs.declared.Answer.{Answer}
 use Rattle.glow.specs.declared.Answer.the-variants.{Setup, Refused, Room, Read}
 use Rattle.glow.specs.Message.{Result, result, readAt}
-use Rattle.routing.specs.Figures.{side}
-use Rattle.routing.specs.Crosspoints.{Cells}
+use Rattle.crosspoints.specs.Figures.{side}
+use Rattle.crosspoints.specs.Crosspoints.{Cells}
 use Rattle.desk_calls.specs.declared.Called.{Called}
 use Rattle.desk_calls.specs.declared.Called.the-variants.{Setup as Unready, Done}
 use Rattle.desk_calls.specs.Calls.{called, told as answered}

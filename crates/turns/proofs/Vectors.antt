@@ -25,9 +25,9 @@ use Rattle.members.specs.Root.{rootKind, topAt}
 use Rattle.walk.specs.Walk.{finished, walk}
 use Rattle.glow.specs.Message.{setup, saidBy}
 use Rattle.forest.specs.Content.{Content, nothing as absent, word, bytes, Item, item, contentOf, contentsOf as contentsIn, itemsOf}
-use Rattle.routing.specs.declared.Figures.{Figures}
-use Rattle.routing.specs.Figures.{side}
-use Rattle.routing.specs.Crosspoints.{Cells}
+use Rattle.crosspoints.specs.declared.Figures.{Figures}
+use Rattle.crosspoints.specs.Figures.{side}
+use Rattle.crosspoints.specs.Crosspoints.{Cells}
 use Rattle.desk_calls.specs.Connections.{numbersIn, isQualified, pathUp, askOf, asksIn}
 use Rattle.desk_calls.specs.Calls.{same, answered, Served, served as servedIn, handled}
 use Rattle.turns.specs.Rules.{Desk, keep, treeOf, Then, nothing, refused, served, follows, Told, tells, after}

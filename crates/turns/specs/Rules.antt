@@ -14,9 +14,9 @@ use Rattle.glow.specs.declared.Answer.the-variants.{Setup, Refused, Room, Read}
 use Rattle.walk.specs.Walk.{walk}
 use Rattle.glow.specs.Message.{setup, saidBy, Said as TreeSaid}
 use Rattle.forest.specs.Content.{Item, itemsOf}
-use Rattle.routing.specs.declared.Figures.{Figures}
-use Rattle.routing.specs.Figures.{side}
-use Rattle.routing.specs.Crosspoints.{Cells}
+use Rattle.crosspoints.specs.declared.Figures.{Figures}
+use Rattle.crosspoints.specs.Figures.{side}
+use Rattle.crosspoints.specs.Crosspoints.{Cells}
 use Rattle.desk_calls.specs.Calls.{deskLegal, Served, handled}
 
 -- The desk: figures, path and crosspoints.

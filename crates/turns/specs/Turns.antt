@@ -18,8 +18,8 @@ use Rattle.glow.specs.declared.Answer.{Answer}
 use Rattle.glow.specs.declared.Answer.the-variants.{Setup, Refused, Room, Read}
 use Rattle.glow.specs.Message.{result, readAt, saidBy as treeSaid}
 use Rattle.forest.specs.Rows.{itemsIn}
-use Rattle.routing.specs.Figures.{side}
-use Rattle.routing.specs.Crosspoints.{Cells}
+use Rattle.crosspoints.specs.Figures.{side}
+use Rattle.crosspoints.specs.Crosspoints.{Cells}
 use Rattle.desk_calls.specs.declared.Called.{Called}
 use Rattle.desk_calls.specs.Calls.{Outcome, called, told as answered}
 use Rattle.turns.specs.Rules.{Desk, isLegal, withCells, keep, Then, nothing, refused, served, Told, noted, tells, after}

@@ -1,10 +1,10 @@
 // A whole turn: session, tree reader and desk. The claim over every list of turns is proofs/Claim.antt.
+use crosspoints::Figures;
 use desk_calls::Called;
 use framing::Event;
 use framing::Fed;
 use framing::Session;
 use glow::Answer;
-use routing::Figures;
 ghost use mathlib.Core.Path.{_≡_};
 ghost use Prim.Native.Nat.{_≤_};
 ghost use lib.ListN.{length, take};

@@ -2,9 +2,10 @@ use mathlib.Core.Path.{_≡_, refl, sym, _∙_}
 use lib.ListN.{length}
 use lib.Seq.{length-take-le}
 use native.Mathlib.Omega.{arith}
-use Rattle.routing.specs.Crosspoints.{clear}
-use Rattle.routing.proofs.Laws.{fit-sources-le}
-use Rattle.routing.proofs.Answers.{legal-fit, unjudged-legal}
+use Rattle.crosspoints.specs.Crosspoints.{clear}
+use Rattle.crosspoints.proofs.Laws.{fit-sources-le}
+use Rattle.crosspoints.proofs.Legal.{legal-fit}
+use Rattle.routing.proofs.Answers.{unjudged-legal}
 use Rattle.desk_calls.proofs.Sources.{ask-is}
 use borrow.Author.Needs.{needs}
 use Rattle.desk_calls.proofs.ask.Statement.{statement}

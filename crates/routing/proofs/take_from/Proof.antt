@@ -3,7 +3,7 @@ use borrow.Author.Needs.{needs}
 use native.Mathlib.Omega.{arith}
 use Prim.Native.Nat.{_-_, _+_, _≤_}
 use mathlib.Core.Path.{_≡_, refl, sym, _∙_}
-use Rattle.routing.specs.Crosspoints.{takenFrom}
+use Rattle.crosspoints.specs.Crosspoints.{takenFrom}
 use Rattle.routing.proofs.Laws.{taken-end, taken-more}
 use Rattle.routing.proofs.take_from.Statement.{statement}
 use Rattle.routing.proofs.take_from.Tie as tie
