@@ -24,7 +24,7 @@ use Rattle.members.specs.declared.Member.{Member}
 use Rattle.members.specs.declared.Member.the-variants.{Leaf as Cell-of, Contents, Items, Refused as NoMember}
 use Rattle.members.specs.declared.Item.the-variants.{Element}
 use Rattle.members.specs.Members.{inOrder, again, afterListed, column, plainAt, innerAt, listedAt, ruledAt, memberAt, kindOf, itemAt}
-use Rattle.members.specs.Brief.{openedBy, tagIn, Pair, NextRule, Suits, MemberTold, KindTold, ItemTold}
+use Rattle.members.specs.Brief.{openedBy, tagIn, Pair, Nested, NextRule, Suits, MemberTold, KindTold, ItemTold}
 use Rattle.members.proofs.Laws.{rule-small, member-ruled, ruled-listed, listed-plain, listed-inner, plain-no, plain-kept}
 use Rattle.members.proofs.Laws.{inner-contents, inner-items, kind-held, item-element}
 
@@ -93,37 +93,29 @@ module _ (s : List ℕ) (p end : ℕ) {l n : ℕ} (a : Short s p end l) where
 length-at : (s : List ℕ) (p : ℕ) {n end : ℕ} → Short s (p + 2) end n → n ≡ getD s (p + 3) 0
 length-at s p b = let j : p + 2 + 1 ≡ p + 3 = omega arith in b .octet ∙ ap (λ (y : ℕ). getD s y 0) j
 
--- what the tests of `rule_at` and `kind_at` say
+-- what the tests of `nested` say
 module _ (s : List ℕ) (p end k : ℕ) {l n : ℕ} (room : 2 ≤ k) (a : Short s p end l) where
-  module _ (b : Short s (p + 2) (p + 2 + l) n) (e : n + 2 ≡ l) (h : l < 128) where
-    pub member-definite : end < 18446744073709551616 → {row before what : ℕ} → (NextRule (getD s p 0) row before what) × (Suits what (getD s (p + 2) 0) n)
-        → MemberTold s p end k row before what
-    member-definite top {row} {before} {what} r =
-        record {
-          room = room;
-          top = top;
-          pair = subst (Pair s p end) (length-at s p b) (pair-definite s p end a b e h);
-          rule = r .0;
-          suits = subst (Suits what (getD s (p + 2) 0)) (length-at s p b) (r .1);
-        }
+  pub nested-definite : Short s (p + 2) (p + 2 + l) n → n + 2 ≡ l → l < 128 → Nested s p end k n
+  nested-definite b e h = record { room = room; octet = length-at s p b; pair = pair-definite s p end a b e h }
 
-    pub item-definite : {which kind : ℕ} → KindTold which (getD s p 0) (getD s (p + 2) 0) kind → ItemTold s p end k which kind
-    item-definite r = record { room = room; pair = subst (Pair s p end) (length-at s p b) (pair-definite s p end a b e h); names = r }
+  pub nested-open : Short s (p + 2) end n → l ≡ 128 → n ≡ 128 → Nested s p end k 128
+  nested-open b d e = subst (Nested s p end k) e (record { room = room; octet = length-at s p b; pair = pair-open s p end a b d e })
 
-  module _ (b : Short s (p + 2) end n) (d : l ≡ 128) (e : n ≡ 128) where
-    pub member-open : end < 18446744073709551616 → {row before what : ℕ} → (NextRule (getD s p 0) row before what) × (Suits what (getD s (p + 2) 0) 128)
-        → MemberTold s p end k row before what
-    member-open top {row} {before} {what} r =
-        record {
-          room = room;
-          top = top;
-          pair = subst (Pair s p end) (length-at s p b) (pair-open s p end a b d e);
-          rule = r .0;
-          suits = subst (Suits what (getD s (p + 2) 0)) (sym e ∙ length-at s p b) (r .1);
-        }
+-- what `rule_at` and `kind_at` tell of it
+module _ (s : List ℕ) (p end k : ℕ) {n : ℕ} (h : Nested s p end k n) where
+  pub nested-member : end < 18446744073709551616 → {row before what : ℕ} → (NextRule (getD s p 0) row before what) × (Suits what (getD s (p + 2) 0) n)
+      → MemberTold s p end k row before what
+  nested-member top {row} {before} {what} r =
+      record {
+        room = h .room;
+        top = top;
+        pair = subst (Pair s p end) (h .octet) (h .pair);
+        rule = r .0;
+        suits = subst (Suits what (getD s (p + 2) 0)) (h .octet) (r .1);
+      }
 
-    pub item-open : {which kind : ℕ} → KindTold which (getD s p 0) (getD s (p + 2) 0) kind → ItemTold s p end k which kind
-    item-open r = record { room = room; pair = subst (Pair s p end) (length-at s p b) (pair-open s p end a b d e); names = r }
+  pub nested-item : {which kind : ℕ} → KindTold which (getD s p 0) (getD s (p + 2) 0) kind → ItemTold s p end k which kind
+  nested-item r = record { room = h .room; pair = subst (Pair s p end) (h .octet) (h .pair); names = r }
 
 deep-room : (c k : ℕ) → (k ≡ 0 → ⊥) → deep c k ≡ false
 unfolding deep

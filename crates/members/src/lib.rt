@@ -14,7 +14,7 @@ ghost use Rattle.containers.specs.Progress.{Ahead};
 ghost use Rattle.grammar.specs.Grammar.{ruleOf, innerClass, innerNumber, collectionOf, rootOf};
 ghost use Rattle.members.specs.Members.{marked, mark, due, inOrder, again, afterListed, afterOther, column};
 ghost use Rattle.members.specs.Members.{plainAt, innerAt, listedAt, ruledAt, memberAt, kindOf, itemAt};
-ghost use Rattle.members.specs.Brief.{NextRule, Suits, MemberTold, KindTold, ItemTold};
+ghost use Rattle.members.specs.Brief.{Nested, NextRule, Suits, MemberTold, KindTold, ItemTold};
 ghost use Rattle.members.specs.Root.{rootKind, topAt};
 ghost use Rattle.members.specs.Progress.{MemberOnward, InnerOnward, ItemOnward};
 
@@ -315,32 +315,44 @@ fn rule_by(b: u8, value: u8, n: usize, row: u64, before: u64) -> u64
     0
 }
 
-// What stands at a member at p, if tags and lengths take one octet each and the value fills the member; 0 where that is for the general turn to say.
-pub fn rule_at(s: &[u8], p: usize, end: usize, k: usize, row: u64, before: u64) -> u64
-    ensures { λ r. ⌜ ((r ≡ 0 → ⊥) → MemberTold (now (s .entry)) p end k row before r) ⌝ }
+// The length of the value inside the tag at p, if tags and lengths take one octet each and the value fills the tag; 128 where 00 00 ends both, 129 where
+// that is for the general turn to say.
+fn nested(s: &[u8], p: usize, end: usize, k: usize) -> usize
+    ensures { λ r. ⌜ (r < 129 → Nested (now (s .entry)) p end k r) ⌝ }
 {
     if k < 2 {
-        return 0;
+        return 129;
     }
     let l = containers::short(s, p, end);
     if 128 < l {
-        return 0;
+        return 129;
     }
     let at = p + 2;
     if l == 128 {
         if containers::short(s, at, end) != 128 {
-            return 0;
+            return 129;
         }
-        return rule_by(s[p], s[at], 128, row, before);
+        return 128;
     }
     let n = containers::short(s, at, at + l);
     if 128 <= n {
-        return 0;
+        return 129;
     }
     if n + 2 != l {
+        return 129;
+    }
+    n
+}
+
+// What stands at a member at p, if tags and lengths take one octet each and the value fills the member; 0 where that is for the general turn to say.
+pub fn rule_at(s: &[u8], p: usize, end: usize, k: usize, row: u64, before: u64) -> u64
+    ensures { λ r. ⌜ ((r ≡ 0 → ⊥) → MemberTold (now (s .entry)) p end k row before r) ⌝ }
+{
+    let n = nested(s, p, end, k);
+    if 128 < n {
         return 0;
     }
-    rule_by(s[p], s[at], n, row, before)
+    rule_by(s[p], s[p + 2], n, row, before)
 }
 
 // One turn of the members of a row.
@@ -402,28 +414,11 @@ fn kind_by(which: u64, item: u8, b: u8) -> u64
 pub fn kind_at(s: &[u8], p: usize, end: usize, k: usize, which: u64) -> u64
     ensures { λ r. ⌜ ((r ≡ 0 → ⊥) → ItemTold (now (s .entry)) p end k which r) ⌝ }
 {
-    if k < 2 {
+    let n = nested(s, p, end, k);
+    if 128 < n {
         return 0;
     }
-    let l = containers::short(s, p, end);
-    if 128 < l {
-        return 0;
-    }
-    let at = p + 2;
-    if l == 128 {
-        if containers::short(s, at, end) != 128 {
-            return 0;
-        }
-        return kind_by(which, s[p], s[at]);
-    }
-    let n = containers::short(s, at, at + l);
-    if 128 <= n {
-        return 0;
-    }
-    if n + 2 != l {
-        return 0;
-    }
-    kind_by(which, s[p], s[at])
+    kind_by(which, s[p], s[p + 2])
 }
 
 // One turn of a collection.
