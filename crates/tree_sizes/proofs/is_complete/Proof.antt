@@ -43,7 +43,8 @@ returns-3 c =
     let the-word-at = c .before .before .word-at in
     let the-if2 = c .before .if2 in
     let the-if3 = c .if3 in
-    keyed-one _ _ (λ e. the-if1 .left (sym (the-required-of .ensures) ∙ e)) (λ e. the-if2 .left (the-word-at .ensures ∙ e)) (the-required-of .ensures ∙ the-if3 .taken)
+    keyed-one _ _ (λ e. the-if1 .left (sym (the-required-of .ensures) ∙ e)) (λ e. the-if2 .left (the-word-at .ensures ∙ e))
+    (the-required-of .ensures ∙ the-if3 .taken)
 
 -- src/lib.rt:284:5
 word-at-requires-2 : tie.Need-word-at-requires-2
