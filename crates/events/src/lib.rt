@@ -27,6 +27,7 @@ fn fault_number(fault: Fault) -> u64
     }
 }
 
+// The event's number, as in document 01.
 pub fn number(event: Event) -> u64
     ensures { λ r. ⌜ r ≡ saidBy event [] .number ⌝ }
 {
@@ -47,6 +48,7 @@ pub fn number(event: Event) -> u64
     }
 }
 
+// Whether a message that was being put together was thrown away.
 pub fn is_discarded(event: Event) -> bool
     ensures { λ r. ⌜ r ≡ saidBy event [] .discarded ⌝ }
 {
@@ -67,6 +69,7 @@ pub fn is_discarded(event: Event) -> bool
     }
 }
 
+// The length of a finished message, 0 for every other event.
 pub fn message_length(event: Event) -> usize
     ensures { λ r. ⌜ r ≡ lengthOf event ⌝ }
 {

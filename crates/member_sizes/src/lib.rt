@@ -20,6 +20,7 @@ fn capped(n: u64) -> u64
     if n <= 16384 { n } else { 65536 }
 }
 
+// The sum of two sizes.
 pub fn plus(a: u64, b: u64) -> u64
     ensures { λ r. ⌜ cap (a + b) ≡ r ⌝ }
 {
@@ -42,12 +43,14 @@ pub fn around(n: u64) -> u64
     capped(1 + wide(tags::length_size(n)) + n)
 }
 
+// A size as a u64.
 pub fn wide(x: usize) -> u64
     ensures { λ r. ⌜ r ≡ x ⌝ }
 {
     x as u64
 }
 
+// The integer that a word stands for, in two's complement.
 pub fn int_of(w: u64) -> i64
     ensures { λ r. ⌜ intOf w ≡ r ⌝ }
 {
@@ -57,6 +60,7 @@ pub fn int_of(w: u64) -> i64
     -1 - ((18446744073709551615 - w) as i64)
 }
 
+// The place after what was written, 0 where the output was too short.
 pub fn place(w: Wrote) -> usize
     ensures { λ r. ⌜ nextOf w ≡ r ⌝ }
 {
@@ -128,6 +132,7 @@ pub fn is_part(kind: u64) -> bool
     kind == 13
 }
 
+// A word as a place.
 pub fn index(x: u64) -> usize
     ensures { λ r. ⌜ r ≡ x ⌝ }
 {

@@ -181,6 +181,7 @@ fn inner_number(what: u64) -> u64
     if what == 14 { 4 } else { 16 }
 }
 
+// The collection that a member holds: 1 for children, 2 for connections.
 pub fn collection_of(what: u64) -> u64
     ensures { λ r. ⌜ collectionOf what ≡ r ⌝ }
 {
