@@ -14,6 +14,7 @@ pub struct Input {
     pub ended: bool,
 }
 
+// Before the first line.
 pub fn start() -> Input {
     Input {
         at: 0,

@@ -1,26 +1,32 @@
 // Answers, on standard output.
 use libc::STDOUT_FILENO;
 
+// A text as it is.
 pub fn say(text: &[u8]) {
     io::write_all(STDOUT_FILENO, text);
 }
 
+// A number.
 pub fn decimal(n: u64) {
     io::print_decimal(STDOUT_FILENO, n);
 }
 
+// The answer to a line that is no request.
 pub fn bad_line() {
     say(b"bad line\n");
 }
 
+// A line's end.
 pub fn end() {
     say(b"\n");
 }
 
+// What stands between the numbers of a path.
 pub fn dot() {
     say(b".");
 }
 
+// The answer where the output was too short.
 pub fn out() {
     say(b"46\n");
 }
@@ -86,6 +92,7 @@ pub fn hex(s: &[u8]) {
     flush(space, n);
 }
 
+// A line of octets in hexadecimal.
 pub fn octets(s: &[u8]) {
     hex(s);
     end();

@@ -1,6 +1,11 @@
 // An output that nothing was written to yet.
+ghost use mathlib.Core.Path.{_≡_};
+ghost use Rattle.requests.specs.Words.{clear};
 
-pub fn is_clear(out: &[u8]) -> bool {
+// Whether an output holds nothing but zeros.
+pub fn is_clear(out: &[u8]) -> bool
+    ensures { λ r. ⌜ clear (now (out .entry)) ≡ r ⌝ }
+{
     let mut i: usize = 0;
     while i < out.len() {
         if out[i] != 0 {

@@ -1,7 +1,8 @@
 // The parts of a request.
 ghost use mathlib.Core.Path.{_≡_};
-ghost use Prim.Native.Nat.{_≤_};
+ghost use Prim.Native.Nat.{_+_, _*_, _≤_, _<_, min};
 ghost use Rattle.requests.specs.Parts.{Within};
+ghost use Rattle.requests.specs.Words.{startsWith, numberIn};
 
 // Octets at the start of the work space, or no such.
 pub enum Hex {
@@ -15,8 +16,10 @@ pub enum Decimal {
     Bad,
 }
 
-// Whether a line has a text at a position.
-pub fn starts(line: &[u8], text: &[u8]) -> bool {
+// Whether a line begins with a text.
+pub fn starts(line: &[u8], text: &[u8]) -> bool
+    ensures { λ r. ⌜ startsWith (now (line .entry)) (now (text .entry)) ≡ r ⌝ }
+{
     if line.len() < text.len() {
         return false;
     }
@@ -103,42 +106,43 @@ pub fn octets(line: &[u8], from: usize, work: &mut [u8]) -> Hex
 }
 
 // The number that a line has from a position up to an end.
-pub fn number(line: &[u8], from: usize, end: usize) -> Decimal {
-    if end <= from {
+pub fn number(line: &[u8], from: usize, end: usize) -> Decimal
+    ensures { λ r. ⌜ numberIn (now (line .entry)) from end ≡ r ⌝ }
+{
+    if line.len() < end {
         return Decimal::Bad;
     }
-    if line.len() < end {
+    if end <= from {
         return Decimal::Bad;
     }
     let mut n: u64 = 0;
     let mut i = from;
     while i < end {
         let b = line[i];
-        if b < b'0' || b'9' < b {
+        if b < b'0' {
             return Decimal::Bad;
         }
-        n = more(n, wide(b));
+        if b'9' < b {
+            return Decimal::Bad;
+        }
+        n = more(n, wide(b - b'0'));
         i = i + 1;
     }
     Decimal::Number(n)
 }
 
 // One digit more, or the largest number.
-fn more(n: u64, digit: u64) -> u64 {
+fn more(n: u64, digit: u64) -> u64
+    requires { ⌜ digit < 10 ⌝ }
+    ensures { λ r. ⌜ r ≡ min (n * 10 + digit) 18446744073709551615 ⌝ }
+{
     if 1844674407370955161 < n {
         return u64::MAX;
     }
-    if digit < 48 {
+    if u64::MAX - digit < n * 10 {
         return u64::MAX;
     }
-    if 57 < digit {
-        return u64::MAX;
-    }
-    let value = digit - 48;
-    if u64::MAX - value < n * 10 {
-        return u64::MAX;
-    }
-    n * 10 + value
+    n * 10 + digit
 }
 
 // The position of a byte from a position on, or the line's length.
