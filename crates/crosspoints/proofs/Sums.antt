@@ -1,5 +1,5 @@
 -- Loops of which a processor does many turns at once: cells counted by parts, the largest cell, and a count for each source.
-use Prim.Native.Nat.{ℕ, zero, suc, _+_, _-_, _*_, _≤_, _<_}
+use Prim.Native.Nat.{ℕ, _+_, _-_, _*_, _≤_, _<_, min}
 use mathlib.Core.Path.{_≡_, refl, sym, ap, _∙_}
 use mathlib.Core.Bool.{Bool, true, false, true≢false}
 use mathlib.Core.Logic.{⊎-elim}
@@ -61,9 +61,17 @@ module _ (l : Cells) (i most : ℕ) where
       go true = refl
       go false = refl
 
+-- one cell more, counted up to two
+module _ (n c : ℕ) where
+  pub one-more : n < 2 → {x : ℕ} → bit c ≡ x → n + x ≡ min (n + bit c) 2
+  one-more h e = omega (arith, h, e, bit-le c)
+
+  pub two-stay : 2 ≤ n → 2 ≡ min (n + bit c) 2
+  two-stay h = omega (arith, h)
+
 -- a row counted in, up to i
 pub record Added (before row : Cells) (i : ℕ) (sums : Cells) : Type 0 where
-  pub done : (s : ℕ) → s < i → getD sums s 0 ≡ getD before s 0 + bit (getD row s 0)
+  pub done : (s : ℕ) → s < i → getD sums s 0 ≡ min (getD before s 0 + bit (getD row s 0)) 2
   pub left : (s : ℕ) → i ≤ s → getD sums s 0 ≡ getD before s 0
   pub same : length sums ≡ length before
 
@@ -71,58 +79,50 @@ pub added-none : (before row : Cells) → Added before row 0 before
 added-none before row = record { done = λ s k. absurd (omega (arith, k)); left = λ s k. refl; same = refl }
 
 module _ (before row : Cells) (i : ℕ) (sums : Cells) (h : Added before row i sums) where
-  pub added-more : (x : ℕ) → i < length sums → bit (getD row i 0) ≡ x → Added before row (i + 1) (set sums i (getD sums i 0 + x))
-  added-more x k e = record { done = done; left = left; same = length-set sums i (getD sums i 0 + x) ∙ h .same }
+  pub added-more : (x : ℕ) → i < length sums → x ≡ min (getD sums i 0 + bit (getD row i 0)) 2 → Added before row (i + 1) (set sums i x)
+  added-more x k e = record { done = done; left = left; same = length-set sums i x ∙ h .same }
     where
-      done : (s : ℕ) → s < i + 1 → getD (set sums i (getD sums i 0 + x)) s 0 ≡ getD before s 0 + bit (getD row s 0)
+      done : (s : ℕ) → s < i + 1 → getD (set sums i x) s 0 ≡ min (getD before s 0 + bit (getD row s 0)) 2
       done s q = go (eqb s i) refl
         where
-          go : (u : Bool) → eqb s i ≡ u → getD (set sums i (getD sums i 0 + x)) s 0 ≡ getD before s 0 + bit (getD row s 0)
+          go : (u : Bool) → eqb s i ≡ u → getD (set sums i x) s 0 ≡ min (getD before s 0 + bit (getD row s 0)) 2
           go true z =
               let j : s ≡ i = eqb-true s i z in
-              ap (λ (n : ℕ). getD (set sums i (getD sums i 0 + x)) n 0) j ∙ getD-set-same sums i (getD sums i 0 + x) 0 k
-              ∙ ap (λ (n : ℕ). n + x) (h .left i (omega arith)) ∙ ap (λ (n : ℕ). getD before i 0 + n) (sym e)
-              ∙ ap (λ (n : ℕ). getD before n 0 + bit (getD row n 0)) (sym j)
+              ap (λ (n : ℕ). getD (set sums i x) n 0) j ∙ getD-set-same sums i x 0 k ∙ e
+              ∙ ap (λ (n : ℕ). min (n + bit (getD row i 0)) 2) (h .left i (omega arith))
+              ∙ ap (λ (n : ℕ). min (getD before n 0 + bit (getD row n 0)) 2) (sym j)
           go false z =
-              getD-set-other sums i s (getD sums i 0 + x) 0 (eqb-false s i z)
+              getD-set-other sums i s x 0 (eqb-false s i z)
               ∙ h .done s (⊎-elim (λ (y : s < i). y) (λ (y : i ≤ s). absurd (eqb-false s i z (omega (arith, y, q)))) (lt-or-le s i))
 
-      left : (s : ℕ) → i + 1 ≤ s → getD (set sums i (getD sums i 0 + x)) s 0 ≡ getD before s 0
-      left s q = getD-set-other sums i s (getD sums i 0 + x) 0 (λ z. omega (arith, z, q)) ∙ h .left s (omega (arith, q))
+      left : (s : ℕ) → i + 1 ≤ s → getD (set sums i x) s 0 ≡ getD before s 0
+      left s q = getD-set-other sums i s x 0 (λ z. omega (arith, z, q)) ∙ h .left s (omega (arith, q))
 
-  pub added-end : length row ≤ i → (s : ℕ) → getD sums s 0 ≡ getD before s 0 + bit (getD row s 0)
-  added-end k s = ⊎-elim (h .done s) past (lt-or-le s i)
+  pub added-end : length before ≡ length row → length row ≤ i → (s : ℕ) → getD sums s 0 ≡ min (getD before s 0 + bit (getD row s 0)) 2
+  added-end l k s = ⊎-elim (h .done s) past (lt-or-le s i)
     where
-      past : i ≤ s → getD sums s 0 ≡ getD before s 0 + bit (getD row s 0)
+      past : i ≤ s → getD sums s 0 ≡ min (getD before s 0 + bit (getD row s 0)) 2
       past q =
-          omega (arith, h .left s q, bit-clear (getD row s 0) (List·getD-eq-default row 0 {n = s} (omega (arith, k, q))))
+          let b = List·getD-eq-default before 0 {n = s} (omega (arith, k, q, l)) in
+          let r = bit-clear (getD row s 0) (List·getD-eq-default row 0 {n = s} (omega (arith, k, q))) in
+          omega (arith, h .left s q, b, r)
 
--- how many of the first t targets have each source
+-- how many of the first t targets have each source, up to two
 module _ (w : ℕ) (cells : Cells) where
-  holders-le : (s n : ℕ) → holders w cells s n ≤ n
-  unfolding holders
-  holders-le s zero = omega arith
-  holders-le s (suc n) = omega (arith, bit-le (getD cells (n * w + s) 0), holders-le s n)
-
   pub record Held (t : ℕ) (sums : Cells) : Type 0 where
     pub room : length sums ≡ w
-    pub each : (s : ℕ) → s < w → getD sums s 0 ≡ holders w cells s t
+    pub each : (s : ℕ) → s < w → getD sums s 0 ≡ min (holders w cells s t) 2
 
   pub held-none : (sums : Cells) → sums ≡ clear w → Held 0 sums
   unfolding holders
   held-none sums e =
       record { room = ap length e ∙ clear-length w; each = λ s k. ap (λ (x : Cells). getD x s 0) e ∙ clear-cell w s }
 
-  pub held-le : (t : ℕ) (sums : Cells) → Held t sums → (s : ℕ) → getD sums s 0 ≤ t
-  held-le t sums h s =
-      ⊎-elim (λ (k : s < w). omega (arith, h .each s k, holders-le s t))
-      (λ (k : w ≤ s). omega (arith, List·getD-eq-default sums 0 {n = s} (omega (arith, k, h .room)))) (lt-or-le s w)
-
   pub held-more : (t : ℕ) (sums next : Cells) (from to : ℕ) → Held t sums → from ≡ t * w → to ≡ t * w + w → length next ≡ length sums
-      → ((s : ℕ) → getD next s 0 ≡ getD sums s 0 + bit (getD (take (to - from) (drop from cells)) s 0)) → Held (t + 1) next
+      → ((s : ℕ) → getD next s 0 ≡ min (getD sums s 0 + bit (getD (take (to - from) (drop from cells)) s 0)) 2) → Held (t + 1) next
   held-more t sums next from to h p q l e = record { room = l ∙ h .room; each = each }
     where
-      each : (s : ℕ) → s < w → getD next s 0 ≡ holders w cells s (t + 1)
+      each : (s : ℕ) → s < w → getD next s 0 ≡ min (holders w cells s (t + 1)) 2
       each s k =
           let c : getD (take (to - from) (drop from cells)) s 0 ≡ getD cells (t * w + s) 0
           = ap (λ (x : Cells). getD x s 0) (row-is w cells t from to p q) ∙ row-cell w cells t s k in

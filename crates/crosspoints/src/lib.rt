@@ -1,6 +1,6 @@
 // The desk's figures and crosspoints, which of them are legal, and opening.
 ghost use mathlib.Core.Path.{_≡_};
-ghost use Prim.Native.Nat.{ℕ, _+_, _*_, _≤_, _<_};
+ghost use Prim.Native.Nat.{ℕ, _+_, _*_, _≤_, _<_, min};
 ghost use lib.Dec.{leb};
 ghost use lib.ListN.{length, getD};
 ghost use Rattle.crosspoints.specs.Figures.{side, both, isCount, isLimit, figuresFit, limitOr, mostEach, mostTotal};
@@ -238,15 +238,24 @@ fn rows_fit(f: Figures, cells: &[u8]) -> bool
     true
 }
 
+// One cell more, counted up to two: "one at most" asks no more, and so a byte serves for any number of targets.
+fn up_to_two(n: u8, c: u8) -> u8
+    ensures { λ r. ⌜ r ≡ min (n + bit c) 2 ⌝ }
+{
+    if n < 2 {
+        return n + bit(c);
+    }
+    2
+}
+
 // A row's cells counted in, each at its source.
 fn add_row(sums: &mut [u8], row: &[u8])
     requires { ⌜ length (now sums) ≡ length (now row) ⌝ }
-    requires { ⌜ ((s : ℕ) → getD (now sums) s 0 ≤ 64) ⌝ }
-    ensures { λ _. ⌜ ((s : ℕ) → getD (now (sums .exit)) s 0 ≡ getD (now (sums .entry)) s 0 + bit (getD (now (row .entry)) s 0)) ⌝ }
+    ensures { λ _. ⌜ ((s : ℕ) → getD (now (sums .exit)) s 0 ≡ min (getD (now (sums .entry)) s 0 + bit (getD (now (row .entry)) s 0)) 2) ⌝ }
 {
     let mut i = 0;
     while i < row.len() {
-        sums[i] += bit(row[i]);
+        sums[i] = up_to_two(sums[i], row[i]);
         i += 1;
     }
 }

@@ -26,6 +26,7 @@ pub struct Scanned {
     pub count: usize,
 }
 
+// Before the first byte of a line.
 pub fn start() -> Line
     ensures { λ r. ⌜ r ≡ record { high = 16; begun = false } ⌝ }
 {

@@ -28,6 +28,7 @@ fn open_word(message: Pending) -> u64
     }
 }
 
+// A number as a word.
 pub fn word(n: usize) -> u64
     ensures { λ r. ⌜ r ≡ n ⌝ }
 {

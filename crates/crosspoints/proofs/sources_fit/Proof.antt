@@ -1,5 +1,5 @@
 use borrow.Author.Needs.{needs}
-use Rattle.crosspoints.proofs.Sums.{Held, held-none, held-le, held-more, held-all}
+use Rattle.crosspoints.proofs.Sums.{Held, held-none, held-more, held-all}
 use Rattle.crosspoints.specs.Crosspoints.{clear}
 use Rattle.crosspoints.proofs.Laws.{part-length}
 use mathlib.Core.Path.{_≡_, refl, sym, _∙_}
@@ -45,7 +45,7 @@ add-row-requires c κs =
     let the-loop = c .before .before .before .loop in
     let h = the-loop .inv .0 in
     let l = part-length 64 (the-Start .args .cells .now) (the-loop .t) (omega arith) in
-    (h .room ∙ sym l, λ s. omega (arith, held-le 64 _ (the-loop .t) _ h s, the-loop .inv .1))
+    h .room ∙ sym l
 
 add-t : tie.Need-add-t Inv-loop μ-loop
 add-t c = omega arith
