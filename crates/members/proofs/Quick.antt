@@ -94,20 +94,20 @@ length-at : (s : List ℕ) (p : ℕ) {n end : ℕ} → Short s (p + 2) end n →
 length-at s p b = let j : p + 2 + 1 ≡ p + 3 = omega arith in b .octet ∙ ap (λ (y : ℕ). getD s y 0) j
 
 -- what the tests of `nested` say
-module _ (s : List ℕ) (p end k : ℕ) {l n : ℕ} (room : 2 ≤ k) (a : Short s p end l) where
-  pub nested-definite : Short s (p + 2) (p + 2 + l) n → n + 2 ≡ l → l < 128 → Nested s p end k n
-  nested-definite b e h = record { room = room; octet = length-at s p b; pair = pair-definite s p end a b e h }
+module _ (s : List ℕ) (p end : ℕ) {l n : ℕ} (a : Short s p end l) where
+  pub nested-definite : Short s (p + 2) (p + 2 + l) n → n + 2 ≡ l → l < 128 → Nested s p end n
+  nested-definite b e h = record { octet = length-at s p b; pair = pair-definite s p end a b e h }
 
-  pub nested-open : Short s (p + 2) end n → l ≡ 128 → n ≡ 128 → Nested s p end k 128
-  nested-open b d e = subst (Nested s p end k) e (record { room = room; octet = length-at s p b; pair = pair-open s p end a b d e })
+  pub nested-open : Short s (p + 2) end n → l ≡ 128 → n ≡ 128 → Nested s p end 128
+  nested-open b d e = subst (Nested s p end) e (record { octet = length-at s p b; pair = pair-open s p end a b d e })
 
 -- what `rule_at` and `kind_at` tell of it
-module _ (s : List ℕ) (p end k : ℕ) {n : ℕ} (h : Nested s p end k n) where
+module _ (s : List ℕ) (p end k : ℕ) {n : ℕ} (room : 2 ≤ k) (h : Nested s p end n) where
   pub nested-member : end < 18446744073709551616 → {row before what : ℕ} → (NextRule (getD s p 0) row before what) × (Suits what (getD s (p + 2) 0) n)
       → MemberTold s p end k row before what
   nested-member top {row} {before} {what} r =
       record {
-        room = h .room;
+        room = room;
         top = top;
         pair = subst (Pair s p end) (h .octet) (h .pair);
         rule = r .0;
@@ -115,7 +115,7 @@ module _ (s : List ℕ) (p end k : ℕ) {n : ℕ} (h : Nested s p end k n) where
       }
 
   pub nested-item : {which kind : ℕ} → KindTold which (getD s p 0) (getD s (p + 2) 0) kind → ItemTold s p end k which kind
-  nested-item r = record { room = h .room; pair = subst (Pair s p end) (h .octet) (h .pair); names = r }
+  nested-item r = record { room = room; pair = subst (Pair s p end) (h .octet) (h .pair); names = r }
 
 deep-room : (c k : ℕ) → (k ≡ 0 → ⊥) → deep c k ≡ false
 unfolding deep

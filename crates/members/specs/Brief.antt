@@ -28,9 +28,8 @@ pub record Pair (s : List ℕ) (p end n : ℕ) : Type 0 where
   pub outer : (o : Open) → o .end ≡ end → standingAt s p o ≡ Here (tagIn (getD s p 0) (p + 2) (openedBy (p + 4) n end))
   pub inner : standingAt s (p + 2) (openedBy (p + 4) n end) ≡ Here (tagIn (getD s (p + 2) 0) (p + 4) (openedBy (p + 4) n end))
 
--- such a pair, with its length as it stands there and room for two containers
-pub record Nested (s : List ℕ) (p end k n : ℕ) : Type 0 where
-  pub room : 2 ≤ k
+-- such a pair, with its length as it stands there
+pub record Nested (s : List ℕ) (p end n : ℕ) : Type 0 where
   pub octet : n ≡ getD s (p + 3) 0
   pub pair : Pair s p end n
 

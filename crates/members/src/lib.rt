@@ -11,6 +11,7 @@ ghost use Prim.Native.Nat.{_+_, _-_, _≤_, _<_};
 ghost use mathlib.Core.Path.{_≡_};
 ghost use mathlib.Core.Bool.{true};
 ghost use Rattle.containers.specs.Progress.{Ahead};
+ghost use Rattle.containers.specs.Short.{Short};
 ghost use Rattle.grammar.specs.Grammar.{ruleOf, innerClass, innerNumber, collectionOf, rootOf};
 ghost use Rattle.members.specs.Members.{marked, mark, due, inOrder, again, afterListed, afterOther, column};
 ghost use Rattle.members.specs.Members.{plainAt, innerAt, listedAt, ruledAt, memberAt, kindOf, itemAt};
@@ -316,18 +317,12 @@ fn rule_by(b: u8, value: u8, n: usize, row: u64, before: u64) -> u64
     0
 }
 
-// The length of the value inside the tag at p, if tags and lengths take one octet each and the value fills the tag; 128 where 00 00 ends both, 129 where
-// that is for the general turn to say.
-fn nested(s: &[u8], p: usize, end: usize, k: usize) -> usize
-    ensures { λ r. ⌜ (r < 129 → Nested (now (s .entry)) p end k r) ⌝ }
+// The length of the value inside the tag at p, of the length l (128: indefinite), if its tag and length take one octet each and it fills the tag; 128 where
+// 00 00 ends both, 129 where that is for the general turn to say.
+fn nested(s: &[u8], p: usize, end: usize, l: usize) -> usize
+    requires { ⌜ (l ≤ 128) × (Short (now s) p end l) ⌝ }
+    ensures { λ r. ⌜ (r < 129 → Nested (now (s .entry)) p end r) ⌝ }
 {
-    if k < 2 {
-        return 129;
-    }
-    let l = containers::short(s, p, end);
-    if 128 < l {
-        return 129;
-    }
     let at = p + 2;
     if l == 128 {
         if containers::short(s, at, end) != 128 {
@@ -349,7 +344,14 @@ fn nested(s: &[u8], p: usize, end: usize, k: usize) -> usize
 pub fn rule_at(s: &[u8], p: usize, end: usize, k: usize, row: u64, before: u64) -> u64
     ensures { λ r. ⌜ ((r ≡ 0 → ⊥) → MemberTold (now (s .entry)) p end k row before r) ⌝ }
 {
-    let n = nested(s, p, end, k);
+    if k < 2 {
+        return 0;
+    }
+    let l = containers::short(s, p, end);
+    if 128 < l {
+        return 0;
+    }
+    let n = nested(s, p, end, l);
     if 128 < n {
         return 0;
     }
@@ -415,7 +417,14 @@ fn kind_by(which: u64, item: u8, b: u8) -> u64
 pub fn kind_at(s: &[u8], p: usize, end: usize, k: usize, which: u64) -> u64
     ensures { λ r. ⌜ ((r ≡ 0 → ⊥) → ItemTold (now (s .entry)) p end k which r) ⌝ }
 {
-    let n = nested(s, p, end, k);
+    if k < 2 {
+        return 0;
+    }
+    let l = containers::short(s, p, end);
+    if 128 < l {
+        return 0;
+    }
+    let n = nested(s, p, end, l);
     if 128 < n {
         return 0;
     }
