@@ -1,5 +1,5 @@
--- THE CLAIM for `ember_turn`: whatever list of its calls is made, from a fresh session's words, any store of the right length and a desk in any legal state, what
--- they answer and leave tells what the rules tell for the bytes consumed so far, and keeps what they keep.
+-- THE CLAIM for `ember_turn`: whatever list of its calls is made, from a fresh session's words, any store of the right length and a desk in any legal state,
+-- what they answer and leave tells what the rules tell for the bytes consumed so far, and keeps what they keep.
 use Prim.Native.Nat.{ℕ, zero, suc, _≤_}
 use mathlib.Core.Bool.{Bool, true, false}
 use mathlib.Core.List.{List, [], _∷_, _++_}
@@ -29,7 +29,7 @@ use Rattle.turns.specs.declared.After.{After}
 use Rattle.turns.specs.Rules.{Desk, isLegal}
 use Rattle.turns.specs.Turns as claim
 use Rattle.turns.specs.Whole.{deskAt, Left, laterAt, laterOf, gave}
-use Rattle.turns.proofs.Follows.{fault-other}
+use Rattle.framing.proofs.Laws.{number-apart}
 use Rattle.turns.proofs.Comes.{said-at, function-turn}
 use Rattle.turns.proofs.Claim.{claim as rules-claim}
 use Rattle.ember.specs.Words.{figuresAt, isFigures}
@@ -53,7 +53,7 @@ module _ (d : Desk) (t : List ℕ) (table : Rows) (lent : List ℕ) where
   next-later (ev.Message n b) = rw (take-twice n t) refl
   next-later ev.Request = refl
   next-later ev.Response = refl
-  next-later (ev.Refused f b) = rw (fault-other f) refl
+  next-later (ev.Refused f b) = rw (number-apart f {n = 3} (omega arith)) refl
 
 -- ---- what a call tells, where the session's call within it gave r and left the store t′
 
@@ -96,7 +96,8 @@ module _ (ws t c : List ℕ) (table : Rows) (fs path : List ℕ) (cells : Cells)
     pub feeds-is : feeds (sessionAt ws) t c ≡ answers fed (x .store)
     pub later-is : laterAt d (fed .event) (x .store) table lent ≡ gave after (x .table) (x .answers) (x .crosspoints)
     pub session-is : x .session ≡ wordsOf (fed .session)
-    pub tells : Tells (record { offered = c; left = x }) (record { offered = c; fed = fed; store = x .store; later = laterOf after (x .table) (x .answers) (x .crosspoints) })
+    pub tells : Tells (record { offered = c; left = x })
+        (record { offered = c; fed = fed; store = x .store; later = laterOf after (x .table) (x .answers) (x .crosspoints) })
 
   module _ (r : Fed) (t′ : List ℕ) (enough : length table ≤ length lent) (q : feeds (sessionAt ws) t c ≡ answers r t′) where
     abbrev called : Called
@@ -123,7 +124,16 @@ module _ (ws t c : List ℕ) (table : Rows) (fs path : List ℕ) (cells : Cells)
     taken-after {x} g n = by (eqb (called .number) 1) refl g
       where
         by : (b : Bool) → eqb (called .number) 1 ≡ b
-            → pick b (record { number = called .number; session = called .session; store = called .store; table = table; crosspoints = cells; answers = lent; answer = a })
+            → pick b
+            (record {
+              number = called .number;
+              session = called .session;
+              store = called .store;
+              table = table;
+              crosspoints = cells;
+              answers = lent;
+              answer = a;
+            })
             (told called (next (called .number) (take (getD (called .answer) 2 0) (called .store)) d table lent)) ≡ x
             → Taken x
         by true e k = absurd (n (sym (ap (λ (w : Turn). w .number) k) ∙ eqb-true _ _ e))
@@ -158,7 +168,8 @@ module _ (ws t c : List ℕ) (table : Rows) (fs path : List ℕ) (cells : Cells)
 
 -- ---- so is every list of such calls
 
-pub record Made (rows : ℕ) (fs path ws t : List ℕ) (cells : Cells) (bytes : List ℕ) (xs : List Round) (ws″ t″ : List ℕ) (cells″ : Cells) (rest : List ℕ) : Type 0 where
+pub record Made (rows : ℕ) (fs path ws t : List ℕ) (cells : Cells) (bytes : List ℕ) (xs : List Round) (ws″ t″ : List ℕ) (cells″ : Cells)
+    (rest : List ℕ) : Type 0 where
   pub list : List claim.Turn
   pub tell : AllTell xs list
   pub made : claim.Turns rows (sessionAt ws) t (deskAt (figuresAt fs) path cells) bytes list (sessionAt ws″) t″ (deskAt (figuresAt fs) path cells″) rest
@@ -175,17 +186,19 @@ rounds-made {rows} {fs} {path} {ws} {t} {cells} {ws″ = ws″} {t″} {cells″
     f : Fed
     f = k .fed
 
+    -- the turns after this one, from a session and with a count of bytes consumed
+    onward : Session → ℕ → List claim.Turn → Type 0
+    onward v i list =
+        claim.Turns rows v (x .store) (deskAt (figuresAt fs) path (x .crosspoints)) (drop i (c ++ later)) list (sessionAt ws″) t″
+        (deskAt (figuresAt fs) path cells″) rest
+
     joined : {xs : List Round} → Made rows fs path (x .session) (x .store) (x .crosspoints) (drop (getD (x .answer) 1 0) (c ++ later)) xs ws″ t″ cells″ rest
         → Made rows fs path ws t cells (c ++ later) (record { offered = c; left = x } ∷ xs) ws″ t″ cells″ rest
     joined m =
         let s : sessionAt (x .session) ≡ f .session = ap sessionAt (k .session-is) ∙ words-back (f .session) in
         let p : getD (x .answer) 1 0 ≡ f .consumed = ap (λ (w : List ℕ). getD w 1 0) (k .tells .words-are) in
-        let g = subst
-        (λ (v : Session). claim.Turns rows v (x .store) (deskAt (figuresAt fs) path (x .crosspoints)) (drop (getD (x .answer) 1 0) (c ++ later)) (m .list) (sessionAt ws″) t″
-        (deskAt (figuresAt fs) path cells″) rest) s (m .made) in
-        let h = subst
-        (λ (i : ℕ). claim.Turns rows (f .session) (x .store) (deskAt (figuresAt fs) path (x .crosspoints)) (drop i (c ++ later)) (m .list) (sessionAt ws″) t″
-        (deskAt (figuresAt fs) path cells″) rest) p g in
+        let g = subst (λ (v : Session). onward v (getD (x .answer) 1 0) (m .list)) s (m .made) in
+        let h = subst (λ (i : ℕ). onward (f .session) i (m .list)) p g in
         record {
           list = record { offered = c; fed = f; store = x .store; later = laterOf (k .after) (x .table) (x .answers) (x .crosspoints) } ∷ m .list;
           tell = more (k .tells) (m .tell);
@@ -195,7 +208,8 @@ rounds-made {rows} {fs} {path} {ws} {t} {cells} {ws″ = ws″} {t″} {cells″
 
 -- ---- THE CLAIM
 
-pub record Claimed (rows : ℕ) (fs path : List ℕ) (cells : Cells) (bytes : List ℕ) (xs : List Round) (ws t : List ℕ) (cells′ : Cells) (rest : List ℕ) : Type 0 where
+pub record Claimed (rows : ℕ) (fs path : List ℕ) (cells : Cells) (bytes : List ℕ) (xs : List Round) (ws t : List ℕ) (cells′ : Cells)
+    (rest : List ℕ) : Type 0 where
   pub list : List claim.Turn
   -- what the calls answered and left is what these turns told
   pub tell : AllTell xs list

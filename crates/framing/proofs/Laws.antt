@@ -241,8 +241,12 @@ number-high Dtd = omega arith
 number-high Orphan = omega arith
 number-high Big = omega arith
 
+-- .. so that none is the number of another event
+pub number-apart : (f : Fault) {n : ℕ} → n < 10 → eqb (number f) n ≡ false
+number-apart f {n} h = ne-eqb (number f) n (λ e. omega (arith, h, number-high f, e))
+
 pub number-not-zero : (f : Fault) → eqb (number f) 0 ≡ false
-number-not-zero f = let h = number-high f in ne-eqb (number f) 0 (λ e. omega arith)
+number-not-zero f = number-apart f (omega arith)
 
 module _ (c : List ℕ) (i : ℕ) (s : State) (t : List ℕ) where
   module _ (h : i < length c) where

@@ -3,6 +3,7 @@ use Prim.Native.Nat.{ℕ, _+_}
 use mathlib.Core.Bool.{Bool, true, false}
 use mathlib.Core.List.{List, [], _∷_, _++_}
 use mathlib.Core.Path.{_≡_, refl, ap}
+use native.Mathlib.Omega.{arith}
 use lib.Bits.{bitXor}
 use lib.Dec.{leb, ltb, eqb}
 use lib.ListN.{length, take}
@@ -12,31 +13,17 @@ use Rattle.framing.specs.declared.Event.{Event}
 use Rattle.framing.specs.declared.Event.the-variants as ev
 use Rattle.framing.specs.declared.Fault.{Fault}
 use Rattle.framing.specs.declared.Session.{Session}
-use Rattle.framing.specs.declared.Fault.the-variants.{Stray, Cut, Byte, Long, Escape, Short, Crc, Header, Flags, Dtd, Orphan, Big}
+use Rattle.framing.specs.declared.Fault.the-variants.{Stray, Cut, Byte, Long, Escape, Orphan, Big}
 use Rattle.framing.specs.Content.{contentOf, payload}
 use Rattle.framing.specs.Numbers.{BOF, EOF, CE, contentLimit, messageLimit, storeLength, number, pick}
 use Rattle.framing.specs.Rules.{Place, outside, stray, inside, escaped, badByte, tooLong, Message, none, part, isOpen, State, Said, Step}
 use Rattle.framing.specs.Rules.{goes, refuses, adds, joins, pieces, reads, ends, faulted, cuts, inPlace, step}
 use Rattle.framing.specs.Session.{saidBy, stateOf, sessionOf, held, kept, Legal, Whole, run, feeds}
-use Rattle.framing.proofs.Laws.{pick-by, true-legal, Bounded, Within, within-step, bounded-next, kept-length, kept-message}
+use Rattle.framing.proofs.Laws.{pick-by, number-apart, true-legal, Bounded, Within, within-step, bounded-next, kept-length, kept-message}
 
 -- the message that a step leaves, or has finished
 abbrev messageAfter : Step → List ℕ
 messageAfter o = held (o .next .message) (o .said .message)
-
-fault-other : (f : Fault) → eqb (number f) 1 ≡ false
-fault-other Stray = refl
-fault-other Cut = refl
-fault-other Byte = refl
-fault-other Long = refl
-fault-other Escape = refl
-fault-other Short = refl
-fault-other Crc = refl
-fault-other Header = refl
-fault-other Flags = refl
-fault-other Dtd = refl
-fault-other Orphan = refl
-fault-other Big = refl
 
 -- an event that says what the step says, in any store where that message stands; and that this is not 1
 record Says (o : Step) : Type 0 where
@@ -48,7 +35,7 @@ says-goes : (p : Place) (m : Message) → Says (goes p m)
 says-goes p m = record { event = ev.More; says = λ u h. refl; other = refl }
 
 says-refuses : (f : Fault) (p : Place) (m : Message) → Says (refuses f p m)
-says-refuses f p m = record { event = ev.Refused f (isOpen m); says = λ u h. refl; other = fault-other f }
+says-refuses f p m = record { event = ev.Refused f (isOpen m); says = λ u h. refl; other = number-apart f (omega arith) }
 
 says-adds : (xs : List ℕ) (x : ℕ) (m : Message) → Says (adds xs x m)
 unfolding adds

@@ -1,6 +1,7 @@
 // The input, line by line: a line ends at 0A or at the input's end.
 use libc::STDIN_FILENO;
 ghost use mathlib.Core.Path.{_≡_};
+ghost use mathlib.Core.Bool.{false};
 ghost use Prim.Native.Nat.{_≤_};
 ghost use lib.ListN.{length};
 
@@ -15,7 +16,9 @@ pub struct Input {
 }
 
 // Before the first line.
-pub fn start() -> Input {
+pub fn start() -> Input
+    ensures { λ r. ⌜ r ≡ record { at = 0; end = 0; len = 0; long = false; ended = false } ⌝ }
+{
     Input {
         at: 0,
         end: 0,
@@ -41,9 +44,10 @@ fn refill(block: &mut [u8]) -> usize {
     io::count(libc::read(STDIN_FILENO, block), block)
 }
 
-// Reads the next line into `line`. No line stands after the last 0A.
+// Reads the next line into `line`. No line stands after the last 0A. What block and line hold then is the input's; they keep their lengths.
 pub fn next(input: Input, block: &mut [u8], line: &mut [u8]) -> Input
     ensures { λ r. ⌜ r .len ≤ length (now (line .exit)) ⌝ }
+    ensures { λ _. ⌜ (length (now (block .exit)) ≡ length (now (block .entry))) × (length (now (line .exit)) ≡ length (now (line .entry))) ⌝ }
 {
     let mut at = input.at;
     let mut end = input.end;

@@ -63,12 +63,14 @@ module _ (start len : ℕ) where
 -- ---- rows
 
 -- the words of the matrix's row, with the cells of its limits as they are given
+abbrev pub matrixWords : Figures → ℕ → Cell → Cell → List ℕ
+matrixWords f n total each =
+    7 ∷ 0 ∷ words
+    (numbersCell 0 n ∷ absent ∷ absent ∷ numberCell (f .kind) ∷ absent ∷ numberCell (f .targets) ∷ numberCell (f .sources) ∷ total ∷ each ∷ blanks 7)
+
 pub matrix-put : (f : Figures) (n : ℕ) (total each : Cell) → limitCell (f .total) ≡ total → limitCell (f .each) ≡ each
-    → 7 ∷ 0 ∷ words (numbersCell 0 n ∷ absent ∷ absent ∷ numberCell (f .kind) ∷ absent ∷ numberCell (f .targets) ∷ numberCell (f .sources) ∷ total ∷ each ∷ blanks 7)
-    ≡ row (matrixEntry f n)
-matrix-put f n total each p q =
-    ap (λ (x : Cell). 7 ∷ 0 ∷ words (numbersCell 0 n ∷ absent ∷ absent ∷ numberCell (f .kind) ∷ absent ∷ numberCell (f .targets) ∷ numberCell (f .sources) ∷ x ∷ each ∷ blanks 7)) (sym p)
-    ∙ ap (λ (x : Cell). 7 ∷ 0 ∷ words (numbersCell 0 n ∷ absent ∷ absent ∷ numberCell (f .kind) ∷ absent ∷ numberCell (f .targets) ∷ numberCell (f .sources) ∷ limitCell (f .total) ∷ x ∷ blanks 7)) (sym q)
+    → matrixWords f n total each ≡ row (matrixEntry f n)
+matrix-put f n total each p q = ap (λ (x : Cell). matrixWords f n x each) (sym p) ∙ ap (matrixWords f n (limitCell (f .total))) (sym q)
 
 -- ---- connections
 
@@ -94,7 +96,8 @@ module _ (cells : Cells) (t : ℕ) where
       let k : at + length ss ≡ next = ap (λ (x : stores.Wrote). x .next) g in
       let m : length ss ≡ n = omega (arith, k, l) in
       let w : listCell at (length ss) ≡ v = ap (listCell at) m ∙ ap (λ (x : ℕ). listCell x n) (sym j) ∙ c in
-      let z : row (linkEntry t (listCell at (length ss))) ≡ r = ap (λ (x : Cell). row (linkEntry t x)) w ∙ ap (λ (x : ℕ). row (linkEntry x v)) (sym i) ∙ sym q in
+      let z : row (linkEntry t (listCell at (length ss))) ≡ r
+      = ap (λ (x : Cell). row (linkEntry t x)) w ∙ ap (λ (x : ℕ). row (linkEntry x v)) (sym i) ∙ sym q in
       ap (λ (x : List ℕ). filled (set rows (suc t) (row (linkEntry t (listCell at (length ss))))) x (at + length ss)) (ap (λ (x : stores.Wrote). x .output) g)
       ∙ ap (λ (x : ℕ). filled (set rows (suc t) (row (linkEntry t (listCell at (length ss))))) o′ x) k
       ∙ ap (λ (x : List ℕ). filled (set rows (suc t) x) o′ next) z
@@ -102,7 +105,8 @@ module _ (cells : Cells) (t : ℕ) where
 
 -- n targets are left from t on
 module _ (w : ℕ) (cells : Cells) (targets t : ℕ) where
-  pub links-more : t < targets → (x y : Filled) → withLink w cells t x ≡ y → withLinks w cells t (targets - t) x ≡ withLinks w cells (t + 1) (targets - (t + 1)) y
+  pub links-more : t < targets → (x y : Filled) → withLink w cells t x ≡ y
+      → withLinks w cells t (targets - t) x ≡ withLinks w cells (t + 1) (targets - (t + 1)) y
   unfolding withLinks
   links-more h x y e =
       let k : targets - t ≡ suc (targets - (t + 1)) = omega arith in

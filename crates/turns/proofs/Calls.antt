@@ -128,7 +128,8 @@ pub data CallsCome (rows : ℕ) : Event → List ℕ → Desk → Later → Desk
 calls-come : {rows : ℕ} {e : Event} {t : List ℕ} {d d′ : Desk} {x : Later} → CallsCome rows e t d x d′ → Comes rows e t d x d′
 calls-come (ends h) = turns.ends h
 calls-come (reads table a table′ k c h) = turns.reads table a table′ k (read-says c) h
-calls-come (serves table root count table′ lent r lent′ cells′ k c l y) = turns.serves table root count table′ lent r lent′ cells′ k (read-says c) l (call-says y)
+calls-come (serves table root count table′ lent r lent′ cells′ k c l y) =
+    turns.serves table root count table′ lent r lent′ cells′ k (read-says c) l (call-says y)
 
 come-calls : {rows : ℕ} {e : Event} {t : List ℕ} {d d′ : Desk} {x : Later} → Comes rows e t d x d′ → CallsCome rows e t d x d′
 come-calls (turns.ends h) = ends h

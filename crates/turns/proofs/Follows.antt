@@ -11,11 +11,9 @@ use lib.Seq.{take-at}
 use Rattle.integers.proofs.Radix.{Below}
 use Rattle.framing.specs.declared.Event.{Event}
 use Rattle.framing.specs.declared.Event.the-variants as ev
-use Rattle.framing.specs.declared.Fault.{Fault}
-use Rattle.framing.specs.declared.Fault.the-variants.{Stray, Cut, Byte, Long, Escape, Short, Crc, Header, Flags, Dtd, Orphan, Big}
-use Rattle.framing.specs.Numbers.{number}
 use Rattle.framing.specs.Rules as framing
 use Rattle.framing.specs.Session.{saidBy}
+use Rattle.framing.proofs.Laws.{number-apart}
 use Rattle.entries.specs.Entry.{Rows}
 use Rattle.glow.specs.declared.Answer.{Answer}
 use Rattle.glow.specs.declared.Answer.the-variants.{Read}
@@ -36,20 +34,6 @@ use Rattle.turns.specs.Turns.{Later, read, desk, isMessage, isRead, Come
 use Rattle.turns.proofs.Trees.{tree-refused, tree-read}
 
 -- only event 3 is a message
-pub fault-other : (f : Fault) → eqb (number f) 3 ≡ false
-fault-other Stray = refl
-fault-other Cut = refl
-fault-other Byte = refl
-fault-other Long = refl
-fault-other Escape = refl
-fault-other Short = refl
-fault-other Crc = refl
-fault-other Header = refl
-fault-other Flags = refl
-fault-other Dtd = refl
-fault-other Orphan = refl
-fault-other Big = refl
-
 other : (e : Event) (t : List ℕ) → isMessage e ≡ false → eqb (saidBy e t .number) 3 ≡ false
 other ev.More t h = refl
 other ev.Setup t h = refl
@@ -57,7 +41,7 @@ other (ev.Piece d) t h = refl
 other (ev.Message n d) t h = let z : _≡_ {A = ℕ} 0 1 = cc in absurd (omega arith)
 other ev.Request t h = refl
 other ev.Response t h = refl
-other (ev.Refused f d) t h = fault-other f
+other (ev.Refused f d) t h = number-apart f (omega arith)
 
 nothing-follows : (rows : ℕ) (d : Desk) (e : framing.Said) → eqb (e .number) 3 ≡ false → follows rows d e ≡ follow nothing d
 unfolding follows
