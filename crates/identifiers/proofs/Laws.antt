@@ -12,10 +12,11 @@ use Rattle.integers.specs.declared.Wrote.the-variants.{Next}
 use Rattle.integers.proofs.Laws.{put-in}
 use lib.Seq.{drop-cons}
 use Rattle.integers.specs.Digits.{pick, put, unchanged, outcome}
+use Rattle.identifiers.specs.declared.Arc.{Arc}
 use Rattle.identifiers.specs.declared.Arc.the-variants.{Number, Range as Over, Refused as NoArc}
 use Rattle.identifiers.specs.declared.Oid.{Oid}
 use Rattle.identifiers.specs.declared.Oid.the-variants.{Numbers, Range, Refused}
-use Rattle.identifiers.specs.Identifier.{arcIs, arcFrom, arcAt, Arcs, bad, over, numbers, push, pass, arcsFrom, judged, arcs, oidAt, oidOctets, inRange, putOid}
+use Rattle.identifiers.specs.Identifier.{arcIs, arcFrom, arcAt, Arcs, bad, over, numbers, push, pass, arcsFrom, judged, arcs, oidAt, oidOctets, inRange, putOid, arcSays, arcOr, oidSays, oidOr}
 
 pub arc-over : (n next : ℕ) → 2147483647 < n → Over next ≡ arcIs n next
 unfolding arcIs
@@ -182,3 +183,14 @@ put-empty out at h =
     let e : at + 0 ≡ at = omega arith in
     let k : at + 0 ≤ length out = omega arith in
     put-in out at [] k ∙ rw (e, take-append-drop at out)
+
+-- each case of the answers says what document 01's rows say
+pub arc-row : (x : Arc) → arcSays x ≡ arcOr 30 x
+arc-row (Number n next) = refl
+arc-row (Over next) = refl
+arc-row NoArc = refl
+
+pub oid-row : (x : Oid) → oidSays x ≡ oidOr 30 x
+oid-row (Numbers n) = refl
+oid-row Range = refl
+oid-row Refused = refl

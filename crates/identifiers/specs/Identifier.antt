@@ -99,6 +99,16 @@ oidSays (Numbers n) range at = done n
 oidSays Range range at = refused range at
 oidSays Refused range at = refused 30 at
 
+abbrev pub arcOr : ℕ → Arc → ℕ → ℕ → Said (ℕ × ℕ)
+arcOr number (Number n next) range at = done (n, next)
+arcOr number (Over next) range at = refused range at
+arcOr number NoArc range at = refused number at
+
+abbrev pub oidOr : ℕ → Oid → ℕ → ℕ → Said ℕ
+oidOr number (Numbers n) range at = done n
+oidOr number Range range at = refused range at
+oidOr number Refused range at = refused number at
+
 -- an answer goes on, and stays within
 abbrev pub ArcWithin : ℕ → ℕ → Arc → Type 0
 ArcWithin p end (Number n next) = (p < next) × (next ≤ end)

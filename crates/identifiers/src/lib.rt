@@ -5,7 +5,7 @@ ghost use Prim.Native.Nat.{_+_, _-_, _≤_, _<_};
 ghost use lib.ListN.{length, take, drop, getD};
 ghost use Rattle.integers.specs.Digits.{put, outcome};
 ghost use Rattle.integers.specs.Said.{Told};
-ghost use Rattle.identifiers.specs.Identifier.{arcIs, arcAt, oidAt, arcSays, oidSays, ArcWithin, inRange, oidOctets, putOid};
+ghost use Rattle.identifiers.specs.Identifier.{arcIs, arcAt, oidAt, arcSays, arcOr, oidSays, oidOr, ArcWithin, inRange, oidOctets, putOid};
 ghost use Rattle.tags.specs.Write.{septets};
 
 // One number of an identifier and the position after it, or one over 2,147,483,647, or 30.
@@ -41,7 +41,7 @@ fn ended(n: u64, next: usize) -> Arc
 
 // The number that starts at p, in octets that end at `end`.
 pub fn read_number(s: &[u8], p: usize, end: usize) -> Arc
-    ensures { λ r. ⌜ Told arcSays (arcAt (now (s .entry)) p end) r ⌝ }
+    ensures { λ r. ⌜ Told arcSays (arcOr 30) (arcAt (now (s .entry)) p end) r ⌝ }
     ensures { λ r. ⌜ ArcWithin p end r ⌝ }
 {
     if s.len() < end {
@@ -71,7 +71,7 @@ pub fn read_number(s: &[u8], p: usize, end: usize) -> Arc
 
 // The identifier whose content octets are the n octets at a position.
 pub fn read_oid(s: &[u8], at: usize, n: usize) -> Oid
-    ensures { λ r. ⌜ Told oidSays (oidAt (now (s .entry)) at n) r ⌝ }
+    ensures { λ r. ⌜ Told oidSays (oidOr 30) (oidAt (now (s .entry)) at n) r ⌝ }
 {
     if s.len() < n {
         return Oid::Refused;

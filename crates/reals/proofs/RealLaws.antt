@@ -12,10 +12,11 @@ use lib.Ieee.{inf, fin}
 use Rattle.integers.specs.Digits.{natural}
 use Rattle.integers.specs.Integer.{signed}
 use Rattle.integers.proofs.Laws.{part-cons, length-part}
+use Rattle.reals.specs.declared.Read.{Read}
 use Rattle.reals.specs.declared.Read.the-variants.{Real, Refused}
 use Rattle.reals.specs.Number.{number}
 use Rattle.reals.proofs.Laws.{and-false}
-use Rattle.reals.specs.Real.{negative, base, scale, exponentOctets, mantissa, power, wellFormed, binaryReal, nonEmpty, real, realAt}
+use Rattle.reals.specs.Real.{negative, base, scale, exponentOctets, mantissa, power, wellFormed, binaryReal, nonEmpty, real, realAt, realSays, realOr}
 
 module _ (first : ℕ) (rest : List ℕ) where
   pub binary-not : first < 128 → Refused ≡ binaryReal first rest
@@ -115,3 +116,8 @@ module _ (s : List ℕ) (at n : ℕ) where
     real-binary h =
         let l = rest-length (omega arith) in
         sym (first-of (omega arith) ∙ more-is (getD s at 0) (take (n - 1) (drop (at + 1) s)) (omega arith))
+
+-- each case of the answer says what document 01's row says
+pub real-row : (x : Read) → realSays x ≡ realOr 35 x
+real-row (Real x) = refl
+real-row Refused = refl

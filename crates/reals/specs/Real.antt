@@ -67,3 +67,7 @@ realAt s at n = pick (leb (at + n) (length s)) (real (take n (drop at s))) Refus
 abbrev pub realSays : Read → ℕ → Said Float
 realSays (Real x) at = done x
 realSays Refused at = refused 35 at
+
+abbrev pub realOr : ℕ → Read → ℕ → Said Float
+realOr number (Real x) at = done x
+realOr number Refused at = refused number at

@@ -3,15 +3,17 @@ use Prim.Native.Nat.{ℕ}
 use mathlib.Core.Path.{_≡_, refl}
 use mathlib.Core.List.{List, [], _∷_, map}
 use mathlib.Core.Bool.{true, false}
+use lib.ListN.{length}
 use lib.IntN.{pos, negsuc}
 use lib.Count.{trailingZeros}
 use lib.Ieee as Ieee
 use lib.Ieee.{Float, nan, inf, fin}
 use Rattle.integers.specs.Digits.{horner, digits}
 use Rattle.integers.specs.Integer.{signed, sizeBy, shortest, octets as octetsOf}
-use Rattle.reals.specs.declared.Read.the-variants.{Real, Refused}
+use Rattle.integers.specs.Said.{Said, done, refused}
+use Rattle.reals.specs.declared.Read.the-variants.{Real}
 use Rattle.reals.specs.Number.{inDouble, number}
-use Rattle.reals.specs.Real.{wellFormed, binaryReal, nonEmpty, real}
+use Rattle.reals.specs.Real.{wellFormed, binaryReal, nonEmpty, real, realAt, realSays}
 use Rattle.reals.specs.Write.{unwritten, octets, form}
 
 -- 1; -1; 0.5; the largest double; the smallest subnormal; the smallest normal; zero; the infinities
@@ -76,7 +78,8 @@ pub wrote-other : form (fin false 1 (pos 128)) ≡ octets (0x81 ∷ 0x00 ∷ 0x8
 unfolding form digits shortest octetsOf sizeBy Ieee.size Ieee.span Ieee.climb
 wrote-other = refl
 
--- 2 ^ 1024; 2 ^ -1075; 2 ^ 53 + 1; a mantissa of 0; none; one of 9 octets; base 8; the exponent's form 11; a decimal; 42; 40 with an octet after it
+-- 2 ^ 1024; 2 ^ -1075; 2 ^ 53 + 1; a mantissa of 0; none; one of 9 octets; base 8; the exponent's form 11, also as if it had four octets; a decimal; 42; 40 with
+-- an octet after it
 abbrev pub bad : List (List ℕ)
 bad =
     (0x81 ∷ 0x04 ∷ 0x00 ∷ 0x01 ∷ [])
@@ -87,14 +90,23 @@ bad =
     ∷ (0x80 ∷ 0x00 ∷ 0x00 ∷ 0x00 ∷ 0x00 ∷ 0x00 ∷ 0x00 ∷ 0x00 ∷ 0x00 ∷ 0x00 ∷ 0x01 ∷ [])
     ∷ (0x90 ∷ 0x00 ∷ 0x01 ∷ [])
     ∷ (0x83 ∷ 0x01 ∷ 0x00 ∷ 0x01 ∷ [])
+    ∷ (0x83 ∷ 0x00 ∷ 0x00 ∷ 0x00 ∷ 0x00 ∷ 0x01 ∷ [])
     ∷ (0x03 ∷ 0x31 ∷ 0x2E ∷ 0x45 ∷ 0x30 ∷ [])
     ∷ (0x42 ∷ [])
     ∷ (0x40 ∷ 0x00 ∷ [])
     ∷ []
 
-pub refused : map real bad ≡ Refused ∷ Refused ∷ Refused ∷ Refused ∷ Refused ∷ Refused ∷ Refused ∷ Refused ∷ Refused ∷ Refused ∷ Refused ∷ []
-unfolding real nonEmpty binaryReal wellFormed number inDouble horner signed trailingZeros Ieee.size Ieee.span Ieee.climb
-refused = refl
+-- each says 35, at its tag
+abbrev said : List ℕ → Said Float
+said bs = realSays (realAt bs 0 (length bs)) 7
+
+pub refused-35 : map said bad ≡ map (λ bs. refused 35 7) bad
+unfolding realAt real nonEmpty binaryReal wellFormed number inDouble horner signed trailingZeros Ieee.size Ieee.span Ieee.climb
+refused-35 = refl
+
+pub read-0 : map said ([] ∷ (0x40 ∷ []) ∷ (0x80 ∷ 0x00 ∷ 0x01 ∷ []) ∷ []) ≡ done (fin false 0 (pos 0)) ∷ done (inf false) ∷ done (fin false 1 (pos 0)) ∷ []
+unfolding realAt real nonEmpty binaryReal wellFormed number inDouble horner signed trailingZeros Ieee.size Ieee.span Ieee.climb
+read-0 = refl
 
 -- a NaN and minus zero
 pub not-written : map form (nan ∷ fin true 0 (pos 0) ∷ []) ≡ unwritten ∷ unwritten ∷ []

@@ -9,7 +9,7 @@ ghost use Rattle.integers.specs.Digits.{digits, put, outcome};
 ghost use Rattle.integers.specs.Integer.{signed, shortest};
 ghost use Rattle.integers.specs.Said.{Told};
 ghost use Rattle.reals.specs.Number.{number};
-ghost use Rattle.reals.specs.Real.{binaryReal, realAt, realSays};
+ghost use Rattle.reals.specs.Real.{binaryReal, realAt, realSays, realOr};
 ghost use Rattle.reals.specs.Write.{firstOctet, numberOctets, writeAt};
 ghost use Rattle.reals.specs.Pattern.{signBit, bitsOf};
 use integers::Natural;
@@ -158,7 +158,7 @@ fn binary(s: &[u8], at: usize, n: usize) -> Read
 
 // The real of the n octets at a position.
 pub fn read_real(s: &[u8], at: usize, n: usize) -> Read
-    ensures { λ r. ⌜ Told realSays (realAt (now (s .entry)) at n) r ⌝ }
+    ensures { λ r. ⌜ Told realSays (realOr 35) (realAt (now (s .entry)) at n) r ⌝ }
 {
     if s.len() < n {
         return Read::Refused;

@@ -16,13 +16,15 @@ use Rattle.tags.specs.declared.Head.{Head}
 use Rattle.tags.specs.declared.Head.the-variants.{Tag}
 use Rattle.tags.specs.Tag.{headAt}
 use Rattle.values.specs.declared.Value.the-variants.{Text, Octets}
+use Rattle.values.specs.declared.Flag.{Flag}
 use Rattle.values.specs.declared.Flag.the-variants.{Is, Refused as NoFlag}
+use Rattle.values.specs.declared.Answer.{Answer}
 use Rattle.values.specs.declared.Answer.the-variants.{Found, Other, Refused}
 use Rattle.integers.specs.Digits.{put, unchanged}
 use Rattle.reals.specs.Write.{unwritten, octets}
 use Rattle.values.specs.Write.{part, putPart}
 use lib.Seq.{drop-cons, getD-take, getD-drop, drop-length}
-use Rattle.values.specs.Value.{boolean, boolAt, onFlag, onNumber, onReal, isListed, kindAt, contentAt, onLength, onHead, valueAt}
+use Rattle.values.specs.Value.{boolean, boolAt, onFlag, onNumber, onReal, isListed, kindAt, contentAt, onLength, onHead, valueAt, flagSays, flagOr, answerSays, answerOr}
 
 pub bool-length : (bs : List ℕ) → (length bs ≡ 1 → ⊥) → NoFlag ≡ boolean bs
 unfolding boolean
@@ -191,3 +193,13 @@ listed-12 kind e = rw e
 pub listed-none : (kind : ℕ) → (kind ≡ 1 → ⊥) → (kind ≡ 2 → ⊥) → (kind ≡ 4 → ⊥) → (kind ≡ 9 → ⊥) → (kind ≡ 12 → ⊥) → false ≡ isListed kind
 unfolding isListed
 listed-none kind h1 h2 h4 h9 h12 = simp (ne-eqb _ _ h1, ne-eqb _ _ h2, ne-eqb _ _ h4, ne-eqb _ _ h9, ne-eqb _ _ h12)
+
+-- each case of the answers says what document 01's rows say
+pub flag-row : (x : Flag) → flagSays x ≡ flagOr 30 x
+flag-row (Is b) = refl
+flag-row NoFlag = refl
+
+pub answer-row : (x : Answer) → answerSays x ≡ answerOr 33 x
+answer-row (Found value next) = refl
+answer-row Other = refl
+answer-row (Refused number place) = refl

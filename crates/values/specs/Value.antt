@@ -37,6 +37,10 @@ abbrev pub flagSays : Flag → ℕ → Said Bool
 flagSays (Is b) at = done b
 flagSays NoFlag at = refused 30 at
 
+abbrev pub flagOr : ℕ → Flag → ℕ → Said Bool
+flagOr number (Is b) at = done b
+flagOr number NoFlag at = refused number at
+
 -- what was read, as a value, with the position after it; or the number of the refusal and its place
 abbrev pub answering : {A : Type 0} → (A → Value) → ℕ → Said A → Answer
 answering value next (done x) = Found (value x) next
@@ -89,3 +93,8 @@ abbrev pub answerSays : Answer → ℕ → Said (Value × ℕ)
 answerSays (Found value next) at = done (value, next)
 answerSays Other at = refused 33 at
 answerSays (Refused number place) at = refused number place
+
+abbrev pub answerOr : ℕ → Answer → ℕ → Said (Value × ℕ)
+answerOr other (Found value next) at = done (value, next)
+answerOr other Other at = refused other at
+answerOr other (Refused number place) at = refused number place

@@ -9,7 +9,7 @@ ghost use mathlib.Core.List.{[], _∷_};
 ghost use Prim.Native.Nat.{_+_, _-_, _≤_, _<_};
 ghost use lib.Dec.{leb};
 ghost use lib.ListN.{length, take, drop, getD};
-ghost use Rattle.values.specs.Value.{boolAt, onFlag, onNumber, onReal, isListed, kindAt, contentAt, valueAt, flagSays, answerSays};
+ghost use Rattle.values.specs.Value.{boolAt, onFlag, onNumber, onReal, isListed, kindAt, contentAt, valueAt, flagSays, flagOr, answerSays, answerOr};
 ghost use Rattle.reals.specs.Write.{octets, form};
 ghost use Rattle.integers.specs.Integer.{shortest};
 ghost use Rattle.values.specs.Write.{Sealable, putHead, boolOctet, part, putPart, putPrimitive, putValue};
@@ -41,7 +41,7 @@ pub enum Answer {
 
 // The boolean whose content octets are the n octets at a position.
 pub fn read_bool(s: &[u8], at: usize, n: usize) -> Flag
-    ensures { λ r. ⌜ Told flagSays (boolAt (now (s .entry)) at n) r ⌝ }
+    ensures { λ r. ⌜ Told flagSays (flagOr 30) (boolAt (now (s .entry)) at n) r ⌝ }
 {
     if s.len() < n {
         return Flag::Refused;
@@ -164,7 +164,7 @@ fn of_kind(s: &[u8], at: usize, kind: u64, start: usize, len: usize) -> Answer
 
 // The value of a kind (a universal tag number) whose content octets are those at `start`; its tag stands at `at`.
 pub fn read_content(s: &[u8], at: usize, kind: u64, start: usize, len: usize) -> Answer
-    ensures { λ r. ⌜ Told answerSays (contentAt (now (s .entry)) at kind start len) r ⌝ }
+    ensures { λ r. ⌜ Told answerSays (answerOr 33) (contentAt (now (s .entry)) at kind start len) r ⌝ }
 {
     if !listed(kind) {
         return Answer::Other;
@@ -180,7 +180,7 @@ pub fn read_content(s: &[u8], at: usize, kind: u64, start: usize, len: usize) ->
 
 // The value at a position, in a container that ends at `bound`.
 pub fn read_value(s: &[u8], at: usize, bound: usize) -> Answer
-    ensures { λ r. ⌜ Told answerSays (valueAt (now (s .entry)) at bound) r ⌝ }
+    ensures { λ r. ⌜ Told answerSays (answerOr 33) (valueAt (now (s .entry)) at bound) r ⌝ }
 {
     match tags::read_tag(s, at, bound) {
         Head::Refused { place } => Answer::Refused { number: 30, place },
