@@ -9,15 +9,14 @@ use lib.ListN.{length, take, drop}
 use lib.Dec.{leb, ltb, eqb}
 use lib.IntN.{ℤ, pos, negsuc}
 use Rattle.integers.specs.Digits.{pick}
+use Rattle.integers.specs.Said.{Said, done, refused}
 use Rattle.values.specs.declared.Value.{Value}
 use Rattle.values.specs.declared.Value.the-variants.{Absent, Int, Real, Text, Bool as Truth, Octets}
 use Rattle.values.specs.declared.Answer.{Answer}
-use Rattle.values.specs.declared.Answer.the-variants.{Found, Other, Refused}
 use Rattle.integers.specs.declared.Number.{Number}
-use Rattle.values.specs.Value.{isListed, contentAt, onNumber}
-use Rattle.identifiers.specs.Identifier.{Arcs, bad, over, numbers, arcs}
+use Rattle.values.specs.Value.{isListed, contentAt, onNumber, answerSays}
+use Rattle.identifiers.specs.Identifier.{Arcs, bad, over, numbers, arcs, oidSays, judged as oidOf}
 use Rattle.identifiers.specs.declared.Oid.{Oid}
-use Rattle.identifiers.specs.declared.Oid.the-variants.{Numbers, Range, Refused as NoOid}
 use Rattle.entries.specs.declared.Cell.{Cell}
 use Rattle.entries.specs.Cell.{cell, cellOf, numbersCell}
 use Rattle.grammar.specs.declared.Leaf.{Leaf}
@@ -94,10 +93,13 @@ valueLeaf s at what above (Text start len) = textLeaf s at what above start len
 valueLeaf s at what above (Truth b) = Kept (cellOf (Truth b)) above
 valueLeaf s at what above (Octets start len) = Kept (cellOf (Octets start len)) above
 
+-- what was read, judged on; or the refusal, as the answer says it
+abbrev pub onSaid : {A : Type 0} → (A → Leaf) → Said A → Leaf
+onSaid leaf (done x) = leaf x
+onSaid leaf (refused number place) = Not number place
+
 abbrev pub judged : List ℕ → ℕ → ℕ → ℕ → Answer → Leaf
-judged s at what above (Found v next) = valueLeaf s at what above v
-judged s at what above Other = Not 33 at
-judged s at what above (Refused number place) = Not number place
+judged s at what above a = onSaid (λ v. valueLeaf s at what above (v .0)) (answerSays a at)
 
 -- "37 PATH: path empty, over 16 (parents counted) or with a number out of range"; a source out of its range is 34
 abbrev pub pathLeaf : ℕ → ℕ → ℕ → Arcs → Leaf
@@ -105,10 +107,12 @@ pathLeaf at start len bad = Not 30 at
 pathLeaf at start len over = Not 37 at
 pathLeaf at start len (numbers ns) = pick (isPath ns) (Kept (numbersCell start len) (length ns)) (Not 37 at)
 
+-- the sources, by what reading their octets answers
+abbrev pub oidLeaf : ℕ → ℕ → ℕ → ℕ → Oid → Leaf
+oidLeaf at start len above o = onSaid (λ count. Kept (numbersCell start len) above) (oidSays o 34 at)
+
 abbrev pub listLeaf : ℕ → ℕ → ℕ → ℕ → Arcs → Leaf
-listLeaf at start len above bad = Not 30 at
-listLeaf at start len above over = Not 34 at
-listLeaf at start len above (numbers ns) = Kept (numbersCell start len) above
+listLeaf at start len above a = oidLeaf at start len above (oidOf a)
 
 -- a relative identifier: "a value is checked once whole"
 unfoldable pub numbersAt : List ℕ → ℕ → ℕ → ℕ → ℕ → ℕ → Leaf
@@ -135,12 +139,6 @@ wordIn what w =
 abbrev pub LeafBounded : ℕ → Leaf → Type 0
 LeafBounded above (Kept v n) = (n ≤ 16) ⊎ (n ≡ above)
 LeafBounded above (Not number place) = Unit {0}
-
--- the sources, by what reading their octets answers
-abbrev pub oidLeaf : ℕ → ℕ → ℕ → ℕ → Oid → Leaf
-oidLeaf at start len above (Numbers count) = Kept (numbersCell start len) above
-oidLeaf at start len above Range = Not 34 at
-oidLeaf at start len above NoOid = Not 30 at
 
 -- The cell of a value by its universal tag number and its first word: a text's, octets' or numbers' second word is the length.
 unfoldable pub cellBy : ℕ → ℕ → ℕ → Cell

@@ -66,7 +66,7 @@ pub level-is : (n : ℕ) (e : ℤ) (p : ℤ) → n * up e * down p ≡ n * 2 ^ (
 level-is n e p = rw (up-is e, down-is p) (powers n (over e) (below p))
 
 pub odd-is : (m : ℕ) → 0 < m → m < 2 ^ 64 → oddPart m % 2 ≡ 1
-odd-is m some word = halved 64 m some word .0
+odd-is m some word = omega (arith, halved 64 m some word .0)
 
 module _ (m : ℕ) (p : ℤ) (some : 0 < m) (word : m < 2 ^ 64) where
   whole : (e : ℤ) → m * up p * down e ≡ oddPart m * 2 ^ (over p + halvings m + below e)

@@ -9,7 +9,7 @@ use lib.IntN.{ℤ}
 use lib.Ieee as Ieee
 use lib.Ieee.{fin, minus, size, binary64}
 use Rattle.reals.specs.declared.Read.the-variants.{Real, Refused}
-use Rattle.reals.specs.Number.{halvings, oddPart, oddPower, inDouble, number}
+use Rattle.reals.specs.Number.{halvings, oddPart, oddPower, limit, inDouble, number}
 use Rattle.reals.proofs.Doubles.{odd-is}
 use Rattle.reals.specs.Pattern.{bitsOf}
 use Rattle.reals.proofs.Patterns.{bits-back, bits-no-nan}
@@ -25,7 +25,7 @@ unfolding number
 number-zero s m p h = simp (le-ltb 0 m (omega arith))
 
 -- the rule at a difference
-pub rule-at : (n : ℕ) (z : ℤ) (a b : ℕ) → Is z a b → inDouble n z ≡ ltb n (2 ^ 53) && (leb b (a + 1074) && leb (size n + a) (b + 1024))
+pub rule-at : (n : ℕ) (z : ℤ) (a b : ℕ) → Is z a b → inDouble n z ≡ ltb n limit && (leb b (a + 1074) && leb (size n + a) (b + 1024))
 unfolding inDouble
 rule-at n z a b h = rw (least-is z a b h, most-is (size n) z a b h)
 
@@ -33,7 +33,7 @@ module _ (s : Bool) (m a b : ℕ) where
   abbrev odd-at : Is (oddPower m (minus a b)) (a + halvings m) b
   odd-at = add-is (minus a b) (halvings m) a b (minus-is a b)
 
-  pub number-wide : 2 ^ 53 ≤ oddPart m → Refused ≡ number s m (minus a b)
+  pub number-wide : limit ≤ oddPart m → Refused ≡ number s m (minus a b)
   unfolding number
   number-wide h = simp (rule-at (oddPart m) (oddPower m (minus a b)) (a + halvings m) b odd-at, le-ltb _ _ h, and-false)
 
@@ -46,7 +46,7 @@ module _ (s : Bool) (m a b : ℕ) where
   number-high h = simp (rule-at (oddPart m) (oddPower m (minus a b)) (a + halvings m) b odd-at, lt-leb _ _ h, and-false)
 
   -- the double, j its power of two counted from -1,074
-  module _ (j : ℕ) (some : 0 < m) (narrow : oddPart m < 2 ^ 53) (counted : a + halvings m + 1074 ≡ b + j) (short : size (oddPart m) + j ≤ 2098) where
+  module _ (j : ℕ) (some : 0 < m) (narrow : oddPart m < limit) (counted : a + halvings m + 1074 ≡ b + j) (short : size (oddPart m) + j ≤ 2098) where
     pub power-at : minus j 1074 ≡ oddPower m (minus a b)
     power-at =
         let i = odd-at in

@@ -16,15 +16,21 @@ abbrev pub halvings : ℕ → ℕ
 halvings m = trailingZeros 64 m
 
 -- "with the mantissa made odd": the mantissa, and its power of two
+abbrev pub halved : ℕ → ℕ → ℕ
+halved m times = m / 2 ^ times
+
 abbrev pub oddPart : ℕ → ℕ
-oddPart m = m / 2 ^ halvings m
+oddPart m = halved m (halvings m)
 
 abbrev pub oddPower : ℕ → ℤ → ℤ
 oddPower m p = p +ℤ pos (halvings m)
 
 -- "it is under 2^53, its power of two at least -1,074, its bits plus the power at most 1,024"
+abbrev pub limit : ℕ
+limit = 2 ^ 53
+
 unfoldable pub inDouble : ℕ → ℤ → Bool
-inDouble m p = ltb m (2 ^ 53) && (leZ (negsuc 1073) p && leZ (pos (size m) +ℤ p) (pos 1024))
+inDouble m p = ltb m limit && (leZ (negsuc 1073) p && leZ (pos (size m) +ℤ p) (pos 1024))
 
 -- a mantissa of 0 is refused; the double is written as the library writes it, with an odd mantissa
 unfoldable pub number : Bool → ℕ → ℤ → Read

@@ -8,7 +8,7 @@ ghost use lib.Ieee.{fin, minus, size, odd, ofBits, binary64};
 ghost use Rattle.integers.specs.Digits.{digits, put, outcome};
 ghost use Rattle.integers.specs.Integer.{signed, shortest};
 ghost use Rattle.integers.specs.Said.{Told};
-ghost use Rattle.reals.specs.Number.{number};
+ghost use Rattle.reals.specs.Number.{halved, number};
 ghost use Rattle.reals.specs.Real.{binaryReal, realAt, realSays, realOr};
 ghost use Rattle.reals.specs.Write.{firstOctet, numberOctets, writeAt};
 ghost use Rattle.reals.specs.Pattern.{signBit, bitsOf};
@@ -31,7 +31,7 @@ fn halvings(m: u64) -> u64
 // m halved so often.
 fn halved(m: u64, times: u64) -> u64
     requires { ⌜ times < 64 ⌝ }
-    ensures { λ r. ⌜ r ≡ m / 2 ^ times ⌝ }
+    ensures { λ r. ⌜ r ≡ halved m times ⌝ }
 {
     m >> times
 }

@@ -10,7 +10,7 @@ use lib.Ieee.{binary64, size, minus}
 use lib.Ieee.Digits.{size-le}
 use borrow.Author.Needs.{needs}
 use Rattle.reals.specs.declared.Read.the-variants.{Real}
-use Rattle.reals.specs.Number.{halvings, oddPart, number}
+use Rattle.reals.specs.Number.{halvings, halved, oddPart, limit, number}
 use Rattle.reals.proofs.Odd.{halvings-lt}
 use Rattle.reals.proofs.Doubles.{odd-is}
 use Rattle.reals.specs.Pattern.{bitsOf}
@@ -33,7 +33,7 @@ module _ (c : tie.After-halved) where
   zeros = c .before .halvings .ensures
 
   odd : c .halved .result ≡ oddPart (entry .args .m)
-  odd = c .halved .ensures ∙ ap (λ (z : ℕ). entry .args .m / 2 ^ z) zeros
+  odd = c .halved .ensures ∙ ap (halved (entry .args .m)) zeros
 
 returns : tie.Need-returns
 returns c = number-zero (c .before .args .negative) (c .before .args .m) (minus (c .before .args .power) 16777216) (c .if1 .taken)
@@ -105,7 +105,7 @@ module _ (c : tie.After-pattern) where
       let a = start .args in
       let j = a .power + halvings (a .m) - 16776142 in
       let h = zeros k in
-      let n : oddPart (a .m) < 2 ^ 53 = omega (arith, odd k) in
+      let n : oddPart (a .m) < limit = omega (arith, odd k) in
       let t : a .power + halvings (a .m) + 1074 ≡ 16777216 + j = omega arith in
       let z : c .before .before .bits .result ≡ size (oddPart (a .m)) = c .before .before .bits .ensures ∙ ap size (odd k) in
       let w : size (oddPart (a .m)) + j ≤ 2098 = omega arith in
