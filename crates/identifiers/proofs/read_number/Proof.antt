@@ -21,7 +21,7 @@ abbrev μ-loop : tie.MeasureT-loop
 -- the octets from p on, where they do not start with 80
 whole : (c : tie.Else3 Inv-loop μ-loop) {r : Arc} → r ≡ arcFrom 0 (c .before .before .before .before .before .args .p) (take (c .before .before .before .before .before .args .end - c .before .before .before .before .before .args .p) (drop (c .before .before .before .before .before .args .p) (c .before .before .before .before .before .args .s .now)))
     → r ≡ arcAt (c .before .before .before .before .before .args .s .now) (c .before .before .before .before .before .args .p) (c .before .before .before .before .before .args .end)
-whole c e = e ∙ arc-from _ _ _ (c .before .before .before .if1 .left) (c .before .before .if2 .left) (c .if3 .left)
+whole c e = e ∙ arc-from _ _ _ (c .before .before .before .if1 .left) (c .before .before .if2 .left) (λ h. omega (arith, h, c .if3 .left))
 
 returns : tie.Need-returns Inv-loop μ-loop
 returns c = (told arc-row (arc-past _ _ _ (c .if1 .taken)), tt)
@@ -33,7 +33,7 @@ shared-slice-read-if3 : tie.Need-shared-slice-read-if3 Inv-loop μ-loop
 shared-slice-read-if3 c = omega arith
 
 returns-3 : tie.Need-returns-3 Inv-loop μ-loop
-returns-3 c = (told arc-row (arc-80 _ _ _ (c .before .before .before .if1 .left) (c .before .before .if2 .left) (c .if3 .taken)), tt)
+returns-3 c = (told arc-row (arc-80 _ _ _ (c .before .before .before .if1 .left) (c .before .before .if2 .left) (omega arith)), tt)
 
 loop-holds : tie.Need-loop-holds Inv-loop μ-loop
 loop-holds c = (omega arith, (omega arith, (omega arith, refl)))
