@@ -1,17 +1,17 @@
 -- THE PROMISE of request 01 for the C functions, over every list of calls: the words hold the state that `show` would be handed, so the calls are those of
 -- supervision's own promise. It rests on the contracts of supervision_start and supervision_show; that there are such calls for every list is shown at the end.
-use Prim.Native.Nat.{ℕ, _+_, _<_}
+use Prim.Native.Nat.{ℕ, _+_, _≤_, _<_}
 use mathlib.Core.Bool.{Bool, true, false}
 use mathlib.Core.List.{List, [], _∷_, map}
 use mathlib.Core.Path.{_≡_, refl, sym, ap, subst, _∙_}
 use native.Mathlib.Omega.{arith}
-use borrow.Author.Tests.{eq-eqb}
+use borrow.Author.Tests.{eq-eqb, eqb-true, ltb-true}
 use contract.Lifetimes.{Lfts}
 use denote.Ref.{RefT, now}
 use denote.Triple.Clauses as Clauses
 use borrow.Fn.World as World
 use borrow.Fn.Kinds as K
-use lib.Dec.{eqb}
+use lib.Dec.{ltb, eqb}
 use lib.ListN.{length}
 use types.Run.{OneOf, hit}
 use Rattle.framing.specs.declared.Event.{Event as SessionEvent}
@@ -29,11 +29,13 @@ use Rattle.supervision.specs.declared.Shown.{Shown}
 use Rattle.supervision.specs.Events.{happenedBy}
 use Rattle.supervision.specs.Promise as rules
 use Rattle.supervision.specs.Promise.{tickAt, Often, lastEvent, isDead}
+use Rattle.supervision.specs.Rules.{Showing}
 use Rattle.supervision.specs.Supervisor.{wrap, begun, isDue, waited, heard, shows}
 use Rattle.supervision.proofs.Promise as supervision
 use Rattle.supervision_c.specs.Words.{tickWord, wordsOf, linkAt, isLink, numberOf}
 use Rattle.supervision_c.specs.Calls.{Called, setup, starts, told, calls}
 use Rattle.supervision_c.specs.Promise.{startNumbers, showNumbers, Seen, showing, showings, Shows, none, show, DeadBy, here, later, NeverDead, Promised}
+use Rattle.supervision_c.specs.Promise.{Silence, asks, deadNumber}
 use Rattle.supervision_c.proofs.Laws.{words-back, words-link}
 use Rattle.supervision_c.proofs.supervision_start
 use Rattle.supervision_c.proofs.supervision_start.Kinds as start-kinds
@@ -135,6 +137,88 @@ promise ws₀ {o} {s} {z} {xs = xs} b calls often =
       dead-in-time = λ h. subst (DeadBy t xs) (sym (k .numbers-are)) (by-numbers xs (k .answered) (f .dead-in-time h));
       never-dead = λ h. subst NeverDead (sym (k .numbers-are)) (never-numbers (k .answered) (f .never-dead h));
     }
+
+-- ---- "it asks, once a silence"
+
+abbrev isSilent : Link → Bool
+isSilent (Silent t) = true
+isSilent (Asked t) = false
+isSilent Dead = false
+
+never : {A : Type 0} → true ≡ false → A
+never e = let z : _≡_ {A = ℕ} 0 1 = cc in absurd (omega arith)
+
+-- with no event, a link that has asked, or is dead, does not ask and stays so
+abbrev Still : Shown → Type 0
+Still x = (eqb (numberOf (x .answer)) 2 ≡ false) × (isSilent (x .link) ≡ false)
+
+still-asked : (l : Link) (tick : ℕ) → isSilent l ≡ false → Still (waited l tick)
+unfolding waited
+still-asked (Silent t) tick h = never h
+still-asked (Asked t) tick h = pick-by Still (isDue t tick) (λ e. (refl, refl)) (λ e. (refl, refl))
+still-asked Dead tick h = (refl, refl)
+
+-- .. and one that is silent after a showing did not ask at it
+still-silent : (l : Link) (tick : ℕ) → isSilent (waited l tick .link) ≡ true → eqb (numberOf (waited l tick .answer)) 2 ≡ false
+unfolding waited
+still-silent (Silent t) tick =
+    pick-by (λ (x : Shown). isSilent (x .link) ≡ true → eqb (numberOf (x .answer)) 2 ≡ false) (isDue t tick) (λ e h. never (sym h)) (λ e h. refl)
+still-silent (Asked t) tick =
+    pick-by (λ (x : Shown). isSilent (x .link) ≡ true → eqb (numberOf (x .answer)) 2 ≡ false) (isDue t tick) (λ e h. never (sym h)) (λ e h. refl)
+still-silent Dead tick = λ h. never (sym h)
+
+quiet-shown : (l : Link) (tick : ℕ) {h : Happened} {r : Shown} → r ≡ shows l tick h → h ≡ Nothing → r ≡ waited l tick
+unfolding shows
+quiet-shown l tick e q = e ∙ ap (shows l tick) q
+
+none-asked : {o : ℕ} {xs : List Showing} {rs : List Answer} {l l′ : Link} → rules.Calls o l xs rs l′ → isSilent l ≡ false → Silence xs
+    → asks (map numberOf rs) ≡ 0
+none-asked rules.none q h = refl
+none-asked {o} {l = l} (rules.call x r e more) q h =
+    let k = subst Still (sym (quiet-shown l (tickAt o (x .time)) e (h .0))) (still-asked l (tickAt o (x .time)) q) in
+    rw (k .0) (none-asked more (k .1) (h .1))
+
+once-asked : {o : ℕ} {xs : List Showing} {rs : List Answer} {l l′ : Link} → rules.Calls o l xs rs l′ → Silence xs → asks (map numberOf rs) ≤ 1
+once-asked rules.none h = omega arith
+once-asked {o} {l = l} (rules.call {rs = rs} x r e more) h = go (isSilent (r .link)) refl (once-asked more (h .1)) (λ q. none-asked more q (h .1))
+  where
+    go : (u : Bool) → isSilent (r .link) ≡ u → asks (map numberOf rs) ≤ 1 → (isSilent (r .link) ≡ false → asks (map numberOf rs) ≡ 0)
+        → pick (eqb (numberOf (r .answer)) 2) (asks (map numberOf rs) + 1) (asks (map numberOf rs)) ≤ 1
+    go true q once zero =
+        let s : eqb (numberOf (r .answer)) 2 ≡ false =
+        subst (λ (v : Shown). isSilent (v .link) ≡ true → eqb (numberOf (v .answer)) 2 ≡ false) (sym (quiet-shown l (tickAt o (x .time)) e (h .0))) (still-silent l (tickAt o (x .time))) q in
+        rw s once
+    go false q once zero = pick-by (λ (n : ℕ). n ≤ 1) (eqb (numberOf (r .answer)) 2) (λ _. omega (arith, zero q)) (λ _. once)
+
+-- From the words of any state, whatever the ticks: calls that show no event ask for a request once at most.
+pub asks-once : {o : ℕ} {ws ws″ : List ℕ} {xs : List Seen} {ns : List ℕ} → Shows o ws xs ns ws″ → (l : Link) → ws ≡ wordsOf l → tickWord l < wrap
+    → Silence (showings xs) → asks ns ≤ 1
+asks-once calls l w h q =
+    let k = under calls l w h in
+    subst (λ (v : List ℕ). asks v ≤ 1) (sym (k .numbers-are)) (once-asked (k .made) q)
+
+-- ---- "dead, for good"
+
+dead-called : (tick n : ℕ) → calls (wordsOf Dead) tick n ≡ record { number = pick (eqb n 4) 3 4; link = wordsOf Dead }
+unfolding shows waited
+dead-called tick n = calls-words Dead tick n (omega arith) ∙ go (ltb n 2) refl (eqb n 4) refl
+  where
+    go : (u : Bool) → ltb n 2 ≡ u → (v : Bool) → eqb n 4 ≡ v
+        → _≡_ {A = Called} (told (shows Dead tick (pick u Nothing (pick v Request Event)))) (record { number = pick v 3 4; link = wordsOf Dead })
+    go true a true b = absurd (omega (arith, ltb-true n 2 a, eqb-true n 4 b))
+    go true a false b = refl
+    go false a true b = refl
+    go false a false b = refl
+
+-- A dead link stays dead, whatever is shown, and answers so; a request has its response.
+pub dead-for-good : {o : ℕ} {ws ws″ : List ℕ} {xs : List Seen} {ns : List ℕ} → Shows o ws xs ns ws″ → ws ≡ wordsOf Dead
+    → (ns ≡ map deadNumber xs) × (ws″ ≡ wordsOf Dead)
+dead-for-good none w = (refl, w)
+dead-for-good {o} (show {ns = ns} x r e more) w =
+    let tick = tickAt o (x .time) in
+    let q : r ≡ record { number = deadNumber x; link = wordsOf Dead } = sym e ∙ ap (λ (v : List ℕ). calls v tick (x .number)) w ∙ dead-called tick (x .number) in
+    let k = dead-for-good more (ap (λ (v : Called). v .link) q) in
+    (ap (λ (v : Called). v .number ∷ ns) q ∙ ap (λ (v : List ℕ). deadNumber x ∷ v) (k .0), k .1)
 
 -- The number of a session call's event, whatever store it left, shows what `happening` says of the event.
 pub number-happening : (e : SessionEvent) (t : List ℕ) → happenedBy (saidBy e t .number) ≡ happenedBy (saidBy e [] .number)

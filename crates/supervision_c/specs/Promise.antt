@@ -5,6 +5,8 @@ use mathlib.Core.Bool.{false}
 use mathlib.Core.List.{List, [], _∷_, map}
 use mathlib.Core.Path.{_≡_}
 use lib.Dec.{eqb}
+use Rattle.framing.specs.Numbers.{pick}
+use Rattle.supervision.specs.declared.Happened.the-variants.{Nothing}
 use Rattle.supervision.specs.Events.{happenedBy}
 use Rattle.supervision.specs.Promise.{tickAt, lastEvent, Lively}
 use Rattle.supervision.specs.Rules.{Showing, begins, answers}
@@ -53,3 +55,19 @@ pub record Promised (s z : ℕ) (xs : List Seen) (ns : List ℕ) : Type 0 where
   pub as-rules : ns ≡ map numberOf (answers (begins s) (showings xs))
   pub dead-in-time : lastEvent s (showings xs) + 12000 ≤ z → DeadBy (lastEvent s (showings xs) + 12000) xs ns
   pub never-dead : Lively s (showings xs) → NeverDead ns
+
+-- ---- "it asks, once a silence"; "dead, for good"
+
+-- showings in a silence: none is of an event
+abbrev pub Silence : List Showing → Type 0
+Silence [] = Unit {0}
+Silence (x ∷ xs) = (x .happened ≡ Nothing) × Silence xs
+
+-- how often a keep-alive request is asked for
+abbrev pub asks : List ℕ → ℕ
+asks [] = 0
+asks (n ∷ ns) = pick (eqb n 2) (asks ns + 1) (asks ns)
+
+-- what a dead link answers: a request has its response, and everything else is told that the link is dead
+abbrev pub deadNumber : Seen → ℕ
+deadNumber x = pick (eqb (x .number) 4) 3 4
