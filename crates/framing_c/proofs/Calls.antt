@@ -29,7 +29,7 @@ use Rattle.framing_writer.specs.Written.{bodyLimit, frame, requestBody, respons
 use Rattle.framing_writer.proofs.Calls as writer
 use Rattle.framing_writer.proofs.Sizes.{frame-fits, message-fits}
 use Rattle.session_words.specs.Words.{wordsOf, sessionAt}
-use Rattle.framing_c.specs.Calls.{Started, starts, Called, accepts, told as toldBy, calls, puts}
+use Rattle.framing_c.specs.Calls.{Started, starts, Called, accepts, told as toldBy, calls, Put, puts}
 use Rattle.framing_c.specs.Offers.{startNumbers, Turn, consumed, Turns, none, turn, eaten, told, Serves, done, whole, part}
 use Rattle.framing_c.proofs.Laws.{calls-words}
 use Rattle.framing_c.proofs.Claim.{as-rules}
@@ -39,6 +39,16 @@ use Rattle.framing_c.proofs.framing_start.Reads as start-reads
 use Rattle.framing_c.proofs.framing_feed
 use Rattle.framing_c.proofs.framing_feed.Kinds as feed-kinds
 use Rattle.framing_c.proofs.framing_feed.Reads as feed-reads
+use Rattle.framing_c.proofs.framing_write_frame
+use Rattle.framing_c.proofs.framing_write_frame.Kinds as frame-kinds
+use Rattle.framing_c.proofs.framing_write_frame.Reads as frame-reads
+use Rattle.framing_c.proofs.framing_write_request
+use Rattle.framing_c.proofs.framing_write_request.Kinds as request-kinds
+use Rattle.framing_c.proofs.framing_write_request.Reads as request-reads
+use Rattle.framing_c.proofs.framing_write_response
+use Rattle.framing_c.proofs.framing_write_response.Reads as response-reads
+use Rattle.framing_c.proofs.framing_write_message
+use Rattle.framing_c.proofs.framing_write_message.Reads as message-reads
 
 -- ---- the contracts
 
@@ -65,9 +75,53 @@ pub record Feed (ws t c a : List ℕ) (r : Called) : Type 0 where
   pub answer-left : now (exits .1 .1 .1 .0) ≡ r .answer
   pub ensured : feed-reads.Post κs args (r .number) exits
 
--- a lent slice that holds xs
-lent : List ℕ → RefT (List ℕ)
-lent xs = record { ptr = (0, 0); name = 0; now = xs }
+-- What framing_write_frame and framing_write_message ensure, of their arguments, number and what is left; what framing_write_request and framing_write_response do.
+abbrev WriteEnsures : Type 1
+WriteEnsures =
+    (κs : Lfts 3) → World.ArgsD framing_write_frame.signature κs → ℕ → Clauses.AtExit (K.endedOf 3 frame-kinds.ps frame-kinds.r) κs → Type 0
+
+abbrev KeepAliveEnsures : Type 1
+KeepAliveEnsures =
+    (κs : Lfts 2) → World.ArgsD framing_write_request.signature κs → ℕ → Clauses.AtExit (K.endedOf 2 request-kinds.ps request-kinds.r) κs → Type 0
+
+-- A call of framing_write_frame or framing_write_message, by what its contract ensures: xs, the output and the count handed in, and what it answered and left.
+pub record Write (Post : WriteEnsures) (xs out : List ℕ) (count : ℕ) (r : Put) : Type 0 where
+  pub κs : Lfts 3
+  pub args : World.ArgsD framing_write_frame.signature κs
+  pub exits : Clauses.AtExit (K.endedOf 3 frame-kinds.ps frame-kinds.r) κs
+  pub given-is : now (args .0) ≡ xs
+  pub output-is : now (args .1 .0) ≡ out
+  pub count-is : now (args .1 .1 .0) ≡ count
+  pub output-left : now (exits .1 .0) ≡ r .output
+  pub count-left : now (exits .1 .1 .0) ≡ r .count
+  pub ensured : Post κs args (r .number) exits
+
+-- The same of framing_write_request or framing_write_response, which are handed the output and the count alone.
+pub record KeepAlive (Post : KeepAliveEnsures) (out : List ℕ) (count : ℕ) (r : Put) : Type 0 where
+  pub κs : Lfts 2
+  pub args : World.ArgsD framing_write_request.signature κs
+  pub exits : Clauses.AtExit (K.endedOf 2 request-kinds.ps request-kinds.r) κs
+  pub output-is : now (args .0) ≡ out
+  pub count-is : now (args .1 .0) ≡ count
+  pub output-left : now (exits .0) ≡ r .output
+  pub count-left : now (exits .1 .0) ≡ r .count
+  pub ensured : Post κs args (r .number) exits
+
+abbrev pub FrameWrite : List ℕ → List ℕ → ℕ → Put → Type 0
+FrameWrite xs out count r = Write frame-reads.Post xs out count r
+
+abbrev pub MessageWrite : List ℕ → List ℕ → ℕ → Put → Type 0
+MessageWrite m out count r = Write message-reads.Post m out count r
+
+abbrev pub RequestWrite : List ℕ → ℕ → Put → Type 0
+RequestWrite out count r = KeepAlive request-reads.Post out count r
+
+abbrev pub ResponseWrite : List ℕ → ℕ → Put → Type 0
+ResponseWrite out count r = KeepAlive response-reads.Post out count r
+
+-- a lent slice or word that holds x
+lent : {A : Type 0} → A → RefT A
+lent x = record { ptr = (0, 0); name = 0; now = x }
 
 -- What the calls give is what `starts` and `calls` say, and nothing else.
 pub start-says : {ws : List ℕ} {n : ℕ} {ws′ : List ℕ} → Start ws n ws′ → starts ws ≡ record { number = n; session = ws′ }
@@ -99,6 +153,57 @@ feed-called ws t c a {r} e =
       answer-left = refl;
       ensured = e;
     }
+
+-- a record, its parts written out
+abbrev parts : Put → Put
+parts r = record { number = r .number; output = r .output; count = r .count }
+
+module _ {out : List ℕ} {count : ℕ} {r : Put} where
+  pub frame-says : {xs : List ℕ} → FrameWrite xs out count r → puts (frameInto xs out) count ≡ r
+  frame-says {xs} k = let e : puts (frameInto xs out) count ≡ parts r = cc (k .ensured) in e
+
+  pub message-says : {m : List ℕ} → MessageWrite m out count r → puts (messageInto m out) count ≡ r
+  message-says {m} k = let e : puts (messageInto m out) count ≡ parts r = cc (k .ensured) in e
+
+  pub request-says : RequestWrite out count r → puts (into (frame requestBody) out) count ≡ r
+  request-says k = let e : puts (into (frame requestBody) out) count ≡ parts r = cc (k .ensured) in e
+
+  pub response-says : ResponseWrite out count r → puts (into (frame responseBody) out) count ≡ r
+  response-says k = let e : puts (into (frame responseBody) out) count ≡ parts r = cc (k .ensured) in e
+
+-- There is such a call for everything that can be handed in.
+module _ (out : List ℕ) (count : ℕ) where
+  pub some-frame-write : (xs : List ℕ) → FrameWrite xs out count (puts (frameInto xs out) count)
+  unfolding lent
+  some-frame-write xs =
+      let r = puts (frameInto xs out) count in
+      record {
+        κs = ([], ([], ([], tt)));
+        args = (lent xs, (lent out, (lent count, tt)));
+        exits = (lent xs, (lent (r .output), (lent (r .count), tt)));
+        given-is = refl;
+        output-is = refl;
+        count-is = refl;
+        output-left = refl;
+        count-left = refl;
+        ensured = refl;
+      }
+
+  pub some-message-write : (m : List ℕ) → MessageWrite m out count (puts (messageInto m out) count)
+  unfolding lent
+  some-message-write m =
+      let r = puts (messageInto m out) count in
+      record {
+        κs = ([], ([], ([], tt)));
+        args = (lent m, (lent out, (lent count, tt)));
+        exits = (lent m, (lent (r .output), (lent (r .count), tt)));
+        given-is = refl;
+        output-is = refl;
+        count-is = refl;
+        output-left = refl;
+        count-left = refl;
+        ensured = refl;
+      }
 
 -- A turn is a call of framing_feed, lent some counts of the words and of the store.
 pub turn-is-call : {ws t bytes ws″ t″ rest″ : List ℕ} {x : Turn} {xs : List Turn} → Turns ws t bytes (x ∷ xs) ws″ t″ rest″
@@ -145,6 +250,13 @@ module _ (count : ℕ) where
 
   pub message-enough : (m out : List ℕ) → length m ≤ messageLimit → messageRoom ≤ length out → puts (messageInto m out) count .number ≡ 0
   message-enough m out h r = puts-number (messageInto m out) count ∙ ap (λ (o : Outcome). o .number) (message-fits m out h r)
+
+-- .. so no call of framing_write_frame or framing_write_message answers 46 with that much room.
+pub frame-done : {xs out : List ℕ} {count : ℕ} {r : Put} → FrameWrite xs out count r → length xs ≤ bodyLimit → frameRoom ≤ length out → r .number ≡ 0
+frame-done {xs} {out} {count} k h room = ap (λ (x : Put). x .number) (sym (frame-says k)) ∙ frame-enough count xs out h room
+
+pub message-done : {m out : List ℕ} {count : ℕ} {r : Put} → MessageWrite m out count r → length m ≤ messageLimit → messageRoom ≤ length out → r .number ≡ 0
+message-done {m} {out} {count} k h room = ap (λ (x : Put). x .number) (sym (message-says k)) ∙ message-enough count m out h room
 
 -- ---- there are calls for every stream
 

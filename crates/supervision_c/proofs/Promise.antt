@@ -197,6 +197,11 @@ asks-once calls l w h q =
     let k = under calls l w h in
     subst (λ (v : List ℕ). asks v ≤ 1) (sym (k .numbers-are)) (once-asked (k .made) q)
 
+-- A request has its response in every state, whatever the tick.
+pub request-answered : (ws : List ℕ) (tick : ℕ) → isLink ws ≡ true → calls ws tick 4 .number ≡ 3
+unfolding calls shows
+request-answered ws tick h = rw h refl
+
 -- ---- "dead, for good"
 
 dead-called : (tick n : ℕ) → calls (wordsOf Dead) tick n ≡ record { number = pick (eqb n 4) 3 4; link = wordsOf Dead }
@@ -238,10 +243,10 @@ start-numbers ws tick =
     pick-by (λ (x : Called). OneOf startNumbers (x .number)) (eqb (length ws) 2) (λ e. hit startNumbers 0 tt) (λ e. hit startNumbers 1 tt)
 
 answer-numbered : (r : Answer) → OneOf showNumbers (numberOf r)
-answer-numbered say.Nothing = hit showNumbers 0 tt
-answer-numbered say.Ask = hit showNumbers 2 tt
-answer-numbered say.Respond = hit showNumbers 3 tt
-answer-numbered say.Dead = hit showNumbers 4 tt
+answer-numbered say.Nothing = hit showNumbers (numberOf say.Nothing) tt
+answer-numbered say.Ask = hit showNumbers (numberOf say.Ask) tt
+answer-numbered say.Respond = hit showNumbers (numberOf say.Respond) tt
+answer-numbered say.Dead = hit showNumbers (numberOf say.Dead) tt
 
 pub show-numbers : (ws : List ℕ) (tick n : ℕ) → OneOf showNumbers (calls ws tick n .number)
 unfolding calls
