@@ -12,7 +12,7 @@ use denote.Triple.Clauses as Clauses
 use borrow.Fn.World as World
 use borrow.Fn.Kinds as K
 use lib.Dec.{eqb}
-use lib.ListN.{length, take, drop, drop-of-length-le}
+use lib.ListN.{length, take, drop, take-append-drop, drop-of-length-le}
 use lib.Seq.{take-all}
 use types.Run.{OneOf, hit}
 use Rattle.framing.specs.declared.Fed.{Fed}
@@ -31,7 +31,7 @@ use Rattle.framing_writer.proofs.Sizes.{frame-fits, message-fits}
 use Rattle.session_words.specs.Words.{wordsOf, sessionAt}
 use Rattle.framing_c.specs.Calls.{Started, starts, Called, accepts, told as toldBy, calls, Put, puts}
 use Rattle.framing_c.specs.Offers.{startNumbers, Turn, consumed, Turns, none, turn, eaten, told, Serves, done, whole, part}
-use Rattle.framing_c.proofs.Laws.{calls-words}
+use Rattle.framing_c.proofs.Laws.{calls-setup, calls-words}
 use Rattle.framing_c.proofs.Claim.{as-rules}
 use Rattle.framing_c.proofs.framing_start
 use Rattle.framing_c.proofs.framing_start.Kinds as start-kinds
@@ -259,6 +259,15 @@ pub message-done : {m out : List ℕ} {count : ℕ} {r : Put} → MessageWrite m
 message-done {m} {out} {count} k h room = ap (λ (x : Put). x .number) (sym (message-says k)) ∙ message-enough count m out h room
 
 -- ---- there are calls for every stream
+
+-- A refused call may stand before any list of calls, whatever it is lent and offered.
+pub refused-before : {ws t ws″ t″ rest″ : List ℕ} {xs : List Turn} (i j : ℕ) (a c later : List ℕ) → accepts (take i ws) (length (take j t)) (length a) ≡ false
+    → Turns ws t (c ++ later) xs ws″ t″ rest″
+    → Turns ws t (c ++ later) (record { offered = c; called = record { number = 1; session = take i ws; store = take j t; answer = a } } ∷ xs) ws″ t″ rest″
+refused-before {ws} {t} {ws″} {t″} {rest″} {xs} i j a c later h more =
+    turn i j a c later (record { number = 1; session = take i ws; store = take j t; answer = a }) (calls-setup (take i ws) (take j t) c a h)
+    (subst (λ (v : List ℕ). Turns v (take j t ++ drop j t) (c ++ later) xs ws″ t″ rest″) (sym (take-append-drop i ws))
+    (subst (λ (u : List ℕ). Turns ws u (c ++ later) xs ws″ t″ rest″) (sym (take-append-drop j t)) more))
 
 -- calls lent the four words, the whole store and three words for the answer, for turns of framing's claim
 pub record Lifted (s : Session) (t bytes : List ℕ) (us : List offers.Turn) (s″ : Session) (t″ rest″ : List ℕ) : Type 0 where

@@ -2,7 +2,7 @@
 -- supervision's own promise. It rests on the contracts of supervision_start and supervision_show; that there are such calls for every list is shown at the end.
 use Prim.Native.Nat.{ℕ, _+_, _≤_, _<_}
 use mathlib.Core.Bool.{Bool, true, false}
-use mathlib.Core.List.{List, [], _∷_, map}
+use mathlib.Core.List.{List, [], _∷_, _++_, map}
 use mathlib.Core.Path.{_≡_, refl, sym, ap, subst, _∙_}
 use native.Mathlib.Omega.{arith}
 use borrow.Author.Tests.{eq-eqb, eqb-true, ltb-true}
@@ -12,7 +12,7 @@ use denote.Triple.Clauses as Clauses
 use borrow.Fn.World as World
 use borrow.Fn.Kinds as K
 use lib.Dec.{ltb, eqb}
-use lib.ListN.{length}
+use lib.ListN.{length, take, drop, take-append-drop}
 use types.Run.{OneOf, hit}
 use Rattle.framing.specs.declared.Event.{Event as SessionEvent}
 use Rattle.framing.specs.declared.Event.the-variants as ev
@@ -34,7 +34,7 @@ use Rattle.supervision.specs.Supervisor.{wrap, begun, isDue, waited, heard, sho
 use Rattle.supervision.proofs.Promise as supervision
 use Rattle.supervision_c.specs.Words.{tickWord, wordsOf, linkAt, isLink, numberOf}
 use Rattle.supervision_c.specs.Calls.{Called, setup, starts, told, calls}
-use Rattle.supervision_c.specs.Promise.{startNumbers, showNumbers, Seen, showing, showings, Shows, none, show, DeadBy, here, later, NeverDead, Promised}
+use Rattle.supervision_c.specs.Promise.{startNumbers, showNumbers, Seen, showing, showings, Shows, none, show, refused, DeadBy, here, later, NeverDead, Promised}
 use Rattle.supervision_c.specs.Promise.{Silence, asks, deadNumber}
 use Rattle.supervision_c.proofs.Laws.{words-back, words-link}
 use Rattle.supervision_c.proofs.supervision_start
@@ -72,6 +72,20 @@ calls-words : (l : Link) (tick n : ℕ) → tickWord l < wrap → calls (wordsOf
 unfolding calls
 calls-words l tick n h = rw (words-link l h) (ap (λ (x : Link). told (shows x tick (happenedBy n))) (words-back l))
 
+-- a call that is answered with 1 leaves the words as they were
+answer-other : (r : Answer) → numberOf r ≡ 1 → ⊥
+answer-other say.Nothing h = omega (arith, h)
+answer-other say.Ask h = omega (arith, h)
+answer-other say.Respond h = omega (arith, h)
+answer-other say.Dead h = omega (arith, h)
+
+refused-same : (ws : List ℕ) (i tick n : ℕ) {r : Called} → calls (take i ws) tick n ≡ r → r .number ≡ 1 → r .link ++ drop i ws ≡ ws
+unfolding calls
+refused-same ws i tick n e q =
+    subst (λ (v : Called). v .number ≡ 1 → v .link ++ drop i ws ≡ ws) e
+    (pick-by (λ (v : Called). v .number ≡ 1 → v .link ++ drop i ws ≡ ws) (isLink (take i ws))
+    (λ _ h. absurd (answer-other (shows (linkAt (take i ws)) tick (happenedBy n) .answer) h)) (λ _ h. take-append-drop i ws)) q
+
 -- ---- the calls of supervision's promise that a list of calls makes
 
 record Under (o : ℕ) (l : Link) (xs : List Seen) (ns ws″ : List ℕ) : Type 0 where
@@ -95,6 +109,7 @@ under {o} {ws} (show {ns = ns} x r e more) l w h =
       numbers-are = ap (λ (v : Called). v .number ∷ ns) q ∙ ap (λ (v : List ℕ). numberOf (s .answer) ∷ v) (k .numbers-are);
       words-are = k .words-are;
     }
+under {ws = ws} (refused i tick n r e q more) l w h = under more l (refused-same ws i tick n e q ∙ w) h
 
 -- ---- dead, by numbers
 
@@ -224,6 +239,7 @@ dead-for-good {o} (show {ns = ns} x r e more) w =
     let q : r ≡ record { number = deadNumber x; link = wordsOf Dead } = sym e ∙ ap (λ (v : List ℕ). calls v tick (x .number)) w ∙ dead-called tick (x .number) in
     let k = dead-for-good more (ap (λ (v : Called). v .link) q) in
     (ap (λ (v : Called). v .number ∷ ns) q ∙ ap (λ (v : List ℕ). deadNumber x ∷ v) (k .0), k .1)
+dead-for-good {ws = ws} (refused i tick n r e q more) w = dead-for-good more (refused-same ws i tick n e q ∙ w)
 
 -- The number of a session call's event, whatever store it left, shows what `happening` says of the event.
 pub number-happening : (e : SessionEvent) (t : List ℕ) → happenedBy (saidBy e t .number) ≡ happenedBy (saidBy e [] .number)

@@ -2,9 +2,10 @@
 -- framing_feed answered.
 use Prim.Native.Nat.{ℕ, _+_, _≤_}
 use mathlib.Core.Bool.{false}
-use mathlib.Core.List.{List, [], _∷_, map}
+use mathlib.Core.List.{List, [], _∷_, _++_, map}
 use mathlib.Core.Path.{_≡_}
 use lib.Dec.{eqb}
+use lib.ListN.{take, drop}
 use Rattle.framing.specs.Numbers.{pick}
 use Rattle.supervision.specs.declared.Happened.the-variants.{Nothing}
 use Rattle.supervision.specs.Events.{happenedBy}
@@ -33,11 +34,13 @@ abbrev pub showings : List Seen → List Showing
 showings xs = map showing xs
 
 -- Calls of supervision_show one after another, each with the words that the one before it left and with the tick of what it shows. What a call gives is what `calls` says:
--- its contract.
+-- its contract. A call that is lent another count of words, and is answered with 1, shows nothing.
 pub data Shows : ℕ → List ℕ → List Seen → List ℕ → List ℕ → Type 0 where
   none : {o : ℕ} {ws : List ℕ} → Shows o ws [] [] ws
   show : {o : ℕ} {ws ws″ : List ℕ} {xs : List Seen} {ns : List ℕ} (x : Seen) (r : Called)
       → calls ws (tickAt o (x .time)) (x .number) ≡ r → Shows o (r .link) xs ns ws″ → Shows o ws (x ∷ xs) (r .number ∷ ns) ws″
+  refused : {o : ℕ} {ws ws″ : List ℕ} {xs : List Seen} {ns : List ℕ} (i tick n : ℕ) (r : Called)
+      → calls (take i ws) tick n ≡ r → r .number ≡ 1 → Shows o (r .link ++ drop i ws) xs ns ws″ → Shows o ws xs ns ws″
 
 -- A showing no later than the time t is answered with 4, dead.
 pub data DeadBy (t : ℕ) : List Seen → List ℕ → Type 0 where
