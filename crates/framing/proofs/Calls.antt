@@ -121,7 +121,8 @@ pub feed-setup : (s : Session) (t c : List ℕ) → eqb (feeds s t c .said .numb
 unfolding feeds
 feed-setup s t c = go (legal s (length t))
   where
-    go : (u : Bool) → eqb (pick u (run c (stateOf s t) t 0) (record { said = saidBy ev.Setup t; consumed = 0; session = s; store = t }) .said .number) 1 ≡ not u
+    go : (u : Bool)
+        → eqb (pick u (run c (stateOf s t) t 0) (record { said = saidBy ev.Setup t; consumed = 0; session = s; store = t }) .said .number) 1 ≡ not u
     go true = run-other c (stateOf s t) t 0
     go false = refl
 

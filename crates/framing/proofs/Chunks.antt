@@ -97,10 +97,10 @@ pub fresh-legal : {t : List ℕ} → length t ≡ storeLength → Legal (session
 fresh-legal room = record { room = room; frame = omega arith; message = omega arith }
 
 -- THE THEOREM. From a fresh session and any store of the right length, for every list of offers: the events, each with its offset, its discard and its
--- message's bytes as they stand in the store, are those that the rules give for the bytes consumed so far; so is the state that session and store hold
--- at the end; the bytes consumed are the stream's first; each call without an event consumed all it was offered (`counted`), and each with one exactly the bytes up to and
--- including the one that makes it by the rules (`stops`).
--- (That these are the calls of `start` and `feed`, and that every stream has such a list however it is cut: Calls.antt.)
+-- message's bytes as they stand in the store, are those that the rules give for the bytes consumed so far; so is the state that session and store hold at
+-- the end; the bytes consumed are the stream's first; each call without an event consumed all it was offered (`counted`), and each with one exactly the
+-- bytes up to and including the one that makes it by the rules (`stops`). (That these are the calls of `start` and `feed`, and that every stream has such
+-- a list however it is cut: Calls.antt.)
 pub chunk-free : {s : Session} {t t′ bytes rest : List ℕ} {ts : List Turn} → length t ≡ storeLength
     → Turns (sessionOf begin) t bytes ts s t′ rest → AsRules begin 0 ts s t′ bytes rest
 chunk-free room turns = as-rules turns 0 (fresh-legal room)

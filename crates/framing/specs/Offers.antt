@@ -49,8 +49,8 @@ pub record EndsWith (s : State) (bytes : List ℕ) (e : Said) : Type 0 where
   pub none-before : (n : ℕ) → happens s n front ≡ []
   pub event-is : step (after s front) byte .said ≡ e
 
--- "A call consumes bytes up to and including the one that makes an event": with an event, exactly the bytes up to and including the one that makes it by the rules,
--- which stand in the state s before the call.
+-- "A call consumes bytes up to and including the one that makes an event": with an event, exactly the bytes up to and including the one that makes it by
+-- the rules, which stand in the state s before the call.
 abbrev pub Stops : State → List Turn → Type 0
 Stops s [] = Unit {0}
 Stops s (x ∷ xs) =

@@ -1,7 +1,7 @@
--- Calls of the C functions. Their contracts say what the claim speaks of (Claim.antt), and with which numbers they answer; and the claim speaks of something: there is a
--- list of calls for every stream and every way to cut it.
+-- Calls of the C functions. Their contracts say what the claim speaks of (Claim.antt), and with which numbers they answer; and the claim speaks of
+-- something: there is a list of calls for every stream and every way to cut it.
 use Prim.Native.Nat.{ℕ, _≤_}
-use mathlib.Core.Bool.{false}
+use mathlib.Core.Bool.{Bool, true, false, not}
 use mathlib.Core.List.{List, [], _∷_, _++_, append-nil}
 use mathlib.Core.Path.{_≡_, refl, sym, ap, subst, _∙_}
 use native.Mathlib.Omega.{arith}
@@ -17,7 +17,7 @@ use lib.Seq.{take-all}
 use types.Run.{OneOf, hit}
 use Rattle.framing.specs.declared.Fed.{Fed}
 use Rattle.framing.specs.declared.Session.{Session}
-use Rattle.framing.specs.Numbers.{storeLength, messageLimit, feedNumbers}
+use Rattle.framing.specs.Numbers.{storeLength, messageLimit, feedNumbers, pick}
 use Rattle.framing.specs.Offers as offers
 use Rattle.framing.specs.Rules.{begin, happens, after}
 use Rattle.framing.specs.Session.{saidBy, stateOf, sessionOf, legal, Legal, Whole, answers, feeds}
@@ -25,13 +25,14 @@ use Rattle.framing.proofs.Laws.{true-legal, pick-by}
 use Rattle.framing.proofs.Sayable.{legal-answered}
 use Rattle.framing.proofs.Chunks as chunks
 use Rattle.framing.proofs.Calls as framing
-use Rattle.framing_writer.specs.Written.{bodyLimit, frame, requestBody, responseBody, Outcome, writeNumbers, into, frameInto, messageInto, frameRoom, messageRoom}
+use Rattle.framing_writer.specs.Written.{bodyLimit, frame, requestBody, responseBody, Outcome, writeNumbers, into, frameInto, messageInto}
+use Rattle.framing_writer.specs.Written.{frameRoom, messageRoom}
 use Rattle.framing_writer.proofs.Calls as writer
 use Rattle.framing_writer.proofs.Sizes.{frame-fits, message-fits}
 use Rattle.session_words.specs.Words.{wordsOf, sessionAt}
 use Rattle.framing_c.specs.Calls.{Started, starts, Called, accepts, told as toldBy, calls, Put, puts}
 use Rattle.framing_c.specs.Offers.{startNumbers, Turn, consumed, Turns, none, turn, eaten, told, Serves, done, whole, part}
-use Rattle.framing_c.proofs.Laws.{calls-setup, calls-words}
+use Rattle.framing_c.proofs.Laws.{accepts-legal, calls-setup, calls-words}
 use Rattle.framing_c.proofs.Claim.{as-rules}
 use Rattle.framing_c.proofs.framing_start
 use Rattle.framing_c.proofs.framing_start.Kinds as start-kinds
@@ -75,7 +76,8 @@ pub record Feed (ws t c a : List ℕ) (r : Called) : Type 0 where
   pub answer-left : now (exits .1 .1 .1 .0) ≡ r .answer
   pub ensured : feed-reads.Post κs args (r .number) exits
 
--- What framing_write_frame and framing_write_message ensure, of their arguments, number and what is left; what framing_write_request and framing_write_response do.
+-- What framing_write_frame and framing_write_message ensure, of their arguments, number and what is left; what framing_write_request and
+-- framing_write_response do.
 abbrev WriteEnsures : Type 1
 WriteEnsures =
     (κs : Lfts 3) → World.ArgsD framing_write_frame.signature κs → ℕ → Clauses.AtExit (K.endedOf 3 frame-kinds.ps frame-kinds.r) κs → Type 0
@@ -223,6 +225,16 @@ feed-numbers ws t c a =
     pick-by (λ (x : Called). OneOf feedNumbers (x .number)) (accepts ws (length t) (length a)) (λ e. framing.feed-numbers (sessionAt ws) t c)
     (λ e. hit feedNumbers 1 tt)
 
+-- .. and 1 exactly where a length is wrong or the words are no legal session's
+pub feed-setup : (ws t c a : List ℕ) → eqb (calls ws t c a .number) 1 ≡ not (accepts ws (length t) (length a))
+unfolding calls toldBy
+feed-setup ws t c a = go (accepts ws (length t) (length a)) refl
+  where
+    go : (u : Bool) → accepts ws (length t) (length a) ≡ u
+        → eqb (pick u (toldBy (feeds (sessionAt ws) t c)) (record { number = 1; session = ws; store = t; answer = a }) .number) 1 ≡ not u
+    go true h = framing.feed-setup (sessionAt ws) t c ∙ ap not (accepts-legal ws (length t) (length a) h)
+    go false h = refl
+
 -- what a writer's call answers is the writer's own number: framing_write_frame, _request, _response, _message
 puts-number : (o : Outcome) (count : ℕ) → puts o count .number ≡ o .number
 unfolding puts
@@ -316,16 +328,17 @@ module _ (a : List ℕ) (three : length a ≡ 3) where
             part x (omega (arith, same-consumed, h))
             (subst (λ (d : ℕ). Serves (drop d c ∷ cs) (u .turns)) (sym same-consumed) (u .served _ more))
 
-  lift : {s s″ : Session} {t t″ bytes rest″ : List ℕ} {us : List offers.Turn} → offers.Turns s t bytes us s″ t″ rest″ → Legal s t → Lifted s t bytes us s″ t″ rest″
+  lift : {s s″ : Session} {t t″ bytes rest″ : List ℕ} {us : List offers.Turn} → offers.Turns s t bytes us s″ t″ rest″ → Legal s t
+      → Lifted s t bytes us s″ t″ rest″
   lift offers.none l = record { turns = []; made = none; served = nothing }
     where
       nothing : (cs : List (List ℕ)) → offers.Serves cs [] → Serves cs []
       nothing _ offers.done = done
   lift {s} {t = t} (offers.turn {t′ = t′} c later f e more) l = lift-turn s t c l f t′ e later (lift more (chunks.call-ran f e l .legal))
 
-  -- THE CLAIM, with nothing left open. For every stream, every way to cut it into chunks, every store of the right length and every three words for the answer there
-  -- is a list of calls of framing_feed, from the words that framing_start makes, that offers the chunks, each until it is consumed; it tells exactly the
-  -- events that the rules give for the stream, and at the end words and store hold the rules' state.
+  -- THE CLAIM, with nothing left open. For every stream, every way to cut it into chunks, every store of the right length and every three words for the
+  -- answer there is a list of calls of framing_feed, from the words that framing_start makes, that offers the chunks, each until it is consumed; it tells
+  -- exactly the events that the rules give for the stream, and at the end words and store hold the rules' state.
   pub every-cut : (ws₀ : List ℕ) → length ws₀ ≡ 4 → (chunks : List (List ℕ)) (t : List ℕ) → length t ≡ storeLength
       → (ws : List ℕ) × (Start ws₀ 0 ws
       × ((xs : List Turn) × ((ws″ : List ℕ) × ((t″ : List ℕ)

@@ -41,7 +41,8 @@ bit-back true = refl
 bit-back false = refl
 
 said-words : (e : Event) (t : List ℕ)
-    → record { number = saidBy e t .number; discarded = eqb (cond (saidBy e t .discarded) 1 0) 1; message = take (length (saidBy e t .message)) t } ≡ saidBy e t
+    → record { number = saidBy e t .number; discarded = eqb (cond (saidBy e t .discarded) 1 0) 1; message = take (length (saidBy e t .message)) t }
+    ≡ saidBy e t
 said-words ev.More t = refl
 said-words ev.Setup t = refl
 said-words (ev.Piece d) t = rw (bit-back d)
@@ -153,10 +154,13 @@ module _ (c : List ℕ) (r : Called) (h : r .number ≡ 1) where
       record {
         within = omega (arith, none-consumed);
         all = λ e. absurd (omega (arith, h, e));
-        at-event = λ e. let z : _≡_ {A = Bool} true false = ap (λ (y : Said). eqb (y .number) 0) (sym none-told) ∙ e in let y : _≡_ {A = ℕ} 0 1 = cc in absurd (omega arith);
+        at-event = λ e.
+            let z : _≡_ {A = Bool} true false = ap (λ (y : Said). eqb (y .number) 0) (sym none-told) ∙ e in
+            let y : _≡_ {A = ℕ} 0 1 = cc in absurd (omega arith);
       }
 
-  refused-before : {s : Session} {t bytes ws″ t″ rest″ : List ℕ} {n : ℕ} {xs : List Turn} → Under s t n bytes xs ws″ t″ rest″ → Under s t n bytes (x ∷ xs) ws″ t″ rest″
+  refused-before : {s : Session} {t bytes ws″ t″ rest″ : List ℕ} {n : ℕ} {xs : List Turn} → Under s t n bytes xs ws″ t″ rest″
+      → Under s t n bytes (x ∷ xs) ws″ t″ rest″
   unfolding after
   refused-before {n = n} {xs = xs} u =
       record {
@@ -172,8 +176,8 @@ module _ (c : List ℕ) (r : Called) (h : r .number ≡ 1) where
       }
 
 -- a call of framing's session before others
-module _ (c later : List ℕ) (r : Called) (f : Fed) (t′ : List ℕ) (number-is : r .number ≡ saidBy (f .event) t′ .number) (consumed-is : consumed r ≡ f .consumed)
-    (says-is : says r ≡ saidBy (f .event) t′) where
+module _ (c later : List ℕ) (r : Called) (f : Fed) (t′ : List ℕ) (number-is : r .number ≡ saidBy (f .event) t′ .number)
+    (consumed-is : consumed r ≡ f .consumed) (says-is : says r ≡ saidBy (f .event) t′) where
   abbrev y : Turn
   y = record { offered = c; called = r }
 
@@ -207,7 +211,8 @@ module _ (c later : List ℕ) (r : Called) (f : Fed) (t′ : List ℕ) (number-i
             ∙ ap (λ (hs : List Happening). noted (saidBy (f .event) t′) (n + f .consumed) hs) (u .told-is);
         eaten-is = ap (λ (l : List ℕ). l ++ eaten xs) same-taken ∙ ap (λ (l : List ℕ). take (f .consumed) c ++ l) (u .eaten-is);
         stops-are = λ q a b.
-            (made-stopped q (u .turns) a b, subst (λ (l : List ℕ). Stops (after q l) xs) (sym same-taken) (u .stops-are (after q (take (f .consumed) c)) (a .1) (b .1)));
+            let more = u .stops-are (after q (take (f .consumed) c)) (a .1) (b .1) in
+            (made-stopped q (u .turns) a b, subst (λ (l : List ℕ). Stops (after q l) xs) (sym same-taken) more);
       }
 
 under : {ws t bytes ws″ t″ rest″ : List ℕ} {xs : List Turn} → Turns ws t bytes xs ws″ t″ rest″ → (n : ℕ) (s : Session) {t₀ bytes₀ : List ℕ}
@@ -260,14 +265,15 @@ unfolding starts
 fresh-words ws₀ {ws} = go (eqb (length ws₀) 4)
   where
     go : (u : Bool)
-        → _≡_ {A = Started} (pick u (record { number = 0; session = wordsOf (sessionOf begin) }) (record { number = 1; session = ws₀ })) (record { number = 0; session = ws })
+        → _≡_ {A = Started} (pick u (record { number = 0; session = wordsOf (sessionOf begin) }) (record { number = 1; session = ws₀ }))
+        (record { number = 0; session = ws })
         → ws ≡ wordsOf (sessionOf begin)
     go true e = ap (λ (x : Started). x .session) (sym e)
     go false e = let z : _≡_ {A = ℕ} 1 0 = ap (λ (x : Started). x .number) e in absurd (omega (arith, z))
 
--- THE CLAIM. From words that framing_start made and any store of the right length, for every list of calls of framing_feed, refused ones among them: the events told are
--- those that the rules give for the bytes consumed, each once and in order, with its offset, its discard and its message's bytes; a refused call tells nothing,
--- consumes nothing and changes nothing.
+-- THE CLAIM. From words that framing_start made and any store of the right length, for every list of calls of framing_feed, refused ones among them: the
+-- events told are those that the rules give for the bytes consumed, each once and in order, with its offset, its discard and its message's bytes; a
+-- refused call tells nothing, consumes nothing and changes nothing.
 pub claim : (ws₀ : List ℕ) {ws t bytes ws″ t″ rest : List ℕ} {xs : List Turn} → starts ws₀ ≡ record { number = 0; session = ws } → length t ≡ storeLength
     → Turns ws t bytes xs ws″ t″ rest → AsRules begin 0 xs ws″ t″ bytes rest
 claim ws₀ b room turns = as-rules turns 0 (sessionOf begin) (fresh-words ws₀ b) (chunks.fresh-legal room)

@@ -1,5 +1,5 @@
--- The words of the claim over every list of calls of framing_start and framing_feed, refused ones among them: the session is its four words, and what a call tells
--- is its number and the three words of its answer.
+-- The words of the claim over every list of calls of framing_start and framing_feed, refused ones among them: the session is its four words, and what a
+-- call tells is its number and the three words of its answer.
 use Prim.Native.Nat.{ℕ, _+_, _≤_, _<_}
 use mathlib.Core.Bool.{true, false}
 use mathlib.Core.List.{List, [], _∷_, _++_}
@@ -35,8 +35,9 @@ says r =
     pick (eqb (r .number) 1) quiet
     (record { number = r .number; discarded = eqb (getD (r .answer) 0 0) 1; message = take (getD (r .answer) 2 0) (r .store) })
 
--- A list of calls from the session's words ws and the store t, with the bytes rest yet to come. Each is lent the first i words and the first j bytes of them, for any
--- counts i and j, and any answer; it is offered bytes from the first not yet consumed. What it gives is what `calls` says: the contract of framing_feed.
+-- A list of calls from the session's words ws and the store t, with the bytes rest yet to come. Each is lent the first i words and the first j bytes of
+-- them, for any counts i and j, and any answer; it is offered bytes from the first not yet consumed. What it gives is what `calls` says: the contract of
+-- framing_feed.
 pub data Turns : List ℕ → List ℕ → List ℕ → List Turn → List ℕ → List ℕ → List ℕ → Type 0 where
   none : {ws t rest : List ℕ} → Turns ws t rest [] ws t rest
   turn : {ws t ws″ t″ rest″ : List ℕ} {xs : List Turn} (i j : ℕ) (a c later : List ℕ) (r : Called)
@@ -63,8 +64,8 @@ abbrev pub Stops : State → List Turn → Type 0
 Stops s [] = Unit {0}
 Stops s (x ∷ xs) = Stopped s x × Stops (after s (taken x)) xs
 
--- What holds of a list of calls from a state: they told the rules' events of the bytes consumed, each once and in order; words and store hold the rules' state, and a
--- call that is lent both whole, and three words for the answer, is not refused.
+-- What holds of a list of calls from a state: they told the rules' events of the bytes consumed, each once and in order; words and store hold the rules'
+-- state, and a call that is lent both whole, and three words for the answer, is not refused.
 pub record AsRules (s : State) (n : ℕ) (xs : List Turn) (ws″ t″ bytes rest : List ℕ) : Type 0 where
   pub events : told xs n ≡ happens s n (eaten xs)
   pub state : stateOf (sessionAt ws″) t″ ≡ after s (eaten xs)

@@ -5,11 +5,12 @@ use mathlib.Core.List.{List, [], _∷_}
 use mathlib.Core.Bool.{Bool, true, false}
 use mathlib.Core.Logic.{inr}
 use native.Mathlib.Omega.{arith}
-use borrow.Author.Tests.{ltb-true, ltb-false}
+use borrow.Author.Tests.{ltb-true, ltb-false, ne-eqb}
 use lib.ListN.{length, drop}
-use lib.Dec.{ltb}
-use types.Run.{OneOf, hit}
+use lib.Dec.{ltb, eqb}
+use types.Run.{OneOf, hit, miss}
 use Rattle.integers.specs.Digits.{pick}
+use Rattle.containers.specs.declared.No.{No as Refusal}
 use Rattle.containers.specs.declared.Onto.{Onto}
 use Rattle.containers.specs.declared.Onto.the-variants.{Next, Refused as Stopped}
 use Rattle.containers.proofs.Heads.{pick-by}
@@ -138,6 +139,21 @@ module _ (s : List ℕ) (rows : Rows) where
       go (No number place) h = inr (inr (inr (h .1 .1)))
       go (Room count) h = hit readNumbers 38 tt
       go (Read root count) h = hit readNumbers 0 tt
+
+  -- 1 is given exactly where the table has over 256 entries or the message over 16,384 bytes.
+  pub read-setup : eqb (readAt s rows .said .number) 1 ≡ setup (length s) (length rows)
+  unfolding readAt
+  read-setup = go (setup (length s) (length rows)) (walk s .out .answer) (walk-in s .0)
+    where
+      other : (e : Refusal) → OneOf refusals (e .0) → eqb (e .0) 1 ≡ false
+      other e h = ne-eqb (e .0) 1 (λ q. miss refusals 1 tt (subst (OneOf refusals) q h))
+
+      go : (u : Bool) (a : Onto) → OntoIn s 0 a
+          → eqb (pick u (result Setup rows) (readOf rows (walk s .which) (walk s .out .entries) a) .said .number) 1 ≡ u
+      go true a w = refl
+      go false (Next next) w =
+          pick-by (λ (x : Result). eqb (x .said .number) 1 ≡ false) (ltb (length rows) (length (walk s .out .entries))) (λ e. refl) (λ e. refl)
+      go false (Stopped e) w = other e (w .1)
 
   -- Every answer but 0 leaves the table as it was.
   pub refused-as-was : isRead (readAt s rows .answer) ≡ false → readAt s rows .rows ≡ rows

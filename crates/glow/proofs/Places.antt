@@ -1,5 +1,5 @@
--- What is told at a place of the message is told of a place in it, its end included, and not before it: heads, containers, values, members. What is refused has one of the
--- numbers of refusals, and what is kept is a part of the message.
+-- What is told at a place of the message is told of a place in it, its end included, and not before it: heads, containers, values, members. What is
+-- refused has one of the numbers of refusals, and what is kept is a part of the message.
 use Prim.Native.Nat.{ℕ, zero, suc, _+_, _-_, _*_, _%_, _≤_, _<_}
 use mathlib.Core.Path.{_≡_, refl}
 use mathlib.Core.List.{List}

@@ -1,5 +1,5 @@
--- The walk keeps to the message: every place that it tells lies in it, and every text, octets, path and sources that an entry keeps. It refuses with the numbers of
--- refusals alone, since its fuel, which is more than what is left of the message, never runs out.
+-- The walk keeps to the message: every place that it tells lies in it, and every text, octets, path and sources that an entry keeps. It refuses with the
+-- numbers of refusals alone, since its fuel, which is more than what is left of the message, never runs out.
 use Prim.Native.Nat.{ℕ, zero, suc, _+_, _-_, _≤_, _<_}
 use mathlib.Core.Path.{_≡_, subst}
 use mathlib.Core.List.{List, [], _∷_, _++_}
@@ -139,11 +139,13 @@ module _ (s : List ℕ) where
 
       members-on : (k : ℕ) (o : Open) (row me above n before : ℕ) (es : Entries) → p < n → n ≤ length s → EntriesIn es
           → OutIn p (membersBy f s k o row me above n before es)
-      members-on k o row me above n before es a b w = out-earlier (omega arith) (membersBy f s k o row me above n before es) (m k o row me above n before es b (less a b) w)
+      members-on k o row me above n before es a b w =
+          out-earlier (omega arith) (membersBy f s k o row me above n before es) (m k o row me above n before es b (less a b) w)
 
       items-on : (k : ℕ) (o : Open) (which parent above n : ℕ) (es : Entries) → p < n → n ≤ length s → EntriesIn es
           → OutIn p (itemsBy f s k o which parent above n es)
-      items-on k o which parent above n es a b w = out-earlier (omega arith) (itemsBy f s k o which parent above n es) (i k o which parent above n es b (less a b) w)
+      items-on k o which parent above n es a b w =
+          out-earlier (omega arith) (itemsBy f s k o which parent above n es) (i k o which parent above n es b (less a b) w)
 
     members-step : MembersIn (suc f)
     unfolding membersBy

@@ -1,4 +1,5 @@
--- With which numbers the calls answer, whatever is handed in. `calls`, `writeCalls` and `acceptCalls` are the contracts of glow_read, glow_write and glow_accepts.
+-- With which numbers the calls answer, whatever is handed in. `calls`, `writeCalls` and `acceptCalls` are the contracts of glow_read, glow_write and
+-- glow_accepts.
 use Prim.Native.Nat.{ℕ, _+_}
 use mathlib.Core.List.{List}
 use lib.Dec.{leb, eqb}

@@ -1,5 +1,6 @@
 -- THE PROMISE of request 01 for the C functions, over every list of calls: the words hold the state that `show` would be handed, so the calls are those of
--- supervision's own promise. It rests on the contracts of supervision_start and supervision_show; that there are such calls for every list is shown at the end.
+-- supervision's own promise. It rests on the contracts of supervision_start and supervision_show; that there are such calls for every list is shown at the
+-- end.
 use Prim.Native.Nat.{ℕ, _+_, _≤_, _<_}
 use mathlib.Core.Bool.{Bool, true, false}
 use mathlib.Core.List.{List, [], _∷_, _++_, map}
@@ -34,8 +35,8 @@ use Rattle.supervision.specs.Supervisor.{wrap, begun, isDue, waited, heard, sho
 use Rattle.supervision.proofs.Promise as supervision
 use Rattle.supervision_c.specs.Words.{tickWord, wordsOf, linkAt, isLink, numberOf}
 use Rattle.supervision_c.specs.Calls.{Called, setup, starts, told, calls}
-use Rattle.supervision_c.specs.Promise.{startNumbers, showNumbers, Seen, showing, showings, Shows, none, show, refused, DeadBy, here, later, NeverDead, Promised}
-use Rattle.supervision_c.specs.Promise.{Silence, asks, deadNumber}
+use Rattle.supervision_c.specs.Promise.{startNumbers, showNumbers, Seen, showing, showings, Shows, none, show, refused}
+use Rattle.supervision_c.specs.Promise.{DeadBy, here, later, NeverDead, Promised, Silence, asks, deadNumber}
 use Rattle.supervision_c.proofs.Laws.{words-back, words-link}
 use Rattle.supervision_c.proofs.supervision_start
 use Rattle.supervision_c.proofs.supervision_start.Kinds as start-kinds
@@ -139,8 +140,8 @@ begun-words ws₀ tick {ws} = go (eqb (length ws₀) 2)
     go true e = ap (λ (x : Called). x .link) (sym e)
     go false e = let z : _≡_ {A = ℕ} 1 0 = ap (λ (x : Called). x .number) e in absurd (omega (arith, z))
 
--- From the start at the time s up to the present z, for every tick that the start may have and every list of showings that are often enough: whatever numbers the calls
--- show, they answer as promised.
+-- From the start at the time s up to the present z, for every tick that the start may have and every list of showings that are often enough: whatever
+-- numbers the calls show, they answer as promised.
 pub promise : (ws₀ : List ℕ) {o s z : ℕ} {ws ws″ : List ℕ} {xs : List Seen} {ns : List ℕ} → starts ws₀ (tickAt o s) ≡ record { number = 0; link = ws }
     → Shows o ws xs ns ws″ → Often s (showings xs) z → Promised s z xs ns
 promise ws₀ {o} {s} {z} {xs = xs} b calls often =
@@ -201,7 +202,8 @@ once-asked {o} {l = l} (rules.call {rs = rs} x r e more) h = go (isSilent (r .li
         → pick (eqb (numberOf (r .answer)) 2) (asks (map numberOf rs) + 1) (asks (map numberOf rs)) ≤ 1
     go true q once zero =
         let s : eqb (numberOf (r .answer)) 2 ≡ false =
-        subst (λ (v : Shown). isSilent (v .link) ≡ true → eqb (numberOf (v .answer)) 2 ≡ false) (sym (quiet-shown l (tickAt o (x .time)) e (h .0))) (still-silent l (tickAt o (x .time))) q in
+        subst (λ (v : Shown). isSilent (v .link) ≡ true → eqb (numberOf (v .answer)) 2 ≡ false)
+        (sym (quiet-shown l (tickAt o (x .time)) e (h .0))) (still-silent l (tickAt o (x .time))) q in
         rw s once
     go false q once zero = pick-by (λ (n : ℕ). n ≤ 1) (eqb (numberOf (r .answer)) 2) (λ _. omega (arith, zero q)) (λ _. once)
 
@@ -236,7 +238,8 @@ pub dead-for-good : {o : ℕ} {ws ws″ : List ℕ} {xs : List Seen} {ns : List 
 dead-for-good none w = (refl, w)
 dead-for-good {o} (show {ns = ns} x r e more) w =
     let tick = tickAt o (x .time) in
-    let q : r ≡ record { number = deadNumber x; link = wordsOf Dead } = sym e ∙ ap (λ (v : List ℕ). calls v tick (x .number)) w ∙ dead-called tick (x .number) in
+    let q : r ≡ record { number = deadNumber x; link = wordsOf Dead } =
+    sym e ∙ ap (λ (v : List ℕ). calls v tick (x .number)) w ∙ dead-called tick (x .number) in
     let k = dead-for-good more (ap (λ (v : Called). v .link) q) in
     (ap (λ (v : Called). v .number ∷ ns) q ∙ ap (λ (v : List ℕ). deadNumber x ∷ v) (k .0), k .1)
 dead-for-good {ws = ws} (refused i tick n r e q more) w = dead-for-good more (refused-same ws i tick n e q ∙ w)
@@ -267,7 +270,8 @@ answer-numbered say.Dead = hit showNumbers (numberOf say.Dead) tt
 pub show-numbers : (ws : List ℕ) (tick n : ℕ) → OneOf showNumbers (calls ws tick n .number)
 unfolding calls
 show-numbers ws tick n =
-    pick-by (λ (x : Called). OneOf showNumbers (x .number)) (isLink ws) (λ e. answer-numbered (shows (linkAt ws) tick (happenedBy n) .answer)) (λ e. hit showNumbers 1 tt)
+    pick-by (λ (x : Called). OneOf showNumbers (x .number)) (isLink ws)
+    (λ e. answer-numbered (shows (linkAt ws) tick (happenedBy n) .answer)) (λ e. hit showNumbers 1 tt)
 
 -- ---- the contracts
 
@@ -344,8 +348,8 @@ some-run o ws (x ∷ xs) =
     let k = some-run o (r .link) xs in
     record { numbers = r .number ∷ k .numbers; link = k .link; made = show x r refl (k .made) }
 
--- THE PROMISE, with nothing left open: whatever the tick at the start, for all showings that are often enough there are calls of supervision_start, with any two words, and
--- of supervision_show, and they answer as promised.
+-- THE PROMISE, with nothing left open: whatever the tick at the start, for all showings that are often enough there are calls of supervision_start, with
+-- any two words, and of supervision_show, and they answer as promised.
 pub every-run : (ws₀ : List ℕ) → length ws₀ ≡ 2 → (o s : ℕ) {z : ℕ} (xs : List Seen) → Often s (showings xs) z
     → (ws : List ℕ) × (Started ws₀ (tickAt o s) 0 ws × ((k : Run o ws xs) × Promised s z xs (k .numbers)))
 unfolding starts

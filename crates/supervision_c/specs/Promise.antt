@@ -1,5 +1,5 @@
--- The words of the promise for supervision_start and supervision_show, over every list of showings: the state is its two words, and each showing has the number that
--- framing_feed answered.
+-- The words of the promise for supervision_start and supervision_show, over every list of showings: the state is its two words, and each showing has the
+-- number that framing_feed answered.
 use Prim.Native.Nat.{ℕ, _+_, _≤_}
 use mathlib.Core.Bool.{false}
 use mathlib.Core.List.{List, [], _∷_, _++_, map}
@@ -33,8 +33,8 @@ showing x = record { time = x .time; happened = happenedBy (x .number) }
 abbrev pub showings : List Seen → List Showing
 showings xs = map showing xs
 
--- Calls of supervision_show one after another, each with the words that the one before it left and with the tick of what it shows. What a call gives is what `calls` says:
--- its contract. A call that is lent another count of words, and is answered with 1, shows nothing.
+-- Calls of supervision_show one after another, each with the words that the one before it left and with the tick of what it shows. What a call gives is
+-- what `calls` says: its contract. A call that is lent another count of words, and is answered with 1, shows nothing.
 pub data Shows : ℕ → List ℕ → List Seen → List ℕ → List ℕ → Type 0 where
   none : {o : ℕ} {ws : List ℕ} → Shows o ws [] [] ws
   show : {o : ℕ} {ws ws″ : List ℕ} {xs : List Seen} {ns : List ℕ} (x : Seen) (r : Called)
@@ -52,8 +52,8 @@ abbrev pub NeverDead : List ℕ → Type 0
 NeverDead [] = Unit {0}
 NeverDead (n ∷ ns) = (eqb n 4 ≡ false) × NeverDead ns
 
--- What is promised of showings from the start s up to the present z, and the numbers answered to them: they are the rules'; "a link with no events is declared dead no
--- later than 12,000 ms after its last event, and a link with an event in every 4,000 ms never is".
+-- What is promised of showings from the start s up to the present z, and the numbers answered to them: they are the rules'; "a link with no events is
+-- declared dead no later than 12,000 ms after its last event, and a link with an event in every 4,000 ms never is".
 pub record Promised (s z : ℕ) (xs : List Seen) (ns : List ℕ) : Type 0 where
   pub as-rules : ns ≡ map numberOf (answers (begins s) (showings xs))
   pub dead-in-time : lastEvent s (showings xs) + 12000 ≤ z → DeadBy (lastEvent s (showings xs) + 12000) xs ns
