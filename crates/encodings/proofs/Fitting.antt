@@ -240,8 +240,7 @@ module _ (path : List ℕ) where
   step-fits w r l =
       let i = step-range w r in
       let z : length (path ++ (w ∷ [])) ≡ length path + 1 = length-append path (w ∷ []) in
-      let deep : length path < 16 = omega arith in
-      (path ++ (w ∷ []), (a-number (i .0) (i .1) deep, omega arith))
+      (path ++ (w ∷ []), (a-number {path = path} (i .0) (i .1) (omega arith), omega arith))
 
   path-fits : (bs : List ℕ) → Below 256 bs → (a : Arcs) → arcs bs 0 (length bs) ≡ a → pathSuits a ≡ true → Fitted 6 path (bytes 13 bs)
   path-fits bs b bad q e = never e

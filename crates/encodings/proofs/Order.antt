@@ -40,7 +40,7 @@ members-length (kids r i m) = members-length m
 members-length (links r i m) = members-length m
 
 -- contents leave the first cell
-set-zero : {path : List ℕ} {row : ℕ} {xs ys : List Content} {v : Values} {t u : Trees} → 10 ≤ row → row ≤ 12 → Members path row xs v ys t u
+pub set-zero : {path : List ℕ} {row : ℕ} {xs ys : List Content} {v : Values} {t u : Trees} → 10 ≤ row → row ≤ 12 → Members path row xs v ys t u
     → getD ys 0 nothing ≡ getD xs 0 nothing
 set-zero lo hi done = refl
 set-zero lo hi (over r m) = set-zero lo hi m
