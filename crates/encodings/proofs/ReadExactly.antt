@@ -16,14 +16,13 @@ use lib.ListN.{length, drop}
 use lib.Dec.{ltb}
 use Rattle.integers.specs.Digits.{pick}
 use Rattle.integers.proofs.Radix.{Below, lt-or-le}
-use Rattle.containers.specs.declared.No.{No}
 use Rattle.containers.specs.declared.Onto.{Onto}
 use Rattle.containers.specs.declared.Onto.the-variants.{Next, Refused as Stopped}
 use Rattle.entries.specs.Entry.{Entries, Rows, overlay}
 use Rattle.walk.specs.Walk.{walk}
 use Rattle.glow.specs.declared.Answer.{Answer}
-use Rattle.glow.specs.declared.Answer.the-variants.{Setup, Refused, Room, Read}
-use Rattle.glow.specs.Message.{Result, result, readAt}
+use Rattle.glow.specs.declared.Answer.the-variants.{Room, Read}
+use Rattle.glow.specs.Message.{Said, saidBy, Result, result, readAt}
 use Rattle.glow.proofs.Answers.{past-untouched}
 use Rattle.glow.proofs.read
 use Rattle.glow.proofs.read.Kinds as read-kinds
@@ -31,15 +30,15 @@ use Rattle.glow.proofs.read.Reads as read-reads
 use Rattle.forest.specs.Content.{itemsOf}
 use Rattle.forest.specs.Rows.{itemsIn}
 use Rattle.forest.specs.Trees.{Trees, count, flat}
+use Rattle.read_trees.specs.Stood.{Stood}
 use Rattle.read_trees.proofs.Once.{stood-once}
 use Rattle.reading_back.proofs.ReadBack.{flat-count}
 use Rattle.tree_round_trip.proofs.Rows.{rows-items, tree-sixteen}
-use Rattle.tree_round_trip.proofs.Reading.{read-walk}
 use Rattle.encodings.specs.Encodes.{Encodes}
 use Rattle.encodings.specs.Reading.{ReadAs, LacksRoom, Refuses, AnswersExactly}
-use Rattle.encodings.proofs.Accepted.{accepted-encodes}
 use Rattle.encodings.proofs.Exactly.{accepted, items-stood}
-use Rattle.encodings.proofs.Reader.{encoded-legal, encoding-answered, refused-by, other-refused}
+use Rattle.encodings.proofs.Numbers.{refused-number}
+use Rattle.encodings.proofs.Reader.{encoded-legal, encoding-answered, refused-by}
 
 module _ (s : List ℕ) (below : Below 256 s) (few : length s ≤ 16384) (rows : Rows) (most : length rows ≤ 256) where
   abbrev x : Result
@@ -53,86 +52,77 @@ module _ (s : List ℕ) (below : Below 256 s) (few : length s ≤ 16384) (rows :
       let got : itemsOf s es ≡ flat 0 0 t = r .1 .1 in
       let q : x ≡ result (Read root (count t)) (overlay es rows) =
       r .1 .0 ∙ ap (λ (b : Bool). pick b (result (Room (count t)) rows) (result (Read root (count t)) (overlay es rows))) (le-ltb _ _ l) in
-      let a : x .answer ≡ Read root (count t) = ap (λ (y : Result). y .answer) q in
       let n : length es ≡ count t = flat-count s es t got in
       let fit : length es ≤ length rows = omega arith in
       record {
-        answers = a;
+        says = ap (λ (y : Result). saidBy (y .answer)) q;
         stands = items-stood (e .says);
         holds = ap (λ (y : Result). itemsIn s (y .rows) (count t)) q ∙ ap (itemsIn s (overlay es rows)) (sym n)
             ∙ rows-items s es rows (tree-sixteen s es root t (encoded-legal s below few root t e) got) fit ∙ got;
-        past = past-untouched s rows a;
+        past = past-untouched s rows (ap (λ (y : Result). y .answer) q);
       }
+
+  -- one that it has no room for
+  lacks-it : (root : ℕ) (t : Trees) → Encodes s root t → length rows < count t → LacksRoom rows (count t) (x .answer) (x .rows)
+  lacks-it root t e l =
+      let r = encoding-answered s below few rows most root t e in
+      let q : x ≡ result (Room (count t)) rows =
+      r .1 .0 ∙ ap (λ (b : Bool). pick b (result (Room (count t)) rows) (result (Read root (count t)) (overlay (r .0) rows))) (lt-ltb _ _ l) in
+      record { says = ap (λ (y : Result). saidBy (y .answer)) q; same = ap (λ (y : Result). y .rows) q }
+
+  -- a message is one of these, or refused
+  by-cases : (P : Type 0) → ((root : ℕ) (t : Trees) → Encodes s root t → count t ≤ length rows → P)
+      → ((root : ℕ) (t : Trees) → Encodes s root t → length rows < count t → P) → (Refuses rows (x .answer) (x .rows) → P) → P
+  by-cases P fits lacks refused = by (walk s .out .answer) refl
+    where
+      by : (a : Onto) → walk s .out .answer ≡ a → P
+      by (Next m) q =
+          let r = accepted s below q in
+          ⊎-elim (λ (l : length rows < count (r .0)). lacks (walk s .which) (r .0) (r .1) l) (λ (l : count (r .0) ≤ length rows). fits (walk s .which) (r .0) (r .1) l)
+          (lt-or-le (length rows) (count (r .0)))
+      by (Stopped e) q =
+          let r = refused-by s below few rows most e q in
+          let n : saidBy (x .answer) .number ≡ e .0 = ap (λ (y : Result). saidBy (y .answer) .number) r in
+          let f = refused-number s q in
+          let f0 = f .0 in
+          let f1 = f .1 in
+          refused (record { low = omega arith; high = omega arith; same = ap (λ (y : Result). y .rows) r })
 
   read-encodes : (root : ℕ) (t : Trees) → ReadAs s rows root t (x .answer) (x .rows) → Encodes s root t × (count t ≤ length rows)
   read-encodes root t r =
-      let w = read-walk s rows root (count t) (r .answers) in
-      let q = accepted-encodes s below (w .answer) in
-      let e : Encodes s root (q .tree) = subst (λ (i : ℕ). Encodes s i (q .tree)) (w .which) (q .encodes) in
-      let c : count (q .tree) ≡ count t = sym (flat-count s (walk s .out .entries) (q .tree) (q .entries)) ∙ w .counts in
-      let room = w .room in
-      let r′ = reads-it root (q .tree) e (omega arith) in
-      let f : flat 0 0 (q .tree) ≡ flat 0 0 t = sym (r′ .holds) ∙ ap (itemsIn s (x .rows)) c ∙ r .holds in
-      (subst (Encodes s root) (stood-once root (q .tree) t (items-stood (e .says)) (r .stands) f) e, room)
-
-  -- one that it has no room for
-  lacks-it : (root : ℕ) (t : Trees) → Encodes s root t → length rows < count t → x ≡ result (Room (count t)) rows
-  lacks-it root t e l =
-      let r = encoding-answered s below few rows most root t e in
-      r .1 .0 ∙ ap (λ (b : Bool). pick b (result (Room (count t)) rows) (result (Read root (count t)) (overlay (r .0) rows))) (lt-ltb _ _ l)
-
-  -- there is a tree, or a refusal
-  decided : ((root : ℕ) × ((t : Trees) × Encodes s root t)) ⊎ ((e : No) × (x ≡ result (Refused (e .0) (e .1)) rows))
-  decided = by (walk s .out .answer) refl
-    where
-      by : (a : Onto) → walk s .out .answer ≡ a → ((root : ℕ) × ((t : Trees) × Encodes s root t)) ⊎ ((e : No) × (x ≡ result (Refused (e .0) (e .1)) rows))
-      by (Next m) q = inl (walk s .which, accepted s below q)
-      by (Stopped e) q = inr (e, refused-by s below few rows most e q)
-
-  abbrev case : Answer → ℕ
-  case Setup = 1
-  case (Refused number place) = 30
-  case (Room n) = 38
-  case (Read root n) = 0
-
-  abbrev figure : Answer → ℕ
-  figure Setup = 0
-  figure (Refused number place) = 0
-  figure (Room n) = n
-  figure (Read root n) = n
+      let zero : saidBy (x .answer) .number ≡ 0 = ap (λ (y : Said). y .number) (r .says) in
+      by-cases (Encodes s root t × (count t ≤ length rows))
+      (λ root′ t′ e l.
+      let r′ = reads-it root′ t′ e l in
+      let w : root′ ≡ root = sym (ap (λ (y : Said). y .root) (r′ .says)) ∙ ap (λ (y : Said). y .root) (r .says) in
+      let c : count t′ ≡ count t = sym (ap (λ (y : Said). y .count) (r′ .says)) ∙ ap (λ (y : Said). y .count) (r .says) in
+      let f : flat 0 0 t′ ≡ flat 0 0 t = sym (r′ .holds) ∙ ap (itemsIn s (x .rows)) c ∙ r .holds in
+      let q : t′ ≡ t = stood-once root t′ t (subst (λ (i : ℕ). Stood i t′) w (r′ .stands)) (r .stands) f in
+      (subst (Encodes s root) q (subst (λ (i : ℕ). Encodes s i t′) w e), omega arith))
+      (λ root′ t′ e l. let y : saidBy (x .answer) .number ≡ 38 = ap (λ (y : Said). y .number) (lacks-it root′ t′ e l .says) in absurd (omega arith))
+      (λ n. let y = n .low in absurd (omega arith))
 
   room-encodes : (n : ℕ) → LacksRoom rows n (x .answer) (x .rows) → (root : ℕ) × ((t : Trees) × (Encodes s root t × ((count t ≡ n) × (length rows < n))))
   room-encodes n r =
-      let c : case (x .answer) ≡ 38 = ap case (r .answers) in
-      ⊎-elim
-      (λ (d : (root : ℕ) × ((t : Trees) × Encodes s root t)).
-      let t = d .1 .0 in
-      ⊎-elim
-      (λ (l : length rows < count t).
-      let q : count t ≡ n = sym (ap (λ (y : Result). figure (y .answer)) (lacks-it (d .0) t (d .1 .1) l)) ∙ ap figure (r .answers) in
-      (d .0, (t, (d .1 .1, (q, omega arith)))))
-      (λ (l : count t ≤ length rows). let y : case (x .answer) ≡ 0 = ap case (reads-it (d .0) t (d .1 .1) l .answers) in absurd (omega arith))
-      (lt-or-le (length rows) (count t)))
-      (λ (d : (e : No) × (x ≡ result (Refused (e .0) (e .1)) rows)). let y : case (x .answer) ≡ 30 = ap (λ (y : Result). case (y .answer)) (d .1) in absurd (omega arith))
-      decided
+      let room : saidBy (x .answer) .number ≡ 38 = ap (λ (y : Said). y .number) (r .says) in
+      by-cases ((root : ℕ) × ((t : Trees) × (Encodes s root t × ((count t ≡ n) × (length rows < n)))))
+      (λ root t e l. let y : saidBy (x .answer) .number ≡ 0 = ap (λ (y : Said). y .number) (reads-it root t e l .says) in absurd (omega arith))
+      (λ root t e l.
+      let q : count t ≡ n = sym (ap (λ (y : Said). y .count) (lacks-it root t e l .says)) ∙ ap (λ (y : Said). y .count) (r .says) in
+      (root, (t, (e, (q, omega arith)))))
+      (λ n. let y = n .high in absurd (omega arith))
 
   refused-none : Refuses rows (x .answer) (x .rows) → (root : ℕ) (t : Trees) → Encodes s root t → ⊥
   refused-none r root t e =
-      let c : case (x .answer) ≡ 30 = ap case (r .answers) in
+      let low = r .low in
+      let high = r .high in
       ⊎-elim
-      (λ (l : length rows < count t). let y : case (x .answer) ≡ 38 = ap (λ (y : Result). case (y .answer)) (lacks-it root t e l) in omega arith)
-      (λ (l : count t ≤ length rows). let y : case (x .answer) ≡ 0 = ap case (reads-it root t e l .answers) in omega arith)
+      (λ (l : length rows < count t). let y : saidBy (x .answer) .number ≡ 38 = ap (λ (y : Said). y .number) (lacks-it root t e l .says) in omega arith)
+      (λ (l : count t ≤ length rows). let y : saidBy (x .answer) .number ≡ 0 = ap (λ (y : Said). y .number) (reads-it root t e l .says) in omega arith)
       (lt-or-le (length rows) (count t))
 
   none-refused : ((root : ℕ) (t : Trees) → Encodes s root t → ⊥) → Refuses rows (x .answer) (x .rows)
-  none-refused n =
-      let r = other-refused s below few rows most n in
-      record {
-        number = r .0 .0;
-        place = r .0 .1;
-        answers = ap (λ (y : Result). y .answer) (r .1);
-        same = ap (λ (y : Result). y .rows) (r .1);
-      }
+  none-refused n = by-cases (Refuses rows (x .answer) (x .rows)) (λ root t e l. absurd (n root t e)) (λ root t e l. absurd (n root t e)) (λ r. r)
 
   -- For every message of at most 16,384 octets and every table of at most 256 rows.
   pub read-exactly : AnswersExactly s rows (readAt s rows .answer) (readAt s rows .rows)
@@ -141,10 +131,10 @@ module _ (s : List ℕ) (below : Below 256 s) (few : length s ≤ 16384) (rows :
     lacks = λ n. (
       room-encodes n,
       λ p.
+          let t = p .1 .0 in
           let q = p .1 .1 .1 .0 in
           let l = p .1 .1 .1 .1 in
-          let r : x ≡ result (Room (count (p .1 .0))) rows = lacks-it (p .0) (p .1 .0) (p .1 .1 .0) (omega arith) in
-          record { answers = ap (λ (y : Result). y .answer) r ∙ ap Room q; same = ap (λ (y : Result). y .rows) r },
+          subst (λ (i : ℕ). LacksRoom rows i (x .answer) (x .rows)) q (lacks-it (p .0) t (p .1 .1 .0) (omega arith)),
     );
     refuses = (refused-none, none-refused);
   }

@@ -6,7 +6,7 @@ use mathlib.Core.Logic.{_↔_}
 use lib.ListN.{length, drop}
 use Rattle.entries.specs.Entry.{Rows}
 use Rattle.glow.specs.declared.Answer.{Answer}
-use Rattle.glow.specs.declared.Answer.the-variants.{Refused, Room, Read}
+use Rattle.glow.specs.Message.{saidBy}
 use Rattle.forest.specs.Rows.{itemsIn}
 use Rattle.forest.specs.Trees.{Trees, count, flat}
 use Rattle.read_trees.specs.Stood.{Stood}
@@ -15,21 +15,20 @@ use Rattle.encodings.specs.Encodes.{Encodes}
 -- 0, as the tree t: "The answer names Root's kind" and how many entries there are; the table's first rows hold the tree's entries, "in message order",
 -- texts, octets, paths and sources as parts of the message; "entries past the answer's count are untouched".
 pub record ReadAs (s : List ℕ) (rows : Rows) (root : ℕ) (t : Trees) (a : Answer) (rows′ : Rows) : Type 0 where
-  pub answers : a ≡ Read root (count t)
+  pub says : saidBy a ≡ record { number = 0; place = 0; count = count t; root = root }
   pub stands : Stood root t
   pub holds : itemsIn s rows′ (count t) ≡ flat 0 0 t
   pub past : drop (count t) rows′ ≡ drop (count t) rows
 
 -- "38 ROOM: message right, table too small; says how many"; the table as it was
 pub record LacksRoom (rows : Rows) (n : ℕ) (a : Answer) (rows′ : Rows) : Type 0 where
-  pub answers : a ≡ Room n
+  pub says : saidBy a ≡ record { number = 38; place = 0; count = n; root = 0 }
   pub same : rows′ ≡ rows
 
--- 30 to 37, at some place; the table as it was
+-- 30 to 37; the table as it was
 pub record Refuses (rows : Rows) (a : Answer) (rows′ : Rows) : Type 0 where
-  pub number : ℕ
-  pub place : ℕ
-  pub answers : a ≡ Refused number place
+  pub low : 30 ≤ saidBy a .number
+  pub high : saidBy a .number ≤ 37
   pub same : rows′ ≡ rows
 
 -- The answer a to the message s, and the table after it:
