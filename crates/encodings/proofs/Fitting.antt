@@ -1,14 +1,14 @@
 -- A member's value: what `Fits` allows after what `Says` says is what forest's `suits` and `pathOf` have, by which the reader was proved.
-use Prim.Native.Nat.{ℕ, zero, suc, _+_, _-_, _≤_, _<_}
+use Prim.Native.Nat.{ℕ, suc, _+_, _-_, _≤_, _<_}
 use mathlib.Core.Path.{_≡_, refl, sym, ap, subst, _∙_}
 use mathlib.Core.List.{List, [], _∷_, _++_}
 use mathlib.Core.Bool.{Bool, true, false}
 use mathlib.Core.Logic.{_⊎_, inl, inr, ⊎-elim}
 use native.Mathlib.Omega.{arith}
-use borrow.Author.Tests.{le-leb, lt-leb, lt-ltb, le-ltb, eq-eqb, ne-eqb, eqb-true, eqb-false, leb-true, leb-false, ltb-true, ltb-false}
+use borrow.Author.Tests.{le-leb, lt-leb, lt-ltb, eq-eqb, ne-eqb, eqb-true, eqb-false, leb-true, leb-false}
 use lib.ListN.{length, length-append}
-use lib.Dec.{T, leb, ltb, eqb}
-use lib.IntN.{ℤ, pos, negsuc}
+use lib.Dec.{leb, ltb, eqb}
+use lib.IntN.{pos, negsuc}
 use lib.Ieee as Ieee
 use lib.Ieee.{Float, binary64}
 use lib.Ieee.Bits.{ofBits-toBits, toBits-lt, nanBits-is}
@@ -22,12 +22,10 @@ use Rattle.reals.proofs.Exactly.{exactly}
 use Rattle.reals.proofs.RoundTrip.{read-written as real-written}
 use Rattle.values.specs.Value.{isListed}
 use Rattle.identifiers.specs.Identifier.{Arcs, bad, over, numbers, arcs}
-use Rattle.entries.specs.Cell.{wordOf}
-use Rattle.grammar.specs.Leaf.{both, expects, least, most, inRange, isName, isPath}
+use Rattle.grammar.specs.Leaf.{expects, least, most, inRange, isName, isPath}
 use Rattle.forest.specs.Content.{Content, nothing, word, bytes, wrong, isWord, isPart, intOf}
 use Rattle.forest.specs.Legal.{isFormed, isReal, wordSuits, pathSuits, listSuits, partSuits, suits, lengthOf, pathOf}
 use Rattle.reading_back.proofs.Bools.{never, both-left, both-right, unless, part-kinds, word-kinds}
-use Rattle.read_trees.proofs.Bools.{both-make}
 use Rattle.encodings.specs.Says.{Says, untrue, truth, integer, octets, real, text, identifier, Numbers}
 use Rattle.encodings.specs.Encodes.{Fits, a-name, a-text, a-flag, any-word, any-text, any-octets, a-number, a-path, sources, in-range}
 use Rattle.encodings.proofs.Septets.{arcs-exactly}
@@ -177,13 +175,15 @@ module _ (content : List ℕ) (b : Below 256 content) where
       let n : what ≡ 5 → ⊥ = λ q. omega arith in
       record { some = omega arith; plain′ = omega arith; suit = suits-range content what w t lo e; path = simp (ne-eqb _ _ n); deep = λ q. absurd (n q) }
 
-  pub fits-suited : {type what : ℕ} {x : Content} {path path′ : List ℕ} → Says type content x → Fits what path x path′ → Suited what (length path) x (length path′)
+  pub fits-suited : {type what : ℕ} {x : Content} {path path′ : List ℕ} → Says type content x → Fits what path x path′
+      → Suited what (length path) x (length path′)
   fits-suited s f = suited (told s b) f
 
 -- ---- what suits fits
 
 -- the rules that expect a universal number
-expect-by : (P : Type 0) (what kind : ℕ) → expects what kind ≡ true → (what ≡ 4 → isListed kind ≡ true → P) → (what ≤ 2 → kind ≡ 12 → P) → (what ≡ 3 → kind ≡ 1 → P)
+expect-by : (P : Type 0) (what kind : ℕ) → expects what kind ≡ true → (what ≡ 4 → isListed kind ≡ true → P) → (what ≤ 2 → kind ≡ 12 → P)
+    → (what ≡ 3 → kind ≡ 1 → P)
     → (what ≡ 6 → kind ≡ 13 → P) → (what ≡ 7 → kind ≡ 13 → P) → ((what ≡ 5) ⊎ (8 ≤ what) → kind ≡ 2 → P) → P
 unfolding expects
 expect-by P what kind e a b c d f g = go4 (eqb what 4) refl e
@@ -194,7 +194,8 @@ expect-by P what kind e a b c d f g = go4 (eqb what 4) refl e
         ⊎-elim (λ (k : what < 5). ⊎-elim (λ (j : what < 4). absurd (n3 (omega arith))) (λ (j : 4 ≤ what). absurd (n4 (omega arith))) (lt-or-le what 4))
         (λ (k : 5 ≤ what).
         ⊎-elim (λ (j : what < 6). inl (omega arith))
-        (λ (j : 6 ≤ what). ⊎-elim (λ (i : what < 7). absurd (n6 (omega arith))) (λ (i : 7 ≤ what). absurd (n7 (omega arith))) (lt-or-le what 7)) (lt-or-le what 6))
+        (λ (j : 6 ≤ what). ⊎-elim (λ (i : what < 7). absurd (n6 (omega arith))) (λ (i : 7 ≤ what). absurd (n7 (omega arith))) (lt-or-le what 7))
+        (lt-or-le what 6))
         (lt-or-le what 5))
         (λ (l : 8 ≤ what). inr l) (lt-or-le what 8)
 
@@ -202,7 +203,8 @@ expect-by P what kind e a b c d f g = go4 (eqb what 4) refl e
     go7 n4 h n3 n6 true q e = f (eqb-true _ _ q) (eqb-true _ _ e)
     go7 n4 h n3 n6 false q e = g (rest n4 h n3 n6 (eqb-false _ _ q)) (eqb-true _ _ e)
 
-    go6 : (what ≡ 4 → ⊥) → 2 < what → (what ≡ 3 → ⊥) → (x : Bool) → eqb what 6 ≡ x → pick x (eqb kind 13) (pick (eqb what 7) (eqb kind 13) (eqb kind 2)) ≡ true → P
+    go6 : (what ≡ 4 → ⊥) → 2 < what → (what ≡ 3 → ⊥) → (x : Bool) → eqb what 6 ≡ x
+        → pick x (eqb kind 13) (pick (eqb what 7) (eqb kind 13) (eqb kind 2)) ≡ true → P
     go6 n4 h n3 true q e = d (eqb-true _ _ q) (eqb-true _ _ e)
     go6 n4 h n3 false q e = go7 n4 h n3 (eqb-false _ _ q) (eqb what 7) refl e
 
@@ -218,7 +220,8 @@ expect-by P what kind e a b c d f g = go4 (eqb what 4) refl e
 
     go4 : (x : Bool) → eqb what 4 ≡ x
         → pick x (isListed kind)
-        (pick (leb what 2) (eqb kind 12) (pick (eqb what 3) (eqb kind 1) (pick (eqb what 6) (eqb kind 13) (pick (eqb what 7) (eqb kind 13) (eqb kind 2))))) ≡ true → P
+        (pick (leb what 2) (eqb kind 12)
+        (pick (eqb what 3) (eqb kind 1) (pick (eqb what 6) (eqb kind 13) (pick (eqb what 7) (eqb kind 13) (eqb kind 2))))) ≡ true → P
     go4 true q e = a (eqb-true _ _ q) e
     go4 false q e = go2 (eqb-false _ _ q) (leb what 2) refl e
 
@@ -265,10 +268,13 @@ module _ (path : List ℕ) where
     word-fits kind w i x y deep =
         expect-by (Fitted what path (word kind w)) what kind x
         (λ e l. to 4 (word kind w) e (path, (any-word, refl)))
-        (λ e l. ⊎-elim (λ (q : kind ≡ 1). absurd (omega arith)) (⊎-elim (λ (q : kind ≡ 2). absurd (omega arith)) (λ (q : kind ≡ 9). absurd (omega arith))) (word-kinds kind i))
+        (λ e l. ⊎-elim (λ (q : kind ≡ 1). absurd (omega arith)) (⊎-elim (λ (q : kind ≡ 2). absurd (omega arith)) (λ (q : kind ≡ 9). absurd (omega arith)))
+        (word-kinds kind i))
         (λ e l. kind-to kind 1 w l (to 3 (word 1 w) e (path, (a-flag, refl))))
-        (λ e l. ⊎-elim (λ (q : kind ≡ 1). absurd (omega arith)) (⊎-elim (λ (q : kind ≡ 2). absurd (omega arith)) (λ (q : kind ≡ 9). absurd (omega arith))) (word-kinds kind i))
-        (λ e l. ⊎-elim (λ (q : kind ≡ 1). absurd (omega arith)) (⊎-elim (λ (q : kind ≡ 2). absurd (omega arith)) (λ (q : kind ≡ 9). absurd (omega arith))) (word-kinds kind i))
+        (λ e l. ⊎-elim (λ (q : kind ≡ 1). absurd (omega arith)) (⊎-elim (λ (q : kind ≡ 2). absurd (omega arith)) (λ (q : kind ≡ 9). absurd (omega arith)))
+        (word-kinds kind i))
+        (λ e l. ⊎-elim (λ (q : kind ≡ 1). absurd (omega arith)) (⊎-elim (λ (q : kind ≡ 2). absurd (omega arith)) (λ (q : kind ≡ 9). absurd (omega arith)))
+        (word-kinds kind i))
         (λ d l.
         kind-to kind 2 w l
         (let n4 : what ≡ 4 → ⊥ = λ q. ⊎-elim (λ (z : what ≡ 5). omega arith) (λ (z : 8 ≤ what). omega arith) d in
@@ -278,7 +284,8 @@ module _ (path : List ℕ) where
         (λ (z : what ≡ 5). to 5 (word 2 w) z (step-fits w (ap (λ (j : ℕ). inRange j (intOf w)) (sym z) ∙ r) (deep z)))
         (λ (z : 8 ≤ what). let n5 : what ≡ 5 → ⊥ = λ q. omega arith in (path, (in-range z (omega arith) r, simp (ne-eqb _ _ n5)))) d))
 
-    bytes-fits : (kind : ℕ) (bs : List ℕ) → Below 256 bs → isPart kind ≡ true → expects what kind ≡ true → partSuits what kind bs ≡ true → Fitted what path (bytes kind bs)
+    bytes-fits : (kind : ℕ) (bs : List ℕ) → Below 256 bs → isPart kind ≡ true → expects what kind ≡ true → partSuits what kind bs ≡ true
+        → Fitted what path (bytes kind bs)
     unfolding partSuits isListed
     bytes-fits kind bs b i x y =
         expect-by (Fitted what path (bytes kind bs)) what kind x
@@ -292,14 +299,17 @@ module _ (path : List ℕ) where
         (λ (k : what < 2). to 1 (bytes 12 bs) (omega arith)
         (path, (a-name (let one : 1 ≡ what = omega arith in ap (λ (j : ℕ). partSuits j 12 bs) one ∙ ap (λ (j : ℕ). partSuits what j bs) (sym l) ∙ y), refl)))
         (λ (k : 2 ≤ what). to 2 (bytes 12 bs) (omega arith) (path, (a-text, refl))) (lt-or-le what 2)))
-        (λ e l. ⊎-elim (λ (q : kind ≡ 4). absurd (omega arith)) (⊎-elim (λ (q : kind ≡ 12). absurd (omega arith)) (λ (q : kind ≡ 13). absurd (omega arith))) (part-kinds kind i))
+        (λ e l. ⊎-elim (λ (q : kind ≡ 4). absurd (omega arith))
+        (⊎-elim (λ (q : kind ≡ 12). absurd (omega arith)) (λ (q : kind ≡ 13). absurd (omega arith))) (part-kinds kind i))
         (λ e l. subst (λ (j : ℕ). Fitted what path (bytes j bs)) (sym l) (to 6 (bytes 13 bs) e (path-fits bs b (arcs bs 0 (length bs)) refl
         (ap (λ (j : ℕ). partSuits j 13 bs) (sym e) ∙ ap (λ (j : ℕ). partSuits what j bs) (sym l) ∙ y))))
         (λ e l. subst (λ (j : ℕ). Fitted what path (bytes j bs)) (sym l) (to 7 (bytes 13 bs) e (list-fits bs b (arcs bs 0 (length bs)) refl
         (ap (λ (j : ℕ). partSuits j 13 bs) (sym e) ∙ ap (λ (j : ℕ). partSuits what j bs) (sym l) ∙ y))))
-        (λ e l. ⊎-elim (λ (q : kind ≡ 4). absurd (omega arith)) (⊎-elim (λ (q : kind ≡ 12). absurd (omega arith)) (λ (q : kind ≡ 13). absurd (omega arith))) (part-kinds kind i))
+        (λ e l. ⊎-elim (λ (q : kind ≡ 4). absurd (omega arith))
+        (⊎-elim (λ (q : kind ≡ 12). absurd (omega arith)) (λ (q : kind ≡ 13). absurd (omega arith))) (part-kinds kind i))
 
-    fitted : (content : List ℕ) (x : Content) → Told content x → Below 256 content → suits what x ≡ true → pathOf what (length path) (x ∷ []) ≤ 16 → Fitted what path x
+    fitted : (content : List ℕ) (x : Content) → Told content x → Below 256 content → suits what x ≡ true → pathOf what (length path) (x ∷ []) ≤ 16
+        → Fitted what path x
     unfolding suits
     fitted content nothing t b e l = absurd t
     fitted content (word kind w) t b e l =

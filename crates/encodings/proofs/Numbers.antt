@@ -1,14 +1,12 @@
--- The numbers of refusals: whatever the walk refuses, it refuses with a number from 30 to 37 (`refused-number`). Each turn goes on, so the fuel is never used up.
+-- The numbers of refusals: whatever the walk refuses, it refuses with a number from 30 to 37 (`refused-number`). Each turn goes on, so the fuel is never
+-- used up.
 use Prim.Native.Nat.{ℕ, zero, suc, _+_, _-_, _≤_, _<_}
-use mathlib.Core.Path.{_≡_, refl, sym, ap, subst, _∙_}
+use mathlib.Core.Path.{_≡_, subst}
 use mathlib.Core.List.{List, [], _∷_, _++_}
-use mathlib.Core.Bool.{Bool, true, false}
 use native.Mathlib.Omega.{arith}
-use borrow.Author.Tests.{eqb-true}
 use lib.ListN.{length, getD, take, drop}
-use lib.Dec.{leb, ltb, eqb}
+use lib.Dec.{leb, eqb}
 use lib.IntN.{ℤ}
-use Rattle.integers.specs.Digits.{pick}
 use Rattle.integers.specs.declared.Number.{Number}
 use Rattle.integers.specs.declared.Number.the-variants.{Int as Whole, Refused as NoInt}
 use Rattle.integers.specs.Integer.{integerAt}
@@ -37,7 +35,7 @@ use Rattle.containers.specs.declared.Onto.{Onto}
 use Rattle.containers.specs.declared.Onto.the-variants.{Next, Refused as Stopped}
 use Rattle.containers.specs.declared.Crossing.{Crossing}
 use Rattle.containers.specs.declared.Crossing.the-variants.{Over as Ends, Past, Into, Refused as Stuck}
-use Rattle.containers.specs.Ends.{no, ofHead, zeroAt, closingAt, standingAt, deep, counted, enterAt, firstOf, firstAt, lastOf, lastAt, isTag}
+use Rattle.containers.specs.Ends.{ofHead, zeroAt, closingAt, standingAt, deep, counted, enterAt, firstOf, firstAt, lastOf, lastAt, isTag}
 use Rattle.containers.specs.Passing.{skipped, pastOf, crossOf, crossAt, onCrossing, onwards, throughBy, passedAt}
 use Rattle.containers.specs.Progress.{Ahead, Onward}
 use Rattle.containers.proofs.Heads.{pick-by}
@@ -46,7 +44,7 @@ use Rattle.entries.specs.declared.Cell.{Cell}
 use Rattle.entries.specs.Entry.{Entries, blank, putCell}
 use Rattle.grammar.specs.declared.Leaf.{Leaf}
 use Rattle.grammar.specs.declared.Leaf.the-variants.{Kept, Refused as Unfit}
-use Rattle.grammar.specs.Grammar.{body, ruleOf, contentsOf, innerClass, innerNumber}
+use Rattle.grammar.specs.Grammar.{ruleOf, contentsOf, innerClass, innerNumber}
 use Rattle.grammar.specs.Leaf.{expects, inRange, isName, isPath, numberLeaf, textLeaf, valueLeaf, judged, pathLeaf, listLeaf, numbersAt, leafAt}
 use Rattle.members.specs.declared.Member.{Member}
 use Rattle.members.specs.declared.Member.the-variants.{Done, Over, Leaf as Cell-of, Contents, Items, Refused as NoMember}

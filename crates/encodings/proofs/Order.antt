@@ -1,13 +1,14 @@
--- Required members, by presence and by order: where members come ascending, all required ones are there at the end exactly if none of them is left out on the way.
-use Prim.Native.Nat.{ℕ, zero, suc, _+_, _≤_, _<_}
-use mathlib.Core.Path.{_≡_, refl, sym, ap, subst, _∙_}
+-- Required members, by presence and by order: where members come ascending, all required ones are there at the end exactly if none of them is left out on
+-- the way.
+use Prim.Native.Nat.{ℕ, zero, suc, _≤_, _<_}
+use mathlib.Core.Path.{_≡_, refl, sym, ap, _∙_}
 use mathlib.Core.List.{List, [], _∷_}
-use mathlib.Core.Bool.{Bool, true, false}
+use mathlib.Core.Bool.{true}
 use mathlib.Core.Logic.{_⊎_, inl, inr, ⊎-elim}
 use native.Mathlib.Omega.{arith}
 use lib.ListN.{length, getD, set, length-set}
 use Rattle.integers.proofs.Radix.{lt-or-le}
-use Rattle.grammar.specs.Grammar.{ruleOf, required, contentsOf}
+use Rattle.grammar.specs.Grammar.{ruleOf, required}
 use Rattle.members.specs.Members.{column}
 use Rattle.forest.specs.Content.{Content, nothing}
 use Rattle.forest.specs.Trees.{Trees}
@@ -17,8 +18,7 @@ use Rattle.read_trees.proofs.Tables.{Kind, body-at, required-at, required-some,
 use Rattle.read_trees.proofs.Parts.{seq-column}
 use Rattle.read_trees.proofs.Lists.{get-set, get-other, complete-by, nothings, nothings-get}
 use Rattle.encodings.specs.Values.{Values, end, plain, nest}
-use Rattle.encodings.specs.Says.{Says}
-use Rattle.encodings.specs.Encodes.{Fits, absent, Ascending, Members, done, over, past, leaf, contents, kids, links}
+use Rattle.encodings.specs.Encodes.{absent, Ascending, Members, done, over, past, leaf, contents, kids, links}
 use Rattle.encodings.proofs.Fitting.{fits-plain}
 use Rattle.encodings.proofs.Rows.{says-present, set-column, kept-low, Follows, Ordered}
 
@@ -56,8 +56,11 @@ set-zero lo hi (links {row = row} {n = n} r i m) = let i = inner-rule row lo hi 
 body-second : (kind : ℕ) → Kind kind → (n : ℕ) → ruleOf kind n ≡ 13 → (n ≡ 1) × (required kind ≤ 1)
 body-second kind kk n r =
     let b = body-at kind kk n r in
-    let e : ruleOf kind 1 ≡ 13 = ap (ruleOf kind) (sym (b .0)) ∙ r in
-    (b .0, ⊎-elim (λ (h : 1 < required kind). let q = required-at kind kk 1 h .1 in absurd (omega arith)) (λ (h : required kind ≤ 1). h) (lt-or-le 1 (required kind)))
+    let e : ruleOf kind 1 ≡ 13 = ap (ruleOf kind) (sym (b .0)) ∙ r in (
+      b .0,
+      ⊎-elim (λ (h : 1 < required kind). let q = required-at kind kk 1 h .1 in absurd (omega arith)) (λ (h : required kind ≤ 1). h)
+          (lt-or-le 1 (required kind)),
+    )
 
 -- members from m on leave the cells of required ones before m
 seq-cell : {path : List ℕ} {row : ℕ} {xs ys : List Content} {v : Values} {t u : Trees} → Kind row → Members path row xs v ys t u
@@ -200,7 +203,8 @@ present-from kk (leaf {row = row} {n = n} {xs = xs} {x = x} g s f d) l m o w c r
     (λ (k : c′ < n). ap present (get-other xs (column row n) c′ x nothing (λ z. omega arith)) ∙ w c′ l′ r′)
     (λ (k : n ≤ c′).
     ⊎-elim (λ (j : n < c′). ap present (get-other xs (column row n) c′ x nothing (λ z. omega arith)) ∙ w c′ l′ r′)
-    (λ (j : c′ ≤ n). let z : c′ ≡ n = omega arith in ap (λ (j : ℕ). present (getD (set xs (column row n) x) j nothing)) z ∙ here) (lt-or-le n c′)) (lt-or-le c′ n) in
+    (λ (j : c′ ≤ n). let z : c′ ≡ n = omega arith in ap (λ (j : ℕ). present (getD (set xs (column row n) x) j nothing)) z ∙ here) (lt-or-le n c′))
+    (lt-or-le c′ n) in
     present-from kk d (length-set xs (column row n) x ∙ l) (suc n) (o .1) (came-on row m n (set xs (column row n) x) kk w′ (o .0) (λ h. here)) c r
 present-from kk (contents {row = row} {n = n} {xs = xs} {ys = ys} e i d) l m o w c r =
     let b = body-at row kk n e in
@@ -209,7 +213,8 @@ present-from kk (contents {row = row} {n = n} {xs = xs} {ys = ys} e i d) l m o w
     let s1 = s .1 in
     let w′ : Came (required row) m ys = λ c′ l′ r′.
     let z : c′ ≡ 0 = omega arith in
-    ap (λ (j : ℕ). present (getD ys j nothing)) z ∙ ap present (set-zero (b .1 .0) (b .1 .1) i) ∙ ap (λ (j : ℕ). present (getD xs j nothing)) (sym z) ∙ w c′ l′ r′ in
+    ap (λ (j : ℕ). present (getD ys j nothing)) z ∙ ap present (set-zero (b .1 .0) (b .1 .1) i) ∙ ap (λ (j : ℕ). present (getD xs j nothing)) (sym z)
+    ∙ w c′ l′ r′ in
     present-from kk d (members-length i ∙ l) (suc n) (o .1) (came-on row m n ys kk w′ (o .0) (λ h. absurd (omega arith))) c r
 present-from kk (kids {row = row} {n = n} {xs = xs} e i d) l m o w c r =
     present-from kk d l (suc n) (o .1) (came-on row m n xs kk w (o .0) (λ h. not-required row n _ kk (inr (omega arith)) h)) c r

@@ -1,10 +1,10 @@
 -- The reader's answer to every message of at most 16,384 octets and every table of at most 256 rows, by what the message encodes alone: `read-exactly` for the
 -- definition that the contract of `glow::read` equates its answer with, `call-exactly` for every call that its contract allows.
-use Prim.Native.Nat.{ℕ, _+_, _≤_, _<_}
+use Prim.Native.Nat.{ℕ, _≤_, _<_}
 use mathlib.Core.Path.{_≡_, refl, sym, ap, subst, _∙_}
-use mathlib.Core.List.{List, []}
-use mathlib.Core.Bool.{Bool, true, false}
-use mathlib.Core.Logic.{_⊎_, inl, inr, ⊎-elim, _↔_}
+use mathlib.Core.List.{List}
+use mathlib.Core.Bool.{Bool}
+use mathlib.Core.Logic.{⊎-elim}
 use native.Mathlib.Omega.{arith}
 use borrow.Author.Tests.{le-ltb, lt-ltb}
 use contract.Lifetimes.{Lfts}
@@ -12,8 +12,7 @@ use denote.Ref.{now}
 use denote.Triple.Clauses as Clauses
 use borrow.Fn.World as World
 use borrow.Fn.Kinds as K
-use lib.ListN.{length, drop}
-use lib.Dec.{ltb}
+use lib.ListN.{length}
 use Rattle.integers.specs.Digits.{pick}
 use Rattle.integers.proofs.Radix.{Below, lt-or-le}
 use Rattle.containers.specs.declared.Onto.{Onto}
@@ -78,7 +77,8 @@ module _ (s : List ℕ) (below : Below 256 s) (few : length s ≤ 16384) (rows :
       by : (a : Onto) → walk s .out .answer ≡ a → P
       by (Next m) q =
           let r = accepted s below q in
-          ⊎-elim (λ (l : length rows < count (r .0)). lacks (walk s .which) (r .0) (r .1) l) (λ (l : count (r .0) ≤ length rows). fits (walk s .which) (r .0) (r .1) l)
+          ⊎-elim (λ (l : length rows < count (r .0)). lacks (walk s .which) (r .0) (r .1) l)
+          (λ (l : count (r .0) ≤ length rows). fits (walk s .which) (r .0) (r .1) l)
           (lt-or-le (length rows) (count (r .0)))
       by (Stopped e) q =
           let r = refused-by s below few rows most e q in

@@ -1,9 +1,10 @@
--- No encoding of a tree is shorter than its message in a spelling of reals that is nowhere longer than the encoding's own: by the structure of values and trees alone.
-use Prim.Native.Nat.{ℕ, zero, suc, _+_, _≤_, _<_, _^_}
-use mathlib.Core.Path.{_≡_, refl, sym, ap, subst, _∙_}
+-- No encoding of a tree is shorter than its message in a spelling of reals that is nowhere longer than the encoding's own: by the structure of values and
+-- trees alone.
+use Prim.Native.Nat.{ℕ, suc, _+_, _≤_, _<_}
+use mathlib.Core.Path.{_≡_, refl, sym, ap, _∙_}
 use mathlib.Core.List.{List, [], _∷_, _++_}
-use mathlib.Core.Bool.{Bool, true, false}
-use mathlib.Core.Logic.{_⊎_, inl, inr, ⊎-elim}
+use mathlib.Core.Bool.{true}
+use mathlib.Core.Logic.{⊎-elim}
 use native.Mathlib.Omega.{arith}
 use lib.ListN.{length, getD, set, drop, length-append, length-set}
 use lib.Dec.{eqb}
@@ -19,20 +20,20 @@ use Rattle.entries.specs.Cell.{wordOf}
 use Rattle.grammar.specs.Grammar as grammar
 use Rattle.grammar.specs.Grammar.{ruleOf, applications}
 use Rattle.members.specs.Members.{column}
-use Rattle.forest.specs.Content.{Content, nothing, word, bytes, intOf}
+use Rattle.forest.specs.Content.{Content, nothing, intOf}
 use Rattle.forest.specs.Trees.{Trees, none, tree}
 use Rattle.forest.specs.Legal.{inner}
 use Rattle.forest.specs.Written.{tagged, spelled, memberOctets, membersOctets, wrapped, own, treesOctets, rootNumber, messageOctets}
 use Rattle.containers.proofs.Heads.{pick-by}
-use Rattle.read_trees.proofs.Sizes.{lengthSize, length-some, length-more, length-few, around, tagged-size, outer-size, wrapped-size, kindly, member-size}
+use Rattle.read_trees.proofs.Sizes.{lengthSize, length-more, length-few, around, tagged-size, outer-size, wrapped-size, kindly, member-size}
 use Rattle.read_trees.proofs.Sizes as sizes
 use Rattle.read_trees.proofs.Tables.{Kind, plain-at, body-at, is-set, inner-rule, application-short, stands-kind}
 use Rattle.read_trees.proofs.Parts.{own-first, inner-all, inner-set, own-set, seq-column, all-nothing, blank-own, blank-body}
 use Rattle.read_trees.proofs.Lists.{get-other, size-set, sizeFrom, nothings, nothings-get, nothings-size}
-use Rattle.encodings.specs.Values.{Values, end, plain, nest, Tags, Lengths, Spells, value, container, opened}
+use Rattle.encodings.specs.Values.{Values, end, plain, nest, Lengths, Spells, value, container, opened}
 use Rattle.encodings.specs.Values as values
 use Rattle.encodings.specs.Says.{Says, untrue, truth, integer, octets, real, text, identifier}
-use Rattle.encodings.specs.Encodes.{Fits, Ascending, absent, Members, done, over, past, leaf, contents, kids, links, Items, ended, message, Encodes}
+use Rattle.encodings.specs.Encodes.{Ascending, absent, Members, done, over, past, leaf, contents, kids, links, Items, ended, Encodes}
 use Rattle.encodings.specs.Encodes as encodes
 use Rattle.encodings.proofs.Heads.{tags-some}
 use Rattle.encodings.proofs.Leaves.{nine-read, word-back}
@@ -150,7 +151,8 @@ module _ (least : ℕ → List ℕ) where
   abbrev pub Enough : ℕ → ℕ → List ℕ → Type 0
   Enough class n content = Below 256 content × (class ≡ 0 → n ≡ 9 → (x : Float) → Means content x → length (least (Ieee.toBits binary64 x)) ≤ length content)
 
-  says-low : {type : ℕ} {content : List ℕ} {x : Content} → Says type content x → Enough 0 type content → (sizes.inside least x ≤ length content) × (kindly x < 31)
+  says-low : {type : ℕ} {content : List ℕ} {x : Content} → Says type content x → Enough 0 type content
+      → (sizes.inside least x ≤ length content) × (kindly x < 31)
   unfolding sizes.inside spelled
   says-low untrue e = (omega arith, omega arith)
   says-low (truth h) e = (omega arith, omega arith)
@@ -265,7 +267,8 @@ module _ (least : ℕ → List ℕ) where
       sizeFrom least 0 (own row ys) + (bodySize row ys + (kidsSize t + linksSize u)) ≤ sizeFrom least 0 (own row xs) + (bodySize row xs + low v)
 
   -- one step, with what comes after it
-  leaf-step : (row n type : ℕ) (xs ys : List Content) (content : List ℕ) (x : Content) (rest : Values) (t u : Trees) → Kind row → 0 < ruleOf row n → ruleOf row n < 13
+  leaf-step : (row n type : ℕ) (xs ys : List Content) (content : List ℕ) (x : Content) (rest : Values) (t u : Trees) → Kind row → 0 < ruleOf row n
+      → ruleOf row n < 13
       → length xs ≡ 16 → getD xs (column row n) nothing ≡ nothing → Says type content x → Enough 0 type content
       → Low row (set xs (column row n) x) rest ys t u → Low row xs (nest values.definite 2 n (plain 0 type content end) rest) ys t u
   leaf-step row n type xs ys content x rest t u kk some plainly l g s e r =
@@ -276,11 +279,13 @@ module _ (least : ℕ → List ℕ) where
       let a : sizeFrom least 0 (own row (set xs (column row n) x)) ≡ sizeFrom least 0 (own row xs) + length (memberOctets least n x) =
       ap (λ (j : ℕ). sizeFrom least 0 (own row (set xs j x))) q ∙ own-set row least n xs x (pl .alone) (omega arith) gap in
       let b : bodySize row (set xs (column row n) x) ≡ bodySize row xs =
-      ap (λ (j : ℕ). bodySize row (set xs j x)) q ∙ ap (λ (y : List Content). length (wrapped 1 0 17 (membersOctets least 0 y))) (inner-set row n xs x (pl .alone)) in
+      ap (λ (j : ℕ). bodySize row (set xs j x)) q
+      ∙ ap (λ (y : List Content). length (wrapped 1 0 17 (membersOctets least 0 y))) (inner-set row n xs x (pl .alone)) in
       let c = leaf-low {n = n} (omega arith) s e in
       omega arith
 
-  leaf-bare : (row n m : ℕ) (xs : List Content) (x : Content) → Kind row → 0 < ruleOf row n → ruleOf row n < 13 → m ≤ n → Bare row m xs → Bare row (suc n) (set xs (column row n) x)
+  leaf-bare : (row n m : ℕ) (xs : List Content) (x : Content) → Kind row → 0 < ruleOf row n → ruleOf row n < 13 → m ≤ n → Bare row m xs
+      → Bare row (suc n) (set xs (column row n) x)
   leaf-bare row n m xs x kk some plainly h w k j c l =
       let q : column row n ≡ n = seq-column row kk n n in
       get-other xs (column row n) c x nothing (λ z. omega arith) ∙ w k (omega arith) c l
@@ -288,8 +293,10 @@ module _ (least : ℕ → List ℕ) where
   over-bare : (row n m : ℕ) (xs : List Content) → m ≤ n → Bare row m xs → Bare row (suc n) xs
   over-bare row n m xs h w k j c l = w k (omega arith) c l
 
-  contents-step : (row n : ℕ) (path : List ℕ) (xs ys zs : List Content) (inside rest : Values) (f : values.Form) (t u : Trees) → Kind row → ruleOf row n ≡ 13 → length xs ≡ 16 → (m : ℕ) → m ≤ n → Bare row m xs
-      → Members path (grammar.contentsOf row) xs inside ys none none → All Enough inside → Low row ys rest zs t u → Low row xs (nest f 2 n (nest f 0 17 inside end) rest) zs t u
+  contents-step : (row n : ℕ) (path : List ℕ) (xs ys zs : List Content) (inside rest : Values) (f : values.Form) (t u : Trees) → Kind row
+      → ruleOf row n ≡ 13 → length xs ≡ 16 → (m : ℕ) → m ≤ n → Bare row m xs
+      → Members path (grammar.contentsOf row) xs inside ys none none → All Enough inside → Low row ys rest zs t u
+      → Low row xs (nest f 2 n (nest f 0 17 inside end) rest) zs t u
   contents-step row n path xs ys zs inside rest f t u kk rule l m h w i a r =
       let b = body-at row kk n rule in
       let b0 = b .0 in
@@ -323,7 +330,8 @@ module _ (least : ℕ → List ℕ) where
         let p = fits-plain f in
         leaf-step row n type xs ys content x rest t u kk (p .0) (p .1) l g s (a .0 .0)
         (members-low kk d (length-set xs (column row n) x ∙ l) (suc n) (o .1) (leaf-bare row n m xs x kk (p .0) (p .1) (o .0) w) (a .1))
-    members-low kk (contents {path = path} {row = row} {n = n} {xs = xs} {ys = ys} {zs = zs} {form = f} {inside = inside} {rest = rest} {t = t} {u = u} r c d) l m o w a =
+    members-low kk (contents {path = path} {row = row} {n = n} {xs = xs} {ys = ys} {zs = zs} {form = f} {inside = inside} {rest = rest} {t = t} {u =
+        u} r c d) l m o w a =
         contents-step row n path xs ys zs inside rest f t u kk r l m (o .0) w c (a .0 .0)
         (members-low kk d (members-length c ∙ l) (suc n) (o .1)
         (λ k j. let b = body-at row kk n r .0 in absurd (omega arith)) (a .1))

@@ -1,30 +1,27 @@
--- The writer's message encodes its tree (`message-encodes`, `written-encodes`). None of the tree's encodings with reals of scale 0 and odd mantissa, the form that is
+-- The writer's message encodes its tree (`message-encodes`, `written-encodes`). None of the tree's encodings with reals of scale 0 and odd mantissa, the
+-- form that is
 -- written, is shorter (`written-shortest`). With reals in the fewest octets the message is the shortest of all (`least-encodes`, `least-shortest`).
-use Prim.Native.Nat.{ℕ, _+_, _≤_, _<_}
-use mathlib.Core.Path.{_≡_, refl, sym, ap, subst, _∙_}
-use mathlib.Core.List.{List, [], _∷_, _++_}
-use mathlib.Core.Bool.{Bool, true, false}
-use mathlib.Core.Logic.{_⊎_, inl, inr, ⊎-elim}
+use Prim.Native.Nat.{ℕ, _≤_, _<_}
+use mathlib.Core.Path.{_≡_, sym, ap, subst, _∙_}
+use mathlib.Core.List.{List}
+use mathlib.Core.Bool.{true}
+use mathlib.Core.Logic.{⊎-elim}
 use native.Mathlib.Omega.{arith}
 use lib.ListN.{length, take, drop}
 use lib.Seq.{take-at}
-use lib.Dec.{T}
 use lib.Ieee as Ieee
 use lib.Ieee.{Float, binary64}
 use lib.Ieee.Bits.{ofBits-toBits, ofBits-fits}
 use Rattle.integers.specs.Digits.{outcome}
 use Rattle.integers.specs.declared.Wrote.the-variants.{Next}
 use Rattle.integers.proofs.Radix.{Below, lt-or-le}
-use Rattle.reals.specs.declared.Read.the-variants.{Real as Double}
-use Rattle.reals.specs.Write.{Form, unwritten, octets, form}
-use Rattle.reals.specs.Real as reals
+use Rattle.reals.specs.Write.{Form, form}
 use Rattle.reals.specs.Means.{Means, Plain}
 use Rattle.reals.proofs.Exactly.{exactly}
 use Rattle.reals.proofs.RoundTrip.{read-written, written-least}
 use Rattle.real_sizes.specs.Sizes as sizes
 use Rattle.real_sizes.proofs.Spelled as spelled-sizes
 use Rattle.entries.specs.Entry.{Rows}
-use Rattle.forest.specs.Content.{Item}
 use Rattle.forest.specs.Rows.{itemsIn}
 use Rattle.forest.specs.Trees.{Trees, flat, treesOf}
 use Rattle.forest.specs.Legal.{isReal, legalRoot}
@@ -40,7 +37,7 @@ use Rattle.tree_round_trip.proofs.Theorems.{written}
 use Rattle.encodings.specs.Values.{Values, end, plain, nest}
 use Rattle.encodings.specs.Encodes.{Encodes}
 use Rattle.encodings.specs.Writing.{PlainReals}
-use Rattle.encodings.proofs.Exactly.{Accepts, sound}
+use Rattle.encodings.proofs.Exactly.{sound}
 use Rattle.encodings.proofs.Shortest.{All, contents-below, Enough, message-low}
 
 -- ---- it is an encoding
@@ -82,8 +79,17 @@ written-encodes s b rows count root out n out′ h =
     let d = told root (length rows) count es out (Next n) out′ h in
     let f = fitting writtenReal root (length rows) count es (d .0) in
     let w = made root es (f .whole) in
-    let q : take n out′ ≡ bs = ap (take n) (d .1 .1 .1) ∙ take-at bs (drop n out) n (sym (d .1 .0)) in
-    (t, (q, (subst (λ (l : List ℕ). Encodes l root t) (sym q) (message-encodes root t (w .legals) (subst Octets (sym (w .entries)) (rows-octets s b rows count)) (f .few)), w .entries)))
+    let q : take n out′ ≡ bs = ap (take n) (d .1 .1 .1) ∙ take-at bs (drop n out) n (sym (d .1 .0)) in (
+      t,
+      (
+        q,
+        (
+          subst (λ (l : List ℕ). Encodes l root t) (sym q)
+              (message-encodes root t (w .legals) (subst Octets (sym (w .entries)) (rows-octets s b rows count)) (f .few)),
+          w .entries,
+        ),
+      ),
+    )
 
 -- ---- none is shorter
 
@@ -99,13 +105,15 @@ plain-all (plain class n content rest) a = (a .0, plain-all rest (a .1))
 plain-all (nest form class n inside rest) a = (plain-all inside (a .0), plain-all rest (a .1))
 
 -- a real with scale 0 and an odd mantissa has no fewer octets than are written
-written-enough : (content : List ℕ) (x : Float) → Below 256 content → Plain content → Means content x → length (writtenReal (Ieee.toBits binary64 x)) ≤ length content
+written-enough : (content : List ℕ) (x : Float) → Below 256 content → Plain content → Means content x
+    → length (writtenReal (Ieee.toBits binary64 x)) ≤ length content
 unfolding writtenReal
 written-enough content x b p m =
     let e = exactly content b x .1 m in
     let r = read-written content x b e in
     let back : Ieee.ofBits binary64 (Ieee.toBits binary64 x) ≡ x = ofBits-toBits binary64 x (r .0) in
-    let q : formOctets (form (Ieee.ofBits binary64 (Ieee.toBits binary64 x))) ≡ r .1 .0 = ap (λ (y : Float). formOctets (form y)) back ∙ ap formOctets (r .1 .1 .0) in
+    let q : formOctets (form (Ieee.ofBits binary64 (Ieee.toBits binary64 x))) ≡ r .1 .0 = ap (λ (y : Float). formOctets (form y)) back
+    ∙ ap formOctets (r .1 .1 .0) in
     let l = written-least content (r .1 .0) x b p e (r .1 .1 .0) in
     let z = ap length q in
     omega arith

@@ -1,5 +1,4 @@
 -- The writer's spelling of reals, among all that are read: "Written with scale 0, odd mantissa, fewest octets" (document 01, "Values").
-use Prim.Native.Nat.{ℕ}
 use mathlib.Core.Path.{_≡_}
 use Rattle.reals.specs.Means.{Plain}
 use Rattle.encodings.specs.Values.{Values, end, plain, nest}
