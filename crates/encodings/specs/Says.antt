@@ -17,14 +17,17 @@ NineDiffer [] = Unit {0}
 NineDiffer (a ∷ []) = Unit {0}
 NineDiffer (a ∷ (b ∷ bs)) = (nine a b ≡ 0 → ⊥) × (nine a b ≡ 511 → ⊥)
 
--- "Booleans: one octet, non-zero is true". "Integers: 1 to 8 octets, two's complement, first nine bits not all equal." Reals: any octets that mean a double.
--- Texts, octets and relative identifiers are kept by their octets.
+-- Says type content x: the content octets of a value with this universal number say x.
 pub data Says : ℕ → List ℕ → Content → Type 0 where
+  -- "Booleans: one octet, non-zero is true"
   untrue : Says 1 (0 ∷ []) (word 1 0)
   truth : {b : ℕ} → 0 < b → Says 1 (b ∷ []) (word 1 1)
+  -- "Integers: 1 to 8 octets, two's complement, first nine bits not all equal"
   integer : {bs : List ℕ} → 1 ≤ length bs → length bs ≤ 8 → NineDiffer bs → Says 2 bs (word 2 (wordOf (signed bs)))
-  octets : {bs : List ℕ} → Says 4 bs (bytes 4 bs)
+  -- "Reals: .. Accepted exactly if some finite double equals it", and the infinities
   real : {bs : List ℕ} (x : Float) → Means bs x → Says 9 bs (word 9 (Ieee.toBits binary64 x))
+  -- octets, texts and relative identifiers are their octets
+  octets : {bs : List ℕ} → Says 4 bs (bytes 4 bs)
   text : {bs : List ℕ} → Says 12 bs (bytes 12 bs)
   identifier : {bs : List ℕ} → Says 13 bs (bytes 13 bs)
 
