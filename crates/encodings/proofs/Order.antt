@@ -166,7 +166,7 @@ ordered-by kind kk d a e = ordered-from kk d 0 a (λ c l r. absent-at c) e
 pub ordered-ascending : (r m : ℕ) (v : Values) → Ordered r m v → Ascending m v
 ordered-ascending r m end o = tt
 ordered-ascending r m (plain class n content rest) o = (o .0 .0, ordered-ascending r (suc n) rest (o .1))
-ordered-ascending r m (nest form class n inside rest) o = (o .0 .0, ordered-ascending r (suc n) rest (o .1))
+ordered-ascending r m (nest form class n inside rest) o = let h = o .0 .0 in (omega arith, ordered-ascending r (suc n) rest (o .1))
 
 -- required members before m are there
 abbrev Came : ℕ → ℕ → List Content → Type 0

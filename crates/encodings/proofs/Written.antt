@@ -37,6 +37,8 @@ use Rattle.tree_round_trip.proofs.Theorems.{written}
 use Rattle.encodings.specs.Values.{Values, end, plain, nest}
 use Rattle.encodings.specs.Encodes.{Encodes}
 use Rattle.encodings.specs.Writing.{PlainReals}
+use Rattle.encodings.proofs.Unique.{one-spelling}
+use Rattle.encodings.proofs.Valued.{message-spelt}
 use Rattle.encodings.proofs.Exactly.{sound}
 use Rattle.encodings.proofs.Shortest.{All, contents-below, Enough, message-low}
 
@@ -90,6 +92,21 @@ written-encodes s b rows count root out n out′ h =
         ),
       ),
     )
+
+-- ---- its reals have scale 0 and an odd mantissa
+
+-- what stands in the first container
+abbrev inside-of : Values → Values
+inside-of end = end
+inside-of (plain class n content rest) = end
+inside-of (nest form class n inside rest) = inside
+
+-- However the writer's message is taken as an encoding, its reals have scale 0 and an odd mantissa.
+pub written-plainly : (root : ℕ) (t : Trees) → legalRoot root t ≡ true → length (messageOctets writtenReal root t) ≤ 16384
+    → (e : Encodes (messageOctets writtenReal root t) root t) → PlainReals (e .items)
+written-plainly root t right few e =
+    let m = message-spelt root t right few in
+    subst PlainReals (ap (λ (v : Values). inside-of (inside-of v)) (sym (one-spelling (e .spelled) (m .0)))) (m .1)
 
 -- ---- none is shorter
 
