@@ -26,10 +26,11 @@ use Rattle.grammar.specs.Leaf.{expects, least, most, inRange, isName, isPath}
 use Rattle.forest.specs.Content.{Content, nothing, word, bytes, wrong, isWord, isPart, intOf}
 use Rattle.forest.specs.Legal.{isFormed, isReal, wordSuits, pathSuits, listSuits, partSuits, suits, lengthOf, pathOf}
 use Rattle.reading_back.proofs.Bools.{never, both-left, both-right, unless, part-kinds, word-kinds}
+use Rattle.read_trees.proofs.Leaves.{word-low, form-no-nan}
 use Rattle.encodings.specs.Says.{Says, untrue, truth, integer, octets, real, text, identifier, Numbers}
 use Rattle.encodings.specs.Encodes.{Fits, a-name, a-text, a-flag, any-word, any-text, any-octets, a-number, a-path, sources, in-range}
 use Rattle.encodings.proofs.Septets.{arcs-exactly}
-use Rattle.encodings.proofs.Leaves.{nine-read, word-back, form-no-nan}
+use Rattle.encodings.proofs.Leaves.{nine-read}
 
 -- ---- what is said
 
@@ -52,7 +53,7 @@ real-told bs x b m =
 told : {type : ℕ} {content : List ℕ} {x : Content} → Says type content x → Below 256 content → Told content x
 told untrue b = (omega arith, inl (refl, omega arith))
 told (truth h) b = (omega arith, inl (refl, omega arith))
-told (integer {bs = bs} lo hi d) b = (word-back (signed bs) (read-fits bs (signed bs) b (nine-read bs lo hi d)) .0, inr (inl refl))
+told (integer {bs = bs} lo hi d) b = (word-low (signed bs) (read-fits bs (signed bs) b (nine-read bs lo hi d)), inr (inl refl))
 told octets b = (refl, refl)
 told (real {bs = bs} x m) b = let r = real-told bs x b m in (r .0, inr (inr (refl, r .1)))
 told text b = (refl, refl)

@@ -153,7 +153,7 @@ ordered-from kk (links {row = row} {n = n} {xs = xs} {ys = ys} r i d) m a w e =
       ordered-from kk d (suc n) (a .1) (later-waits row m xs ys w e n h) e,
     )
 
-absent-at : (c : ℕ) → getD absent c nothing ≡ nothing
+pub absent-at : (c : ℕ) → getD absent c nothing ≡ nothing
 unfolding nothings
 absent-at c = nothings-get 16 c
 

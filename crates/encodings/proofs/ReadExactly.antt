@@ -2,26 +2,28 @@
 -- definition that the contract of `glow::read` equates its answer with, `call-exactly` for every call that its contract allows.
 use Prim.Native.Nat.{ℕ, _≤_, _<_}
 use mathlib.Core.Path.{_≡_, refl, sym, ap, subst, _∙_}
-use mathlib.Core.List.{List}
+use mathlib.Core.List.{List, []}
 use mathlib.Core.Bool.{Bool}
 use mathlib.Core.Logic.{⊎-elim}
 use native.Mathlib.Omega.{arith}
 use borrow.Author.Tests.{le-ltb, lt-ltb}
 use contract.Lifetimes.{Lfts}
-use denote.Ref.{now}
+use denote.Ref.{RefT, now}
 use denote.Triple.Clauses as Clauses
 use borrow.Fn.World as World
 use borrow.Fn.Kinds as K
 use lib.ListN.{length}
+use lib.Dec.{ltb}
 use Rattle.integers.specs.Digits.{pick}
 use Rattle.integers.proofs.Radix.{Below, lt-or-le}
 use Rattle.containers.specs.declared.Onto.{Onto}
 use Rattle.containers.specs.declared.Onto.the-variants.{Next, Refused as Stopped}
+use Rattle.containers.proofs.Heads.{pick-by}
 use Rattle.entries.specs.Entry.{Entries, Rows, overlay}
 use Rattle.walk.specs.Walk.{walk}
 use Rattle.glow.specs.declared.Answer.{Answer}
 use Rattle.glow.specs.declared.Answer.the-variants.{Room, Read}
-use Rattle.glow.specs.Message.{Said, saidBy, Result, result, readAt}
+use Rattle.glow.specs.Message.{Said, saidBy, Result, result, setup, readOf, readAt}
 use Rattle.glow.proofs.Answers.{past-untouched}
 use Rattle.glow.proofs.read
 use Rattle.glow.proofs.read.Kinds as read-kinds
@@ -148,6 +150,35 @@ pub record ReadCall (s : List ℕ) (table : Rows) (a : Answer) (table′ : Rows)
   pub table-is : now (args .1 .0) ≡ table
   pub left-is : now (exits .1 .0) ≡ table′
   pub ensured : read-reads.Post κs args a exits
+
+-- a lent slice that holds xs
+lent-slice : {A : Type 0} → List A → RefT (List A)
+lent-slice xs = record { ptr = (0, 0); name = 0; now = xs }
+
+abbrev Whole : Result → Type 0
+Whole y = y ≡ result (y .answer) (y .rows)
+
+whole-read : (rows : Rows) (which : ℕ) (es : Entries) (a : Onto) → Whole (readOf rows which es a)
+whole-read rows which es (Next n) = pick-by Whole (ltb (length rows) (length es)) (λ e. refl) (λ e. refl)
+whole-read rows which es (Stopped e) = refl
+
+whole : (s : List ℕ) (rows : Rows) → Whole (readAt s rows)
+unfolding readAt
+whole s rows =
+    pick-by Whole (setup (length s) (length rows)) (λ e. refl) (λ e. whole-read rows (walk s .which) (walk s .out .entries) (walk s .out .answer))
+
+-- There is such a call for every message and every table.
+pub call-there : (s : List ℕ) (table : Rows) → ReadCall s table (readAt s table .answer) (readAt s table .rows)
+unfolding lent-slice
+call-there s table = record {
+  κs = ([], ([], tt));
+  args = (lent-slice s, (lent-slice table, tt));
+  exits = (lent-slice s, (lent-slice (readAt s table .rows), tt));
+  message-is = refl;
+  table-is = refl;
+  left-is = refl;
+  ensured = whole s table;
+}
 
 read-says : {s : List ℕ} {table : Rows} {a : Answer} {table′ : Rows} → ReadCall s table a table′ → readAt s table ≡ result a table′
 read-says k = cc (k .ensured)

@@ -26,20 +26,21 @@ use Rattle.forest.specs.Legal.{inner}
 use Rattle.forest.specs.Written.{tagged, spelled, memberOctets, membersOctets, wrapped, own, treesOctets, rootNumber, messageOctets}
 use Rattle.containers.proofs.Heads.{pick-by}
 use Rattle.read_trees.proofs.Sizes.{lengthSize, length-more, length-few, around, tagged-size, outer-size, wrapped-size, kindly, member-size}
+use Rattle.read_trees.proofs.Leaves.{word-back}
 use Rattle.read_trees.proofs.Sizes as sizes
 use Rattle.read_trees.proofs.Tables.{Kind, plain-at, body-at, is-set, inner-rule, application-short, stands-kind}
 use Rattle.read_trees.proofs.Parts.{own-first, inner-all, inner-set, own-set, seq-column, all-nothing, blank-own, blank-body}
-use Rattle.read_trees.proofs.Lists.{get-other, size-set, sizeFrom, nothings, nothings-get, nothings-size}
+use Rattle.read_trees.proofs.Lists.{get-other, size-set, sizeFrom, nothings, nothings-size}
 use Rattle.encodings.specs.Values.{Values, end, plain, nest, Lengths, Spells, value, container, opened}
 use Rattle.encodings.specs.Values as values
 use Rattle.encodings.specs.Says.{Says, untrue, truth, integer, octets, real, text, identifier}
 use Rattle.encodings.specs.Encodes.{Ascending, absent, Members, done, over, past, leaf, contents, kids, links, Items, ended, Encodes}
 use Rattle.encodings.specs.Encodes as encodes
 use Rattle.encodings.proofs.Heads.{tags-some}
-use Rattle.encodings.proofs.Leaves.{nine-read, word-back}
+use Rattle.encodings.proofs.Leaves.{nine-read}
 use Rattle.encodings.proofs.Fitting.{fits-plain}
 use Rattle.encodings.proofs.Rows.{set-column}
-use Rattle.encodings.proofs.Order.{members-length, set-zero}
+use Rattle.encodings.proofs.Order.{members-length, set-zero, absent-at}
 
 around-more : (m n : ℕ) → m ≤ n → around m ≤ around n
 unfolding around
@@ -146,6 +147,10 @@ own-zero : (kind : ℕ) (xs : List Content) → (grammar.contentsOf kind ≡ 0 �
 own-zero kind [] n l = absurd (omega arith)
 own-zero kind (x ∷ xs) n l = own-first kind x xs n
 
+pub root-short : (root : ℕ) → rootNumber root < 31
+unfolding rootNumber
+root-short root = pick-by (λ (n : ℕ). n < 31) (eqb root 0) (λ e. omega arith) (λ e. omega arith)
+
 module _ (least : ℕ → List ℕ) where
   -- octets, and of a real at least as many as this spelling has
   abbrev pub Enough : ℕ → ℕ → List ℕ → Type 0
@@ -159,7 +164,7 @@ module _ (least : ℕ → List ℕ) where
   says-low (integer {bs = bs} lo hi d) e =
       let r = nine-read bs lo hi d in
       let q : shortest (intOf (wordOf (signed bs))) ≡ bs =
-      ap shortest (word-back (signed bs) (read-fits bs (signed bs) (e .0) r) .1) ∙ read-written bs (signed bs) (e .0) r in
+      ap shortest (word-back (signed bs) (read-fits bs (signed bs) (e .0) r)) ∙ read-written bs (signed bs) (e .0) r in
       let l = ap length q in
       (omega arith, omega arith)
   says-low octets e = (omega arith, omega arith)
@@ -310,10 +315,6 @@ module _ (least : ℕ → List ℕ) where
       let y = body-low row xs ys some l l′ bare first (low inside) s in
       omega arith
 
-  absent-at : (c : ℕ) → getD absent c nothing ≡ nothing
-  unfolding nothings
-  absent-at c = nothings-get 16 c
-
   absent-none : (kind : ℕ) → (sizeFrom least 0 (own kind absent) ≡ 0) × (bodySize kind absent ≡ 0)
   unfolding nothings
   absent-none kind = (blank-own kind least, blank-body kind least)
@@ -362,10 +363,6 @@ module _ (least : ℕ → List ℕ) where
         omega arith
 
   -- the whole message
-  root-short : (root : ℕ) → rootNumber root < 31
-  unfolding rootNumber
-  root-short root = pick-by (λ (n : ℕ). n < 31) (eqb root 0) (λ e. omega arith) (λ e. omega arith)
-
   message-size : (root : ℕ) (t : Trees) → length (messageOctets least root t) ≡ around (around (length (treesOctets least t)))
   unfolding messageOctets
   message-size root t =

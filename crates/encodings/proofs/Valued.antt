@@ -35,6 +35,7 @@ use Rattle.encodings.specs.Values.{Values, end, plain, nest, definite, l
 use Rattle.encodings.specs.Values as values
 use Rattle.encodings.specs.Encodes.{message}
 use Rattle.encodings.specs.Writing.{PlainReals}
+use Rattle.encodings.proofs.Shortest.{root-short}
 use Rattle.encodings.proofs.Unique.{four}
 
 -- ---- values, one list after another
@@ -287,10 +288,6 @@ spelt-trees (tree kind members kids links rest) which k above e =
     (spelt-nest 2 0 (omega arith) (tagged 1 true number (m1 ++ (m2 ++ (m3 ++ m4)))) (nest definite 1 number (append v1 (append v2 (append v3 v4))) end)
     (omega arith)
     (spelt-nest 1 number short′ (m1 ++ (m2 ++ (m3 ++ m4))) (append v1 (append v2 (append v3 v4))) (omega arith) s0)) c
-
-root-short : (root : ℕ) → rootNumber root < 31
-unfolding rootNumber
-root-short root = pick-by (λ (n : ℕ). n < 31) (eqb root 0) (λ e. omega arith) (λ e. omega arith)
 
 -- The message of a legal tree spells these values.
 pub message-spelt : (root : ℕ) (t : Trees) → legalRoot root t ≡ true → length (messageOctets writtenReal root t) ≤ 16384
