@@ -37,7 +37,7 @@ use Rattle.read_trees.proofs.Elements.{ItemsRead, bodySize, kidsSize, l
 use Rattle.read_trees.proofs.Elements.{over-reading, leaf-reading, op, low, high, contents-filling, contents-reading, items-reading}
 use Rattle.read_trees.proofs.Elements.{done-reading, begin-reading}
 
-tell-map : (C D : ℕ → Entries → Type 0) → ((q : ℕ) (es : Entries) → C q es → D q es) → (x : Out) → OutTell C x → OutTell D x
+pub tell-map : (C D : ℕ → Entries → Type 0) → ((q : ℕ) (es : Entries) → C q es → D q es) → (x : Out) → OutTell C x → OutTell D x
 tell-map C D f x = go (x .answer) (x .entries)
   where
     go : (a : Onto) (es : Entries) → AnswerTell C a es → AnswerTell D a es

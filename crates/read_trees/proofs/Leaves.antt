@@ -54,11 +54,11 @@ RealsLeast least = (bs : List ℕ) (x : Float) → Below 256 bs → real bs ≡ 
 
 -- an integer by its word
 module _ where
-  word-low : (z : ℤ) → SFits w64 z → wordOf z < 18446744073709551616
+  pub word-low : (z : ℤ) → SFits w64 z → wordOf z < 18446744073709551616
   word-low (pos n) h = let k : n < 9223372036854775808 = h .sfits in omega arith
   word-low (negsuc n) h = omega arith
 
-  word-back : (z : ℤ) → SFits w64 z → intOf (wordOf z) ≡ z
+  pub word-back : (z : ℤ) → SFits w64 z → intOf (wordOf z) ≡ z
   unfolding intOf
   word-back (pos n) h = let k : n < 9223372036854775808 = h .sfits in simp (lt-ltb _ _ k)
   word-back (negsuc n) h =
@@ -68,7 +68,7 @@ module _ where
       simp (le-ltb _ _ l, e)
 
 -- a double by its word
-form-no-nan : (x : Float) {cs : List ℕ} → form x ≡ octets cs → Ieee.isNan x ≡ false
+pub form-no-nan : (x : Float) {cs : List ℕ} → form x ≡ octets cs → Ieee.isNan x ≡ false
 unfolding form Ieee.isNan
 form-no-nan nan e = let z : _≡_ {A = ℕ} 0 1 = cc in absurd (omega arith)
 form-no-nan (inf s) e = refl

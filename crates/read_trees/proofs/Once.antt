@@ -1,4 +1,4 @@
--- The entries of a legal tree make that tree and no other.
+-- The entries of a tree whose kinds stand where they may, as those of a legal tree do, make that tree and no other.
 use Prim.Native.Nat.{ℕ, zero, suc, _+_, _-_, _<_, _≤_}
 use mathlib.Core.Path.{_≡_, refl, sym, ap, _∙_}
 use mathlib.Core.List.{List, [], _∷_, _++_, append-assoc}
@@ -13,6 +13,7 @@ use Rattle.grammar.specs.Grammar.{holds, ruleOf, required, children, connection
 use Rattle.forest.specs.Content.{Content, Item, item}
 use Rattle.forest.specs.Trees.{Trees, none, tree, count, flat, among, standsIn, stands, Taken, taken, takenBy, treesOf}
 use Rattle.forest.specs.Legal.{suited, complete, pathAfter, inner, empty, isNone, isRoot, legal, legalRoot}
+use Rattle.read_trees.specs.Stood.{Stood}
 use Rattle.read_trees.proofs.Bools.{never, both-left, both-right}
 use Rattle.read_trees.proofs.Lists.{append-none, flat-length}
 
@@ -41,44 +42,6 @@ stop-not which parent e es (inr h) = go (eqb (e .parent) parent)
     go true = h .1
     go false = refl
 
--- a legal tree's parts
-record Parts (which k above kind : ℕ) (xs : List Content) (kids links rest : Trees) : Type 0 where
-  stand : standsIn which kind ≡ true
-  path : ℕ
-  kids-legal : legal children (k - 4) path kids ≡ true
-  links-legal : legal connections (k - 4) path links ≡ true
-  rest-legal : legal which k above rest ≡ true
-
-is-none : (t : Trees) → isNone t ≡ true → t ≡ none
-is-none none e = refl
-is-none (tree kind xs kids links rest) e = never e
-
-held : (b : Bool) (which k above : ℕ) (t : Trees) → pick b (legal which k above t) (isNone t) ≡ true → legal which k above t ≡ true
-unfolding legal
-held true which k above t e = e
-held false which k above t e = ap (legal which k above) (is-none t e)
-
-parts-of : (which k above kind : ℕ) (xs : List Content) (kids links rest : Trees) → legal which k above (tree kind xs kids links rest) ≡ true
-    → Parts which k above kind xs kids links rest
-unfolding legal
-parts-of which k above kind xs kids links rest e =
-    let path = pathAfter kind above xs in
-    let e1 = both-right (standsIn which kind) _ e in
-    let e2 = both-right (eqb (length xs) 16) _ e1 in
-    let e3 = both-right (leb 3 k) _ e2 in
-    let e4 = both-right (suited kind 0 xs) _ e3 in
-    let e5 = both-right (complete (required kind) xs) _ e4 in
-    let e6 = both-right (leb path 16) _ e5 in
-    let e7 = both-right (pick (empty (inner kind xs)) true (leb 5 k)) _ e6 in
-    let e8 = both-right (pick (eqb (ruleOf kind 2) 14) (legal children (k - 4) path kids) (isNone kids)) _ e7 in
-    record {
-      stand = both-left (standsIn which kind) _ e;
-      path = path;
-      kids-legal = held (eqb (ruleOf kind 2) 14) children (k - 4) path kids (both-left _ _ e7);
-      links-legal = held (eqb (ruleOf kind 5) 15) connections (k - 4) path links (both-left _ _ e8);
-      rest-legal = both-right (pick (eqb (ruleOf kind 5) 15) (legal connections (k - 4) path links) (isNone links)) _ e8;
-    }
-
 -- what is taken from the entries of a tree, and then others
 module _ (f which parent i : ℕ) where
   take-none : (rest : List Item) → 0 < f → Stops which parent rest → takenBy f which parent i rest ≡ taken none rest
@@ -91,14 +54,13 @@ module _ (f which parent i : ℕ) where
       go (suc f) l (e ∷ es) h = rw (stop-not which parent e es h)
 
 -- the first of the trees of a collection stands under its parent, in that collection
-first-of : (which k above parent i : ℕ) (t : Trees) (rest : List Item) (other low : ℕ) → legal which k above t ≡ true
+first-of : (which parent i : ℕ) (t : Trees) (rest : List Item) (other low : ℕ) → Stood which t
     → (parent < low) ⊎ ((parent ≡ low) × ((kind : ℕ) → standsIn which kind ≡ true → standsIn other kind ≡ false))
     → Stops other low rest → Stops other low (flat parent i t ++ rest)
 unfolding flat
-first-of which k above parent i none rest other low e d h = h
-first-of which k above parent i (tree kind xs kids links rest′) rest other low e (inl d) h = inl d
-first-of which k above parent i (tree kind xs kids links rest′) rest other low e (inr d) h =
-    inr (d .0, d .1 kind (parts-of which k above kind xs kids links rest′ e .stand))
+first-of which parent i none rest other low e d h = h
+first-of which parent i (tree kind xs kids links rest′) rest other low e (inl d) h = inl d
+first-of which parent i (tree kind xs kids links rest′) rest other low e (inr d) h = inr (d .0, d .1 kind (e .0))
 
 deeper : (which parent other low : ℕ) (rest : List Item) → Stops which parent rest → parent < low → Stops other low rest
 deeper which parent other low [] h l = tt
@@ -109,39 +71,82 @@ stands-here : (which parent kind : ℕ) (xs : List Content) → standsIn which k
 unfolding stands
 stands-here which parent kind xs e = simp (eq-eqb parent parent refl) e
 
-takes : (t : Trees) (f which k above parent i : ℕ) (rest : List Item) → count t < f → legal which k above t ≡ true → parent ≤ i → Stops which parent rest
+takes : (t : Trees) (f which parent i : ℕ) (rest : List Item) → count t < f → Stood which t → parent ≤ i → Stops which parent rest
     → takenBy f which parent i (flat parent i t ++ rest) ≡ taken t rest
 unfolding takenBy flat count
-takes none f which k above parent i rest l e p h = take-none f which parent i rest (omega arith) h
-takes (tree kind xs kids links rest′) zero which k above parent i rest l e p h = absurd (omega arith)
-takes (tree kind xs kids links rest′) (suc f) which k above parent i rest l e p h =
-    let w = parts-of which k above kind xs kids links rest′ e in
+takes none f which parent i rest l e p h = take-none f which parent i rest (omega arith) h
+takes (tree kind xs kids links rest′) zero which parent i rest l e p h = absurd (omega arith)
+takes (tree kind xs kids links rest′) (suc f) which parent i rest l e p h =
     let j = suc i + (count kids + count links) in
     let a = flat (suc i) (suc i) kids in
     let b = flat (suc i) (suc i + count kids) links in
     let c = flat parent j rest′ in
     let up : parent < suc i = omega arith in
     let s2 : Stops connections (suc i) (c ++ rest) =
-    first-of which k above parent j rest′ rest connections (suc i) (w .rest-legal) (inl up) (deeper which parent connections (suc i) rest h up) in
+    first-of which parent j rest′ rest connections (suc i) (e .1 .1 .1) (inl up) (deeper which parent connections (suc i) rest h up) in
     let s1 : Stops children (suc i) (b ++ (c ++ rest)) =
-    first-of connections (k - 4) (w .path) (suc i) (suc i + count kids) links (c ++ rest) children (suc i) (w .links-legal) (inr (refl, connection-only))
-    (first-of which k above parent j rest′ rest children (suc i) (w .rest-legal) (inl up) (deeper which parent children (suc i) rest h up)) in
+    first-of connections (suc i) (suc i + count kids) links (c ++ rest) children (suc i) (e .1 .1 .0) (inr (refl, connection-only))
+    (first-of which parent j rest′ rest children (suc i) (e .1 .1 .1) (inl up) (deeper which parent children (suc i) rest h up)) in
     let g : (a ++ (b ++ c)) ++ rest ≡ a ++ (b ++ (c ++ rest)) = append-assoc a (b ++ c) rest ∙ ap (λ (t : List Item). a ++ t) (append-assoc b c rest) in
-    let first = takes kids f children (k - 4) (w .path) (suc i) (suc i) (b ++ (c ++ rest)) (omega arith) (w .kids-legal) (omega arith) s1 in
-    let second =
-    takes links f connections (k - 4) (w .path) (suc i) (suc i + count kids) (c ++ rest) (omega arith) (w .links-legal) (omega arith) s2 in
-    let third = takes rest′ f which k above parent j rest (omega arith) (w .rest-legal) (omega arith) h in
-    rw (stands-here which parent kind xs (w .stand), g, first, second, third)
+    let first = takes kids f children (suc i) (suc i) (b ++ (c ++ rest)) (omega arith) (e .1 .0) (omega arith) s1 in
+    let second = takes links f connections (suc i) (suc i + count kids) (c ++ rest) (omega arith) (e .1 .1 .0) (omega arith) s2 in
+    let third = takes rest′ f which parent j rest (omega arith) (e .1 .1 .1) (omega arith) h in
+    rw (stands-here which parent kind xs (e .0), g, first, second, third)
 
--- The entries of a legal tree make that tree,
-pub made-again : (root : ℕ) (t : Trees) → legalRoot root t ≡ true → treesOf root (flat 0 0 t) ≡ taken t []
-unfolding treesOf legalRoot
-made-again root t e =
+-- The entries of such a tree make that tree,
+pub stood-again : (root : ℕ) (t : Trees) → Stood root t → treesOf root (flat 0 0 t) ≡ taken t []
+unfolding treesOf
+stood-again root t e =
     let l = flat-length 0 0 t in
     let z : count t < suc (length (flat 0 0 t)) = omega arith in
     ap (takenBy (suc (length (flat 0 0 t))) root 0 0) (sym (append-none (flat 0 0 t)))
-    ∙ takes t (suc (length (flat 0 0 t))) root 62 0 0 0 [] z (both-right (isRoot root) (legal root 62 0 t) e) (omega arith) tt
+    ∙ takes t (suc (length (flat 0 0 t))) root 0 0 [] z e (omega arith) tt
 
 -- and no other.
+pub stood-once : (root : ℕ) (t u : Trees) → Stood root t → Stood root u → flat 0 0 t ≡ flat 0 0 u → t ≡ u
+stood-once root t u a b e = ap (λ (x : Taken). x .trees) (sym (stood-again root t a) ∙ ap (treesOf root) e ∙ stood-again root u b)
+
+-- ---- legal trees
+
+is-none : (t : Trees) → isNone t ≡ true → t ≡ none
+is-none none e = refl
+is-none (tree kind xs kids links rest) e = never e
+
+held : (b : Bool) (which k above : ℕ) (t : Trees) → pick b (legal which k above t) (isNone t) ≡ true → legal which k above t ≡ true
+unfolding legal
+held true which k above t e = e
+held false which k above t e = ap (legal which k above) (is-none t e)
+
+legal-stood : (which k above : ℕ) (t : Trees) → legal which k above t ≡ true → Stood which t
+unfolding legal
+legal-stood which k above none e = tt
+legal-stood which k above (tree kind xs kids links rest) e =
+    let path = pathAfter kind above xs in
+    let e1 = both-right (standsIn which kind) _ e in
+    let e2 = both-right (eqb (length xs) 16) _ e1 in
+    let e3 = both-right (leb 3 k) _ e2 in
+    let e4 = both-right (suited kind 0 xs) _ e3 in
+    let e5 = both-right (complete (required kind) xs) _ e4 in
+    let e6 = both-right (leb path 16) _ e5 in
+    let e7 = both-right (pick (empty (inner kind xs)) true (leb 5 k)) _ e6 in
+    let e8 = both-right (pick (eqb (ruleOf kind 2) 14) (legal children (k - 4) path kids) (isNone kids)) _ e7 in (
+      both-left (standsIn which kind) _ e,
+      (
+        legal-stood children (k - 4) path kids (held (eqb (ruleOf kind 2) 14) children (k - 4) path kids (both-left _ _ e7)),
+        (
+          legal-stood connections (k - 4) path links (held (eqb (ruleOf kind 5) 15) connections (k - 4) path links (both-left _ _ e8)),
+          legal-stood which k above rest
+              (both-right (pick (eqb (ruleOf kind 5) 15) (legal connections (k - 4) path links) (isNone links)) _ e8),
+        ),
+      ),
+    )
+
+root-stood : (root : ℕ) (t : Trees) → legalRoot root t ≡ true → Stood root t
+unfolding legalRoot
+root-stood root t e = legal-stood root 62 0 t (both-right (isRoot root) (legal root 62 0 t) e)
+
+pub made-again : (root : ℕ) (t : Trees) → legalRoot root t ≡ true → treesOf root (flat 0 0 t) ≡ taken t []
+made-again root t e = stood-again root t (root-stood root t e)
+
 pub once : (root : ℕ) (t u : Trees) → legalRoot root t ≡ true → legalRoot root u ≡ true → flat 0 0 t ≡ flat 0 0 u → t ≡ u
-once root t u a b e = ap (λ (x : Taken). x .trees) (sym (made-again root t a) ∙ ap (treesOf root) e ∙ made-again root u b)
+once root t u a b e = stood-once root t u (root-stood root t a) (root-stood root u b) e
