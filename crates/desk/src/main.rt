@@ -138,7 +138,7 @@ fn open(desk: Desk, line: &[u8], path: &mut [u64], cells: &mut [u8]) -> Desk {
 // A request with the first n numbers of a list as its sources. More than the list has make a bad line.
 fn ask(f: Figures, target: u64, list: &[u64], n: usize, operation: u64, cells: &mut [u8]) {
     if n <= list.len() {
-        number_line(routing::request(f, target, &list[..n], operation, cells));
+        number_line(desk_calls::request(f, target, &list[..n], operation, cells));
         return;
     }
     print::bad_line();

@@ -1,6 +1,5 @@
 // A chunk of the stream: whole turns of session, tree reader and desk, and a line for each event.
 use crosspoints::Figures;
-use desk_calls::Called;
 use framing::Event;
 use framing::Fed;
 use framing::Session;
@@ -15,15 +14,15 @@ fn space() {
 }
 
 // An answer, after a comma where one stands before it.
-fn one(n: u64, i: usize) {
+fn one(n: u8, i: usize) {
     if 0 < i {
         print::say(b",");
     }
-    print::decimal(n);
+    print::decimal(n as u64);
 }
 
 // The desk's answers with commas between.
-fn list(answers: &[u64]) {
+fn list(answers: &[u8]) {
     let mut i: usize = 0;
     while i < answers.len() {
         one(answers[i], i);
@@ -31,7 +30,7 @@ fn list(answers: &[u64]) {
     }
 }
 
-fn first(answers: &[u64], n: usize) {
+fn first(answers: &[u8], n: usize) {
     if n == 0 {
         print::say(b"-");
         return;
@@ -42,11 +41,12 @@ fn first(answers: &[u64], n: usize) {
 }
 
 // What the desk's call gave. 1 does not come here: the desk is legal, and the entries are as read.
-fn called(c: Called, answers: &[u64]) {
-    match c {
-        Called::Setup => print::say(b"1"),
-        Called::Done(n) => first(answers, n),
+fn called(number: u64, answers: &[u8], n: usize) {
+    if number != 0 {
+        print::decimal(number);
+        return;
     }
+    first(answers, n);
 }
 
 // The tree's number.
@@ -60,7 +60,7 @@ fn number(answer: Answer) -> u64 {
 }
 
 // What came after the session's call.
-fn after(a: After, answers: &[u64]) {
+fn after(a: After, answers: &[u8]) {
     match a {
         After::Nothing => (),
         After::Refused { answer } => {
@@ -70,16 +70,17 @@ fn after(a: After, answers: &[u64]) {
         After::Served {
             root: _,
             count: _,
-            called: c,
+            number: n,
+            answered,
         } => {
             print::say(b" 0 ");
-            called(c, answers);
+            called(n, answers, answered);
         }
     }
 }
 
 // An event's line. A call that used up its chunk without an event has none.
-fn report(t: Turned, answers: &[u64]) {
+fn report(t: Turned) {
     let fed = t.fed;
     let event = fed.event;
     if let Event::More = event {
@@ -87,6 +88,8 @@ fn report(t: Turned, answers: &[u64]) {
     }
     print::decimal(events::number(event));
     let a = t.after;
+    let given = t.answers;
+    let answers: &[u8] = &given;
     after(a, answers);
     print::end();
 }
@@ -111,14 +114,13 @@ fn told(
     f: Figures,
     path: &[u64],
     cells: &mut [u8],
-    answers: &mut [u64],
 ) -> Fed {
-    let t = turns::turn(session, store, chunk, table, f, path, cells, answers);
-    report(t, answers);
+    let t = turns::turn(session, store, chunk, table, f, path, cells);
+    report(t);
     t.fed
 }
 
-// .. with a table and answers of its own.
+// .. with a table of its own.
 fn turn(
     session: Session,
     store: &mut [u8],
@@ -129,9 +131,7 @@ fn turn(
 ) -> Fed {
     let mut rows = [[0u64; 50]; 256];
     let table: &mut [[u64; 50]] = &mut rows;
-    let mut room = [0u64; 256];
-    let answers: &mut [u64] = &mut room;
-    told(session, store, chunk, table, f, path, cells, answers)
+    told(session, store, chunk, table, f, path, cells)
 }
 
 // Offers a chunk until it is consumed.

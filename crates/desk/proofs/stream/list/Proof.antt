@@ -18,10 +18,6 @@ loop-holds : tie.Need-loop-holds Inv-loop μ-loop
 loop-holds c = search needs
 
 -- src/stream.rt:27:13
-mul-one : tie.Need-mul-one Inv-loop μ-loop
-mul-one c = search needs
-
--- src/stream.rt:27:13
 shared-slice-read-one : tie.Need-shared-slice-read-one Inv-loop μ-loop
 shared-slice-read-one c = search needs
 
@@ -52,7 +48,6 @@ list-spec =
     Inv-loop
     μ-loop
     loop-holds
-    mul-one
     shared-slice-read-one
     one-requires
     add-i
