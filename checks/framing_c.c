@@ -75,29 +75,29 @@ static void events(void)
     expect("FRAMING_DONE", feed(NULL, 0), FRAMING_DONE);
     FIRST(FRAMING_REQUEST, 0xfe, 0x00, 0x0e, 0x01, 0x01, 0x94, 0xe4, 0xff);
     FIRST(FRAMING_RESPONSE, 0xfe, 0x00, 0x0e, 0x02, 0x01, 0xfd, 0xdc, 0xce, 0xff);
-    FIRST(FRAMING_STRAY, 0x00);
-    FIRST(FRAMING_CUT, 0xfe, 0x00, 0xfe);
-    FIRST(FRAMING_BYTE, 0xfe, 0xf8, 0xff);
-    FIRST(FRAMING_ESCAPE, 0xfe, 0xfd, 0xff);
-    FIRST(FRAMING_SHORT, 0xfe, 0xfe, 0xff);
-    FIRST(FRAMING_CRC, 0xfe, 0x00, 0x0e, 0x01, 0x01, 0x94, 0xe5, 0xff);
+    FIRST(FRAMING_BAD_STRAY, 0x00);
+    FIRST(FRAMING_BAD_CUT, 0xfe, 0x00, 0xfe);
+    FIRST(FRAMING_BAD_BYTE, 0xfe, 0xf8, 0xff);
+    FIRST(FRAMING_BAD_ESCAPE, 0xfe, 0xfd, 0xff);
+    FIRST(FRAMING_BAD_SHORT, 0xfe, 0xfe, 0xff);
+    FIRST(FRAMING_BAD_CRC, 0xfe, 0x00, 0x0e, 0x01, 0x01, 0x94, 0xe5, 0xff);
 
     memset(bytes, 0, sizeof bytes);
     bytes[0] = 0xfe;
     bytes[1 + 1025] = 0xff;
     fresh();
-    expect("FRAMING_LONG", feed(bytes, 1 + 1025 + 1), FRAMING_LONG);
+    expect("FRAMING_BAD_LONG", feed(bytes, 1 + 1025 + 1), FRAMING_BAD_LONG);
 
     fresh();
     memcpy(bytes, "\x01\x0e\x01\x01", 4);
-    expect("FRAMING_HEADER", feed_content(bytes, 4), FRAMING_HEADER);
-    expect("FRAMING_FLAGS", feed_packet(0xc1, 0x01, 1), FRAMING_FLAGS);
-    expect("FRAMING_DTD", feed_packet(0xc0, 0x02, 1), FRAMING_DTD);
-    expect("FRAMING_ORPHAN", feed_packet(0x40, 0x01, 1), FRAMING_ORPHAN);
+    expect("FRAMING_BAD_HEADER", feed_content(bytes, 4), FRAMING_BAD_HEADER);
+    expect("FRAMING_BAD_FLAGS", feed_packet(0xc1, 0x01, 1), FRAMING_BAD_FLAGS);
+    expect("FRAMING_BAD_DTD", feed_packet(0xc0, 0x02, 1), FRAMING_BAD_DTD);
+    expect("FRAMING_BAD_ORPHAN", feed_packet(0x40, 0x01, 1), FRAMING_BAD_ORPHAN);
     expect("FRAMING_PIECE", feed_packet(0x80, 0x01, 1013), FRAMING_PIECE);
     for (int piece = 2; piece <= 16; piece++)
         expect("FRAMING_PIECE", feed_packet(0x00, 0x01, 1013), FRAMING_PIECE);
-    expect("FRAMING_BIG", feed_packet(0x00, 0x01, 1013), FRAMING_BIG);
+    expect("FRAMING_BAD_BIG", feed_packet(0x00, 0x01, 1013), FRAMING_BAD_BIG);
     expect("answer[FRAMING_DISCARDED]", answer[FRAMING_DISCARDED], 1);
     expect("FRAMING_MESSAGE", feed_packet(0xc0, 0x01, 7), FRAMING_MESSAGE);
     expect("answer[FRAMING_DISCARDED]", answer[FRAMING_DISCARDED], 0);
@@ -148,7 +148,7 @@ static void writers(void)
     static uint8_t content[16385], out[17 * FRAMING_FRAME_MAX + 1];
     uint64_t count = 0, longest = 0;
     expect("content at most", framing_write_frame(content, FRAMING_CONTENT_MAX, out, sizeof out, &count), FRAMING_DONE);
-    expect("FRAMING_OUT", framing_write_frame(content, FRAMING_CONTENT_MAX + 1, out, sizeof out, &count), FRAMING_OUT);
+    expect("FRAMING_NO_OUT", framing_write_frame(content, FRAMING_CONTENT_MAX + 1, out, sizeof out, &count), FRAMING_NO_OUT);
     /* Escaped throughout; some CRC is too. */
     memset(content, 0xff, sizeof content);
     for (unsigned last = 0; last < 8 * 8 * 8 * 8 * 8; last++) {
@@ -162,15 +162,15 @@ static void writers(void)
     }
     expect("FRAMING_FRAME_MAX", longest, FRAMING_FRAME_MAX);
     expect("a frame that just fits", framing_write_frame(content, FRAMING_CONTENT_MAX, out, longest, &count), FRAMING_DONE);
-    expect("one byte less", framing_write_frame(content, FRAMING_CONTENT_MAX, out, longest - 1, &count), FRAMING_OUT);
+    expect("one byte less", framing_write_frame(content, FRAMING_CONTENT_MAX, out, longest - 1, &count), FRAMING_NO_OUT);
     expect("a message in 17 frames", framing_write_message(content, 16384, out, 17 * FRAMING_FRAME_MAX, &count), FRAMING_DONE);
-    expect("a message too long", framing_write_message(content, 16385, out, sizeof out, &count), FRAMING_OUT);
+    expect("a message too long", framing_write_message(content, 16385, out, sizeof out, &count), FRAMING_NO_OUT);
     expect("framing_write_request", framing_write_request(out, 8, &count), FRAMING_DONE);
     expect("its count", count, 8);
-    expect("framing_write_request", framing_write_request(out, 7, &count), FRAMING_OUT);
+    expect("framing_write_request", framing_write_request(out, 7, &count), FRAMING_NO_OUT);
     expect("framing_write_response", framing_write_response(out, 9, &count), FRAMING_DONE);
     expect("its count", count, 9);
-    expect("framing_write_response", framing_write_response(out, 8, &count), FRAMING_OUT);
+    expect("framing_write_response", framing_write_response(out, 8, &count), FRAMING_NO_OUT);
 }
 
 int main(void)

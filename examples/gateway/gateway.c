@@ -100,7 +100,7 @@ int main(int count, char **words)
     static struct frame frame;
     uint64_t session[FRAMING_SESSION_WORDS];
     uint64_t answer[FRAMING_ANSWER_WORDS];
-    uint64_t counts[FRAMING_BIG + 1] = {0};
+    uint64_t counts[FRAMING_BAD_BIG + 1] = {0};
     uint64_t discarded = 0;
     struct link link = {.back = -1};
     ssize_t got;
@@ -148,7 +148,7 @@ int main(int count, char **words)
         fprintf(stderr, "gateway: the input cannot be read\n");
         return 1;
     }
-    for (uint64_t number = FRAMING_PIECE; number <= FRAMING_BIG; number++)
+    for (uint64_t number = FRAMING_PIECE; number <= FRAMING_BAD_BIG; number++)
         if (counts[number] != 0)
             fprintf(stderr, "%2d %llu %s\n", (int)number, (unsigned long long)counts[number],
                     passes(number) ? "forwarded" : "refused");

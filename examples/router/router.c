@@ -71,7 +71,7 @@ static int answer(void)
         number = answers[next++];
         if (number != EMBER_DONE)
             fprintf(stderr, "connection %zu: %" PRIu64 "\n", next, number);
-        if (number == EMBER_MATRIX || number == EMBER_TARGET || !ember_integer(table[i], EMBER_CONNECTION_TARGET, &target))
+        if (number == EMBER_NO_MATRIX || number == EMBER_NO_TARGET || !ember_integer(table[i], EMBER_CONNECTION_TARGET, &target))
             continue;
         if (!named[target])
             connection(reply[rows++], (uint64_t)target, &at);
@@ -93,7 +93,7 @@ static int serve(uint64_t event)
     uint64_t count;
     if (event == EMBER_REQUEST)
         return ember_write_response(frame, sizeof frame, &count) == EMBER_DONE ? send(frame, count) : fail("no room");
-    if (event >= EMBER_STRAY)
+    if (event >= EMBER_BAD_STRAY)
         fprintf(stderr, "event %" PRIu64 "\n", event);
     if (event != EMBER_MESSAGE)
         return 0;

@@ -47,37 +47,37 @@ extern "C" {
 #define EMBER_REQUEST 4  /* keep-alive request */
 #define EMBER_RESPONSE 5 /* keep-alive response */
 
-#define EMBER_STRAY 10  /* the first of a run of bytes outside frames */
-#define EMBER_CUT 11    /* a frame ended by the start of the next */
-#define EMBER_BYTE 12   /* a byte that may not stand there; of a sheet also: a bad line */
-#define EMBER_LONG 13   /* content over 1,024 bytes, CRC included */
-#define EMBER_ESCAPE 14 /* the frame's end directly after CE */
-#define EMBER_SHORT 15  /* content under 6 bytes, CRC included */
-#define EMBER_CRC 16    /* CRC wrong */
-#define EMBER_HEADER 20 /* slot, type, command, version or header size wrong */
-#define EMBER_FLAGS 21  /* flags wrong */
-#define EMBER_DTD 22    /* DTD, count of application bytes or major version wrong */
-#define EMBER_ORPHAN 23 /* a later piece with no message open */
-#define EMBER_BIG 24    /* a message over 16,384 bytes */
+#define EMBER_BAD_STRAY 10  /* the first of a run of bytes outside frames */
+#define EMBER_BAD_CUT 11    /* a frame ended by the start of the next */
+#define EMBER_BAD_BYTE 12   /* a byte that may not stand there; of a sheet also: a bad line */
+#define EMBER_BAD_LONG 13   /* content over 1,024 bytes, CRC included */
+#define EMBER_BAD_ESCAPE 14 /* the frame's end directly after CE */
+#define EMBER_BAD_SHORT 15  /* content under 6 bytes, CRC included */
+#define EMBER_BAD_CRC 16    /* CRC wrong */
+#define EMBER_BAD_HEADER 20 /* slot, type, command, version or header size wrong */
+#define EMBER_BAD_FLAGS 21  /* flags wrong */
+#define EMBER_BAD_DTD 22    /* DTD, count of application bytes or major version wrong */
+#define EMBER_BAD_ORPHAN 23 /* a later piece with no message open */
+#define EMBER_BAD_BIG 24    /* a message over 16,384 bytes */
 
-#define EMBER_BER 30    /* bad tag, length or value octets, a tag 00 that ends nothing, bytes run out or left after Root */
-#define EMBER_FORM 31   /* an outer tag and its value, one definite and one indefinite */
-#define EMBER_DEPTH 32  /* a 65th container open at once */
-#define EMBER_GLOW 33   /* a tag unexpected, repeated or out of order, a member or value missing */
-#define EMBER_NUMBER 34 /* a number out of its range */
-#define EMBER_REAL 35   /* a real that is not accepted */
-#define EMBER_NAME 36   /* an identifier against its rule */
-#define EMBER_PATH 37   /* a path that is empty, over 16 numbers (parents counted) or has a number out of range */
-#define EMBER_ROOM 38   /* the message is right, the table too small */
+#define EMBER_BAD_BER 30    /* bad tag, length or value octets, a tag 00 that ends nothing, bytes run out or left after Root */
+#define EMBER_BAD_FORM 31   /* an outer tag and its value, one definite and one indefinite */
+#define EMBER_BAD_DEPTH 32  /* a 65th container open at once */
+#define EMBER_BAD_GLOW 33   /* a tag unexpected, repeated or out of order, a member or value missing */
+#define EMBER_BAD_NUMBER 34 /* a number out of its range */
+#define EMBER_BAD_REAL 35   /* a real that is not accepted */
+#define EMBER_BAD_NAME 36   /* an identifier against its rule */
+#define EMBER_BAD_PATH 37   /* a path that is empty, over 16 numbers (parents counted) or has a number out of range */
+#define EMBER_NO_ROOM 38   /* the message is right, the table too small */
 
-#define EMBER_MATRIX 40 /* a connection of another matrix */
-#define EMBER_TARGET 41 /* no such target */
-#define EMBER_SOURCE 42 /* no such source */
-#define EMBER_MANY 43   /* more sources than the target may have */
-#define EMBER_TOTAL 44  /* more connections than the desk may have */
-#define EMBER_DESK 45   /* opening: figures, mode or path out of range */
+#define EMBER_NO_MATRIX 40 /* a connection of another matrix */
+#define EMBER_NO_TARGET 41 /* no such target */
+#define EMBER_NO_SOURCE 42 /* no such source */
+#define EMBER_BAD_MANY 43   /* more sources than the target may have */
+#define EMBER_BAD_TOTAL 44  /* more connections than the desk may have */
+#define EMBER_BAD_DESK 45   /* opening: figures, mode or path out of range */
 
-#define EMBER_OUT 46 /* writing: the output is too short, or what is to be written is nothing that the reader accepts */
+#define EMBER_NO_OUT 46 /* writing: the output is too short, or what is to be written is nothing that the reader accepts */
 
 /* ---- The session */
 
@@ -115,7 +115,7 @@ uint64_t ember_start(uint64_t *session, size_t session_words);
 uint64_t ember_feed(uint64_t *session, size_t session_words, uint8_t *store, size_t store_bytes, const uint8_t *chunk,
                     size_t chunk_bytes, uint64_t *answer, size_t answer_words);
 
-/* ---- Writing frames. Each sets *count to how many bytes it wrote, and answers EMBER_DONE; or EMBER_OUT, with out and
+/* ---- Writing frames. Each sets *count to how many bytes it wrote, and answers EMBER_DONE; or EMBER_NO_OUT, with out and
  * *count as they were. Bytes of out past the written ones stay. */
 
 /* A frame has at most 1,022 bytes of content without its CRC, and is at most 2,050 bytes long; the frames of a message
@@ -124,19 +124,19 @@ uint64_t ember_feed(uint64_t *session, size_t session_words, uint8_t *store, siz
 #define EMBER_FRAME_MAX 2050
 #define EMBER_FRAMES_MAX 34850
 
-/* Writes a frame around content without its CRC. EMBER_OUT if the content is over 1,022 bytes or out too short.
+/* Writes a frame around content without its CRC. EMBER_NO_OUT if the content is over 1,022 bytes or out too short.
  * Never looks at what the content says. */
 uint64_t ember_write_frame(const uint8_t *content, size_t content_bytes, uint8_t *out, size_t out_bytes, uint64_t *count);
 
 /* Writes the keep-alive request, a frame.
- * Never writes a part of it: EMBER_OUT if out is too short. */
+ * Never writes a part of it: EMBER_NO_OUT if out is too short. */
 uint64_t ember_write_request(uint8_t *out, size_t out_bytes, uint64_t *count);
 
 /* Writes the keep-alive response, a frame.
- * Never writes a part of it: EMBER_OUT if out is too short. */
+ * Never writes a part of it: EMBER_NO_OUT if out is too short. */
 uint64_t ember_write_response(uint8_t *out, size_t out_bytes, uint64_t *count);
 
-/* Writes a message of at most 16,384 bytes as frames. EMBER_OUT if it is longer or out too short.
+/* Writes a message of at most 16,384 bytes as frames. EMBER_NO_OUT if it is longer or out too short.
  * Never asks whether the message is a tree. */
 uint64_t ember_write_message(const uint8_t *message, size_t message_bytes, uint8_t *out, size_t out_bytes,
                              uint64_t *count);
@@ -156,7 +156,7 @@ uint64_t ember_write_message(const uint8_t *message, size_t message_bytes, uint8
  * Message order: an entry, then all that stands in it, then the next one beside it; of a matrix the children, then the
  * connections. Qualified elements stand in Root alone, connections in a matrix, stream entries in a Root of streams; the
  * other kinds in Root or in any element. The reader passes over members of Glow that are not named below; an element of
- * another kind (a function, a template) is EMBER_GLOW. */
+ * another kind (a function, a template) is EMBER_BAD_GLOW. */
 #define EMBER_ROW_WORDS 50
 #define EMBER_ROW_KIND 0
 #define EMBER_ROW_PARENT 1
@@ -224,7 +224,7 @@ typedef uint64_t ember_row[EMBER_ROW_WORDS];
 
 /* The answer of ember_read, three words. Where a word says nothing it is 0.
  *   0: the place of a refusal, 30 to 37: a position in the message, or its length
- *   1: how many entries were read, or for EMBER_ROOM how many the message has
+ *   1: how many entries were read, or for EMBER_NO_ROOM how many the message has
  *   2: after EMBER_DONE, what Root holds: EMBER_ELEMENTS or EMBER_STREAMS */
 #define EMBER_READ_WORDS 3
 #define EMBER_PLACE 0
@@ -239,13 +239,13 @@ typedef uint64_t ember_row[EMBER_ROW_WORDS];
 uint64_t ember_read(const uint8_t *message, size_t message_bytes, uint64_t (*table)[EMBER_ROW_WORDS], size_t table_rows,
                     uint64_t *answer, size_t answer_words);
 
-/* The answer of ember_write, one word: the length of the message that was written; 0 after EMBER_OUT. */
+/* The answer of ember_write, one word: the length of the message that was written; 0 after EMBER_NO_OUT. */
 #define EMBER_WRITE_WORDS 1
 
 /* Writes the message of the table's first `count` rows, as ember_read leaves them or made by hand (ember_begin and so on, in
  * ember_entries.h; a table that is not const goes in as ember_rows(table)); texts, octets, paths and sources are parts of
  * `message`, which may be any bytes; `root` is EMBER_ELEMENTS or EMBER_STREAMS. Definite shortest lengths, ascending tags, no
- * absent member and no empty collection; read back as the same tree. EMBER_OUT if out is too short, the message would be over
+ * absent member and no empty collection; read back as the same tree. EMBER_NO_OUT if out is too short, the message would be over
  * 16,384 bytes or ember_accepts gives 0; EMBER_SETUP if answer_words is not 1.
  * Never writes a part of a message. */
 uint64_t ember_write(const uint64_t (*table)[EMBER_ROW_WORDS], size_t table_rows, size_t count, uint64_t root,
@@ -287,13 +287,13 @@ uint64_t ember_accepts(const uint64_t (*table)[EMBER_ROW_WORDS], size_t table_ro
 #define EMBER_CROSSPOINT(target, source) ((size_t)(target) * 64 + (size_t)(source))
 
 /* The operations: the target's sources become the list, are joined by it, lose it. But in EMBER_ONE_TO_N and EMBER_ONE_TO_ONE
- * EMBER_CONNECT with one source takes the place of the target's source, EMBER_ABSOLUTE or EMBER_CONNECT with more is EMBER_MANY,
+ * EMBER_CONNECT with one source takes the place of the target's source, EMBER_ABSOLUTE or EMBER_CONNECT with more is EMBER_BAD_MANY,
  * and in EMBER_ONE_TO_ONE the source is taken from every other target. */
 #define EMBER_ABSOLUTE 0
 #define EMBER_CONNECT 1
 #define EMBER_DISCONNECT 2
 
-/* Opens a desk: clears its crosspoints. EMBER_DONE; EMBER_DESK if figures, mode (0 is the only one) or path are out of their
+/* Opens a desk: clears its crosspoints. EMBER_DONE; EMBER_BAD_DESK if figures, mode (0 is the only one) or path are out of their
  * ranges; EMBER_SETUP if figures_words is not 7, a limit is neither 0 and 0 nor 1 and a number, or crosspoint_bytes not 4,096.
  * Never changes a crosspoint unless it answers EMBER_DONE. */
 uint64_t ember_desk_open(const uint64_t *figures, size_t figures_words, uint64_t mode, const uint64_t *path,
@@ -305,7 +305,7 @@ uint64_t ember_desk_is_legal(const uint64_t *figures, size_t figures_words, cons
                              const uint8_t *crosspoints, size_t crosspoint_bytes);
 
 /* Asks for one target: `operation` with a list of sources, which may be empty or name one twice. EMBER_DONE and the crosspoints
- * as asked for; EMBER_TARGET, EMBER_SOURCE, EMBER_MANY or EMBER_TOTAL; EMBER_SETUP if the desk is not legal, its path left out
+ * as asked for; EMBER_NO_TARGET, EMBER_NO_SOURCE, EMBER_BAD_MANY or EMBER_BAD_TOTAL; EMBER_SETUP if the desk is not legal, its path left out
  * of account, or the operation over 2.
  * Never changes a crosspoint unless it answers EMBER_DONE, and never leaves a legal desk illegal. */
 uint64_t ember_desk_request(const uint64_t *figures, size_t figures_words, uint64_t target, const uint64_t *sources,
@@ -328,7 +328,7 @@ uint64_t ember_desk_call(const uint64_t *figures, size_t figures_words, const ui
 /* The answer of ember_turn, nine words: those of ember_feed, and after EMBER_MESSAGE, where a word says nothing it is 0:
  *   3: the tree reader's number: EMBER_DONE or 30 to 38
  *   4: the place of a refusal, 30 to 37
- *   5: how many entries were read, or for EMBER_ROOM how many the message has
+ *   5: how many entries were read, or for EMBER_NO_ROOM how many the message has
  *   6: after EMBER_DONE, what Root holds
  *   7: after EMBER_DONE, the desk's number: EMBER_DONE, or EMBER_SETUP if the desk is not legal
  *   8: how many answers there are, one for each connection of the message */
@@ -356,11 +356,11 @@ uint64_t ember_turn(uint64_t *session, size_t session_words, uint8_t *store, siz
 /* Bytes that always hold a sheet. */
 #define EMBER_SHEET_MAX 25000
 
-/* The answer of ember_sheet_write, one word: the length of the sheet; 0 after EMBER_OUT. Of ember_sheet_read, one word: how many numbers
+/* The answer of ember_sheet_write, one word: the length of the sheet; 0 after EMBER_NO_OUT. Of ember_sheet_read, one word: how many numbers
  * the desk's path has; 0 after a refusal. */
 #define EMBER_SHEET_WORDS 1
 
-/* Writes a legal desk's sheet: one message with the qualified matrix, its figures and every target's sources. EMBER_OUT if out is too
+/* Writes a legal desk's sheet: one message with the qualified matrix, its figures and every target's sources. EMBER_NO_OUT if out is too
  * short; EMBER_SETUP if the figures are none, the desk is not legal or answer_words is not 1.
  * Never writes a part of a sheet. */
 uint64_t ember_sheet_write(const uint64_t *figures, size_t figures_words, const uint64_t *path, size_t path_words,
@@ -368,7 +368,7 @@ uint64_t ember_sheet_write(const uint64_t *figures, size_t figures_words, const 
                            uint64_t *answer, size_t answer_words);
 
 /* Reads a sheet of any length: EMBER_DONE, and figures, path and crosspoints are those of its desk, which is legal; or the first refusal:
- * EMBER_BYTE for a bad line, 10 to 24, EMBER_GLOW unless it is one message of one qualified matrix and its connections, 30 to 38,
+ * EMBER_BAD_BYTE for a bad line, 10 to 24, EMBER_BAD_GLOW unless it is one message of one qualified matrix and its connections, 30 to 38,
  * 41 to 45. EMBER_SETUP if store_bytes is not 17,408, table_rows not 256, figures_words not 7, path_words not 16, crosspoint_bytes not
  * 4,096 or answer_words not 1. Store and table are scratch: they may hold anything after it.
  * Never changes figures, path or crosspoints unless it answers EMBER_DONE. */

@@ -48,19 +48,19 @@ extern "C" {
 #define FRAMING_MESSAGE 3  /* the piece that finished a message */
 #define FRAMING_REQUEST 4  /* keep-alive request */
 #define FRAMING_RESPONSE 5 /* keep-alive response */
-#define FRAMING_STRAY 10   /* the first of a run of bytes outside frames */
-#define FRAMING_CUT 11     /* a frame ended by the start of the next */
-#define FRAMING_BYTE 12    /* a byte that may not stand there */
-#define FRAMING_LONG 13    /* content over 1,024 bytes, CRC included */
-#define FRAMING_ESCAPE 14  /* the frame's end directly after CE */
-#define FRAMING_SHORT 15   /* content under 6 bytes, CRC included */
-#define FRAMING_CRC 16     /* CRC wrong */
-#define FRAMING_HEADER 20  /* slot, type, command, version or header size wrong */
-#define FRAMING_FLAGS 21   /* flags wrong */
-#define FRAMING_DTD 22     /* DTD, count of application bytes or major version wrong */
-#define FRAMING_ORPHAN 23  /* a later piece with no message open */
-#define FRAMING_BIG 24     /* a message over 16,384 bytes */
-#define FRAMING_OUT 46     /* writer: output too short or content too long: nothing was changed */
+#define FRAMING_BAD_STRAY 10   /* the first of a run of bytes outside frames */
+#define FRAMING_BAD_CUT 11     /* a frame ended by the start of the next */
+#define FRAMING_BAD_BYTE 12    /* a byte that may not stand there */
+#define FRAMING_BAD_LONG 13    /* content over 1,024 bytes, CRC included */
+#define FRAMING_BAD_ESCAPE 14  /* the frame's end directly after CE */
+#define FRAMING_BAD_SHORT 15   /* content under 6 bytes, CRC included */
+#define FRAMING_BAD_CRC 16     /* CRC wrong */
+#define FRAMING_BAD_HEADER 20  /* slot, type, command, version or header size wrong */
+#define FRAMING_BAD_FLAGS 21   /* flags wrong */
+#define FRAMING_BAD_DTD 22     /* DTD, count of application bytes or major version wrong */
+#define FRAMING_BAD_ORPHAN 23  /* a later piece with no message open */
+#define FRAMING_BAD_BIG 24     /* a message over 16,384 bytes */
+#define FRAMING_NO_OUT 46     /* writer: output too short or content too long: nothing was changed */
 
 /* Makes a fresh session: outside frames, no message open.
  * FRAMING_DONE, or FRAMING_SETUP if session_words is not 4.
@@ -76,7 +76,7 @@ uint64_t framing_feed(uint64_t *session, size_t session_words, uint8_t *store, s
                       const uint8_t *chunk, size_t chunk_bytes, uint64_t *answer, size_t answer_words);
 
 /* Each of these writes to the start of out, sets *count to how many bytes it wrote, and answers FRAMING_DONE; or
- * it answers FRAMING_OUT, with out and *count as they were, if out is too short or the content too long.
+ * it answers FRAMING_NO_OUT, with out and *count as they were, if out is too short or the content too long.
  * Bytes of out past the written ones stay. */
 
 /* A frame around content without its CRC, at most 1,022 bytes. 2,050 bytes of out are always enough.
