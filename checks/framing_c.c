@@ -163,7 +163,8 @@ static void writers(void)
     expect("FRAMING_FRAME_MAX", longest, FRAMING_FRAME_MAX);
     expect("a frame that just fits", framing_write_frame(content, FRAMING_CONTENT_MAX, out, longest, &count), FRAMING_DONE);
     expect("one byte less", framing_write_frame(content, FRAMING_CONTENT_MAX, out, longest - 1, &count), FRAMING_NO_OUT);
-    expect("a message in 17 frames", framing_write_message(content, 16384, out, 17 * FRAMING_FRAME_MAX, &count), FRAMING_DONE);
+    expect("a message in 17 frames", framing_write_message(content, 16384, out, FRAMING_FRAMES_MAX, &count), FRAMING_DONE);
+    expect("17 frames", FRAMING_FRAMES_MAX, 17 * FRAMING_FRAME_MAX);
     expect("a message too long", framing_write_message(content, 16385, out, sizeof out, &count), FRAMING_NO_OUT);
     expect("framing_write_request", framing_write_request(out, 8, &count), FRAMING_DONE);
     expect("its count", count, 8);
@@ -173,8 +174,40 @@ static void writers(void)
     expect("framing_write_response", framing_write_response(out, 8, &count), FRAMING_NO_OUT);
 }
 
+/* Numbers in words; and of a stream in chunks of each length the frames that pass, as they came. */
+static void gateway(void)
+{
+    static const uint8_t stream[] = {0x00, 0xfe, 0xfe, 0x00, 0x0e, 0x01, 0x01, 0x94, 0xe4, 0xff, 0xff, 0xfe, 0x00, 0xfe, 0x00, 0x0e,
+                                     0x01, 0x01, 0x94, 0xe5, 0xff, 0xfe, 0x00, 0x0e, 0x02, 0x01, 0xfd, 0xdc, 0xce, 0xff, 0x07};
+    uint64_t number;
+    size_t said = 0;
+    expect("version", FRAMING_VERSION_NUMBER, 200);
+    for (number = 0; number <= 100; number++)
+        said += strcmp(framing_say(number), "no such number") != 0;
+    expect("numbers that are said", said, 19);
+    for (size_t chunk = 1; chunk <= sizeof stream; chunk++) {
+        struct framing_frame frame = {0, {0}};
+        uint8_t passed[sizeof stream];
+        size_t length = 0;
+        fresh();
+        for (size_t at = 0; at < sizeof stream; at += answer[FRAMING_CONSUMED]) {
+            size_t left = sizeof stream - at;
+            number = feed(stream + at, left < chunk ? left : chunk);
+            framing_keep(&frame, stream + at, answer[FRAMING_CONSUMED]);
+            if (framing_passes(number)) {
+                memcpy(passed + length, frame.bytes, frame.length);
+                length += frame.length;
+            }
+        }
+        expect("bytes that pass", length, 17);
+        expect("a request", (uint64_t)memcmp(passed, stream + 2, 8), 0);
+        expect("a response", (uint64_t)memcmp(passed + 8, stream + 21, 9), 0);
+    }
+}
+
 int main(void)
 {
+    gateway();
     lengths();
     events();
     session_words();

@@ -38,53 +38,77 @@
 extern "C" {
 #endif
 
-/* ---- The numbers answered */
+/* ---- The version of this header; that of the installed library is ember_version's, and the same */
 
-#define EMBER_DONE 0     /* done, or more bytes needed */
-#define EMBER_SETUP 1    /* a wrong length, a word out of range, a desk that is not legal: nothing was changed */
-#define EMBER_PIECE 2    /* a piece of a message that is not finished */
-#define EMBER_MESSAGE 3  /* the piece that finished a message */
-#define EMBER_REQUEST 4  /* keep-alive request */
-#define EMBER_RESPONSE 5 /* keep-alive response */
+#define EMBER_VERSION_MAJOR 2
+#define EMBER_VERSION_MINOR 0
+#define EMBER_VERSION "2.0"
 
-#define EMBER_BAD_STRAY 10  /* the first of a run of bytes outside frames */
-#define EMBER_BAD_CUT 11    /* a frame ended by the start of the next */
-#define EMBER_BAD_BYTE 12   /* a byte that may not stand there; of a sheet also: a bad line */
-#define EMBER_BAD_LONG 13   /* content over 1,024 bytes, CRC included */
-#define EMBER_BAD_ESCAPE 14 /* the frame's end directly after CE */
-#define EMBER_BAD_SHORT 15  /* content under 6 bytes, CRC included */
-#define EMBER_BAD_CRC 16    /* CRC wrong */
-#define EMBER_BAD_HEADER 20 /* slot, type, command, version or header size wrong */
-#define EMBER_BAD_FLAGS 21  /* flags wrong */
-#define EMBER_BAD_DTD 22    /* DTD, count of application bytes or major version wrong */
-#define EMBER_BAD_ORPHAN 23 /* a later piece with no message open */
-#define EMBER_BAD_BIG 24    /* a message over 16,384 bytes */
+/* ---- The numbers answered, as document 01 has them; ember_say(number) says each in words. A refusal is EMBER_BAD_ or EMBER_NO_
+ * and document 01's word, and no kind, member or type is named so */
 
-#define EMBER_BAD_BER 30    /* bad tag, length or value octets, a tag 00 that ends nothing, bytes run out or left after Root */
-#define EMBER_BAD_FORM 31   /* an outer tag and its value, one definite and one indefinite */
-#define EMBER_BAD_DEPTH 32  /* a 65th container open at once */
-#define EMBER_BAD_GLOW 33   /* a tag unexpected, repeated or out of order, a member or value missing */
-#define EMBER_BAD_NUMBER 34 /* a number out of its range */
-#define EMBER_BAD_REAL 35   /* a real that is not accepted */
-#define EMBER_BAD_NAME 36   /* an identifier against its rule */
-#define EMBER_BAD_PATH 37   /* a path that is empty, over 16 numbers (parents counted) or has a number out of range */
-#define EMBER_NO_ROOM 38   /* the message is right, the table too small */
+enum ember_answer {
+    EMBER_DONE = 0,     /* done, or more bytes needed */
+    EMBER_SETUP = 1,    /* a wrong length, a word out of range, a desk that is not legal: nothing was changed */
+    EMBER_PIECE = 2,    /* a piece of a message that is not finished */
+    EMBER_MESSAGE = 3,  /* the piece that finished a message */
+    EMBER_REQUEST = 4,  /* keep-alive request */
+    EMBER_RESPONSE = 5, /* keep-alive response */
 
-#define EMBER_NO_MATRIX 40 /* a connection of another matrix */
-#define EMBER_NO_TARGET 41 /* no such target */
-#define EMBER_NO_SOURCE 42 /* no such source */
-#define EMBER_BAD_MANY 43   /* more sources than the target may have */
-#define EMBER_BAD_TOTAL 44  /* more connections than the desk may have */
-#define EMBER_BAD_DESK 45   /* opening: figures, mode or path out of range */
+    /* of the stream. The place is the count of bytes consumed: the event is made at the last of them */
+    EMBER_BAD_STRAY = 10,  /* the first of a run of bytes outside frames */
+    EMBER_BAD_CUT = 11,    /* a frame ended by the start of the next: made at the next one's FE, which is consumed */
+    EMBER_BAD_BYTE = 12,   /* a byte that may not stand there; of a sheet also: a bad line */
+    EMBER_BAD_LONG = 13,   /* content over 1,024 bytes, CRC included */
+    EMBER_BAD_ESCAPE = 14, /* the frame's end directly after FD, the escape byte */
+    EMBER_BAD_SHORT = 15,  /* content under 6 bytes, CRC included */
+    EMBER_BAD_CRC = 16,    /* CRC wrong */
+    EMBER_BAD_HEADER = 20, /* slot, type, command, version or header size wrong */
+    EMBER_BAD_FLAGS = 21,  /* flags wrong */
+    EMBER_BAD_DTD = 22,    /* DTD, count of application bytes or major version wrong */
+    EMBER_BAD_ORPHAN = 23, /* a later piece with no message open */
+    EMBER_BAD_BIG = 24,    /* a message over 16,384 bytes */
 
-#define EMBER_NO_OUT 46 /* writing: the output is too short, or what is to be written is nothing that the reader accepts */
+    /* of the tree. The place is a position in the message, its length included: "at" below. The first fault in reading order
+     * is told; at one tag its own octets, then 31 to 33, then its value's, by number */
+    EMBER_BAD_BER = 30,    /* bad tag or length octets: at the tag; bad value octets: at the value's tag; a 00 that ends nothing: at
+                            * it; an end that is missing: at the end of the container around it; bytes left after Root: at the
+                            * first; bytes that run out: at the message's length */
+    EMBER_BAD_FORM = 31,   /* an outer tag and its value, one definite and one indefinite: at the value's tag */
+    EMBER_BAD_DEPTH = 32,  /* a 65th container open at once: at its tag */
+    EMBER_BAD_GLOW = 33,   /* a tag unexpected, repeated or out of order: at that tag; a member missing: at the first higher tag, else
+                            * at its container's end (if indefinite, at the closing 00); a value missing: at the outer tag's end */
+    EMBER_BAD_NUMBER = 34, /* a number out of its range: at the value's tag */
+    EMBER_BAD_REAL = 35,   /* a real that is not accepted: at its tag */
+    EMBER_BAD_NAME = 36,   /* an identifier against its rule: at its tag */
+    EMBER_BAD_PATH = 37,   /* a path that is empty, over 16 numbers (parents counted) or has a number out of range: at its tag */
+    EMBER_NO_ROOM = 38,    /* the message is right, the table too small: how many entries it has in place of a place. With a table
+                            * of 256, EMBER_ROWS_MAX, no table is long enough: ask the far end for less at once */
+
+    /* of the desk, one for each connection: the place is the connection's, ember_answered says its row */
+    EMBER_NO_MATRIX = 40, /* a connection of another matrix */
+    EMBER_NO_TARGET = 41, /* no such target */
+    EMBER_NO_SOURCE = 42, /* no such source */
+    EMBER_BAD_MANY = 43,  /* more sources than the target may have */
+    EMBER_BAD_TOTAL = 44, /* more connections than the desk may have */
+    EMBER_BAD_DESK = 45,  /* opening: figures, mode or path out of range */
+
+    EMBER_NO_OUT = 46 /* writing: the output is too short, or what is to be written is nothing that the reader accepts (ember_why) */
+};
+
+/* The names of the library are for the program or plugin that it is linked into: in an installed library they are hidden, and here
+ * they are declared so, so that two plugins with two versions never meet in one host. EMBER_VISIBLE, defined before this header is
+ * taken in, leaves them visible, for those who make a shared library of it. */
+#if defined __GNUC__ && !defined EMBER_VISIBLE
+#pragma GCC visibility push(hidden)
+#endif
 
 /* ---- The session */
 
 /* The session: four words, made by ember_start and changed by ember_feed and ember_turn alone. A host with many lines
  * has one for each, with a store of its own, and starts it anew when the line is. What was open when a line ended can be
  * seen in its words.
- *   0: where the stream stands: 0 outside frames, 1 in a run of stray bytes, 2 in a frame, 3 in a frame after CE,
+ *   0: where the stream stands: 0 outside frames, 1 in a run of stray bytes, 2 in a frame, 3 in a frame after FD,
  *      4 in a frame past a bad byte, 5 in a frame past its limit
  *   1: bytes of content of the open frame, at most 1,024; 0 if none is open
  *   2: 1 if a message is unfinished, else 0
@@ -166,61 +190,74 @@ uint64_t ember_write_message(const uint8_t *message, size_t message_bytes, uint8
 typedef uint64_t ember_row[EMBER_ROW_WORDS];
 
 /* The kinds. A qualified element has a full path in place of its number. */
-#define EMBER_KIND_PARAMETER 1
-#define EMBER_KIND_COMMAND 2
-#define EMBER_KIND_NODE 3
-#define EMBER_KIND_MATRIX 4
-#define EMBER_KIND_QUALIFIED_PARAMETER 5
-#define EMBER_KIND_QUALIFIED_NODE 6
-#define EMBER_KIND_QUALIFIED_MATRIX 7
-#define EMBER_KIND_CONNECTION 8
-#define EMBER_KIND_STREAM_ENTRY 9
+enum ember_entry_kind {
+    EMBER_KIND_PARAMETER = 1,
+    EMBER_KIND_COMMAND = 2,
+    EMBER_KIND_NODE = 3,
+    EMBER_KIND_MATRIX = 4,
+    EMBER_KIND_QUALIFIED_PARAMETER = 5,
+    EMBER_KIND_QUALIFIED_NODE = 6,
+    EMBER_KIND_QUALIFIED_MATRIX = 7,
+    EMBER_KIND_CONNECTION = 8,
+    EMBER_KIND_STREAM_ENTRY = 9
+};
 
 /* The members, by their cell, with the type and the range that the reader accepts. "Required" is always there, all else may
  * be absent. A count is an integer from 0 to 2,147,483,647, a signed number one of 32 bits; "any value" is an integer of 64
  * bits, a real, a text, a boolean or octets. Parameters, nodes and matrices, qualified or not: */
-#define EMBER_NUMBER_OR_PATH 0 /* required: an integer, 1 to 2,147,483,647; if qualified, a path of 1 to 16 such numbers */
-#define EMBER_IDENTIFIER 1     /* a text that starts with A to Z, a to z or "_", and holds no "/" */
-#define EMBER_DESCRIPTION 2    /* a text */
-/* of a parameter: */
-#define EMBER_PARAMETER_VALUE 3   /* any value */
-#define EMBER_PARAMETER_MINIMUM 4 /* any value */
-#define EMBER_PARAMETER_MAXIMUM 5 /* any value */
-#define EMBER_PARAMETER_ACCESS 6  /* 0 none, 1 read, 2 write, 3 both; absent: read */
-#define EMBER_PARAMETER_FACTOR 9  /* a signed number */
-#define EMBER_PARAMETER_ONLINE 10 /* a boolean */
-#define EMBER_PARAMETER_STEP 12   /* a signed number */
-#define EMBER_PARAMETER_STREAM 15 /* the number of its stream, as a count */
-/* of a node: */
-#define EMBER_NODE_ROOT 3   /* a boolean */
-#define EMBER_NODE_ONLINE 4 /* a boolean */
-/* of a matrix: */
-#define EMBER_MATRIX_TYPE 3         /* EMBER_ONE_TO_N, EMBER_ONE_TO_ONE, EMBER_N_TO_N; absent: EMBER_ONE_TO_N */
-#define EMBER_MATRIX_MODE 4         /* 0 linear, 1 not; absent: linear */
-#define EMBER_MATRIX_TARGETS 5      /* a count */
-#define EMBER_MATRIX_SOURCES 6      /* a count */
-#define EMBER_MATRIX_TOTAL_LIMIT 7  /* the most connections, as a count */
-#define EMBER_MATRIX_TARGET_LIMIT 8 /* the most sources of a target, as a count */
-/* of a command: */
-#define EMBER_COMMAND_NUMBER 0 /* required: a signed number; 30 subscribe, 31 unsubscribe, 32 get directory */
-#define EMBER_COMMAND_MASK 1   /* a signed number: what a directory is to tell */
-/* of a connection, whose parent is its matrix: */
-#define EMBER_CONNECTION_TARGET 0    /* required: the target's number, as a count */
-#define EMBER_CONNECTION_SOURCES 1   /* the sources' numbers, counts, as a relative identifier; it may be empty; absent: none */
-#define EMBER_CONNECTION_OPERATION 2 /* EMBER_ABSOLUTE, EMBER_CONNECT or EMBER_DISCONNECT; absent: EMBER_ABSOLUTE */
-/* of a stream entry: */
-#define EMBER_STREAM_NUMBER 0 /* required: a count */
-#define EMBER_STREAM_VALUE 1  /* required: any value */
+enum ember_member {
+    EMBER_NUMBER_OR_PATH = 0, /* required: an integer, 1 to 2,147,483,647; if qualified, a path of 1 to 16 such numbers */
+    EMBER_IDENTIFIER = 1, /* a text that starts with A to Z, a to z or "_", and holds no "/" */
+    EMBER_DESCRIPTION = 2, /* a text */
+    /* of a parameter: */
+    EMBER_PARAMETER_VALUE = 3, /* any value */
+    EMBER_PARAMETER_MINIMUM = 4, /* any value */
+    EMBER_PARAMETER_MAXIMUM = 5, /* any value */
+    EMBER_PARAMETER_ACCESS = 6, /* 0 none, 1 read, 2 write, 3 both; absent: read */
+    EMBER_PARAMETER_FACTOR = 9, /* a signed number */
+    EMBER_PARAMETER_ONLINE = 10, /* a boolean */
+    EMBER_PARAMETER_STEP = 12, /* a signed number */
+    EMBER_PARAMETER_STREAM = 15, /* the number of its stream, as a count */
+    /* of a node: */
+    EMBER_NODE_ROOT = 3, /* a boolean */
+    EMBER_NODE_ONLINE = 4, /* a boolean */
+    /* of a matrix: */
+    EMBER_MATRIX_TYPE = 3, /* EMBER_ONE_TO_N, EMBER_ONE_TO_ONE, EMBER_N_TO_N; absent: EMBER_ONE_TO_N */
+    EMBER_MATRIX_MODE = 4, /* 0 linear, 1 not; absent: linear */
+    EMBER_MATRIX_TARGETS = 5, /* a count */
+    EMBER_MATRIX_SOURCES = 6, /* a count */
+    EMBER_MATRIX_TOTAL_LIMIT = 7, /* the most connections, as a count */
+    EMBER_MATRIX_TARGET_LIMIT = 8, /* the most sources of a target, as a count */
+    /* of a command: */
+    EMBER_COMMAND_NUMBER = 0, /* required: a signed number; EMBER_SUBSCRIBE, EMBER_UNSUBSCRIBE, EMBER_GET_DIRECTORY */
+    EMBER_COMMAND_MASK = 1, /* a signed number: what a directory is to tell */
+    /* of a connection, whose parent is its matrix: */
+    EMBER_CONNECTION_TARGET = 0, /* required: the target's number, as a count */
+    EMBER_CONNECTION_SOURCES = 1, /* the sources' numbers, counts, as a relative identifier; it may be empty; absent: none */
+    EMBER_CONNECTION_OPERATION = 2, /* EMBER_ABSOLUTE, EMBER_CONNECT or EMBER_DISCONNECT; absent: EMBER_ABSOLUTE */
+    /* of a stream entry: */
+    EMBER_STREAM_NUMBER = 0, /* required: a count */
+    EMBER_STREAM_VALUE = 1 /* required: any value */
+};
+
+/* The commands of Glow; another number is read and written too. */
+enum ember_command_number {
+    EMBER_SUBSCRIBE = 30,
+    EMBER_UNSUBSCRIBE = 31,
+    EMBER_GET_DIRECTORY = 32
+};
 
 /* The type in a cell's first word is a universal tag number; its other two words follow. A part of the message that is
  * named by start and length lies in the message. */
-#define EMBER_TYPE_ABSENT 0        /* no such member; 0, 0 */
-#define EMBER_TYPE_BOOLEAN 1       /* 1 for true, 0 for false; 0 */
-#define EMBER_TYPE_INTEGER 2       /* 64 bits in two's complement; 0 */
-#define EMBER_TYPE_OCTETS 4        /* start and length in the message */
-#define EMBER_TYPE_REAL 9          /* the 64 bits of the double; 0 */
-#define EMBER_TYPE_TEXT 12         /* start and length in the message; the sender's UTF-8, which is not checked */
-#define EMBER_TYPE_RELATIVE_OID 13 /* a path or sources: start and length of its octets in the message */
+enum ember_value_type {
+    EMBER_TYPE_ABSENT = 0, /* no such member; 0, 0 */
+    EMBER_TYPE_BOOLEAN = 1, /* 1 for true, 0 for false; 0 */
+    EMBER_TYPE_INTEGER = 2, /* 64 bits in two's complement; 0 */
+    EMBER_TYPE_OCTETS = 4, /* start and length in the message */
+    EMBER_TYPE_REAL = 9, /* the 64 bits of the double; 0 */
+    EMBER_TYPE_TEXT = 12, /* start and length in the message; the sender's UTF-8, which is not checked */
+    EMBER_TYPE_RELATIVE_OID = 13 /* a path or sources: start and length of its octets in the message */
+};
 
 /* The answer of ember_read, three words. Where a word says nothing it is 0.
  *   0: the place of a refusal, 30 to 37: a position in the message, or its length
@@ -230,8 +267,10 @@ typedef uint64_t ember_row[EMBER_ROW_WORDS];
 #define EMBER_PLACE 0
 #define EMBER_COUNT 1
 #define EMBER_ROOT 2
-#define EMBER_ELEMENTS 0
-#define EMBER_STREAMS 3
+enum ember_root {
+    EMBER_ELEMENTS = 0,
+    EMBER_STREAMS = 3
+};
 
 /* Reads a message into the table's rows. EMBER_DONE, 30 to 38, or EMBER_SETUP if table_rows is over 256, message_bytes over
  * 16,384 or answer_words not 3.
@@ -244,19 +283,19 @@ uint64_t ember_read(const uint8_t *message, size_t message_bytes, uint64_t (*tab
 
 /* Writes the message of the table's first `count` rows, as ember_read leaves them or made by hand (ember_begin and so on, in
  * ember_entries.h; a table that is not const goes in as ember_rows(table)); texts, octets, paths and sources are parts of
- * `message`, which may be any bytes; `root` is EMBER_ELEMENTS or EMBER_STREAMS. Definite shortest lengths, ascending tags, no
+ * `parts`: the message that the rows were read from, or an arena's bytes; `root` is EMBER_ELEMENTS or EMBER_STREAMS. Definite shortest lengths, ascending tags, no
  * absent member and no empty collection; read back as the same tree. EMBER_NO_OUT if out is too short, the message would be over
  * 16,384 bytes or ember_accepts gives 0; EMBER_SETUP if answer_words is not 1.
  * Never writes a part of a message. */
 uint64_t ember_write(const uint64_t (*table)[EMBER_ROW_WORDS], size_t table_rows, size_t count, uint64_t root,
-                     const uint8_t *message, size_t message_bytes, uint8_t *out, size_t out_bytes, uint64_t *answer,
+                     const uint8_t *parts, size_t parts_bytes, uint8_t *out, size_t out_bytes, uint64_t *answer,
                      size_t answer_words);
 
 /* 1 if the table's first `count` rows make a tree that the reader accepts: some message of at most 16,384 bytes is read as
  * exactly these entries; else 0.
  * Never changes anything. */
 uint64_t ember_accepts(const uint64_t (*table)[EMBER_ROW_WORDS], size_t table_rows, size_t count, uint64_t root,
-                       const uint8_t *message, size_t message_bytes);
+                       const uint8_t *parts, size_t parts_bytes);
 
 /* ---- The desk: figures, a path and crosspoints, all of them the caller's */
 
@@ -274,9 +313,11 @@ uint64_t ember_accepts(const uint64_t (*table)[EMBER_ROW_WORDS], size_t table_ro
 #define EMBER_FIGURES_TOTAL 4
 #define EMBER_FIGURES_HAS_EACH 5
 #define EMBER_FIGURES_EACH 6
-#define EMBER_ONE_TO_N 0
-#define EMBER_ONE_TO_ONE 1
-#define EMBER_N_TO_N 2
+enum ember_matrix_type {
+    EMBER_ONE_TO_N = 0,
+    EMBER_ONE_TO_ONE = 1,
+    EMBER_N_TO_N = 2
+};
 #define EMBER_SIDE_MAX 64
 
 /* The path of the desk's matrix: 1 to 16 words, each 1 to 2,147,483,647. */
@@ -289,9 +330,11 @@ uint64_t ember_accepts(const uint64_t (*table)[EMBER_ROW_WORDS], size_t table_ro
 /* The operations: the target's sources become the list, are joined by it, lose it. But in EMBER_ONE_TO_N and EMBER_ONE_TO_ONE
  * EMBER_CONNECT with one source takes the place of the target's source, EMBER_ABSOLUTE or EMBER_CONNECT with more is EMBER_BAD_MANY,
  * and in EMBER_ONE_TO_ONE the source is taken from every other target. */
-#define EMBER_ABSOLUTE 0
-#define EMBER_CONNECT 1
-#define EMBER_DISCONNECT 2
+enum ember_operation {
+    EMBER_ABSOLUTE = 0,
+    EMBER_CONNECT = 1,
+    EMBER_DISCONNECT = 2
+};
 
 /* Opens a desk: clears its crosspoints. EMBER_DONE; EMBER_BAD_DESK if figures, mode (0 is the only one) or path are out of their
  * ranges; EMBER_SETUP if figures_words is not 7, a limit is neither 0 and 0 nor 1 and a number, or crosspoint_bytes not 4,096.
@@ -377,10 +420,22 @@ uint64_t ember_sheet_read(const uint8_t *text, size_t text_bytes, uint8_t *store
                           uint64_t *path, size_t path_words, uint8_t *crosspoints, size_t crosspoint_bytes,
                           uint64_t *answer, size_t answer_words);
 
+/* ---- The version of the installed library: 100 times major, and minor; EMBER_VERSION_NUMBER is this header's.
+ * Never there in a library that `rt staticlib ember` left: `make install` puts it in. */
+#define EMBER_VERSION_NUMBER (100 * EMBER_VERSION_MAJOR + EMBER_VERSION_MINOR)
+uint64_t ember_version(void);
+
+#if defined __GNUC__ && !defined EMBER_VISIBLE
+#pragma GCC visibility pop
+#endif
+
 #ifdef __cplusplus
 }
 #endif
 
+#include "ember_names.h"
 #include "ember_entries.h"
+#include "ember_why.h"
+#include "ember_line.h"
 
 #endif
