@@ -82,7 +82,7 @@ static void building(void)
     expect("a connection", (uint64_t)ember_connection(rows[3], EMBER_IN(0), &arena, 5, sources, 3, EMBER_CONNECT), 1);
     expect("another", (uint64_t)ember_connection(rows[4], EMBER_IN(0), &arena, 6, NULL, 0, EMBER_ABSOLUTE), 1);
     expect("a tree", ember_why(ember_rows(rows), 5, 5, EMBER_ELEMENTS, arena.bytes, arena.used, &row, &member), EMBER_WHY_TREE);
-    expect("as they were", row + member, 198);
+    expect("no row and no member", row + member, 5 + EMBER_MEMBERS);
     expect("frames", ember_frames(ember_rows(rows), 5, EMBER_ELEMENTS, &arena, frames, sizeof frames, &count), EMBER_DONE);
     expect("too short", ember_frames(ember_rows(rows), 5, EMBER_ELEMENTS, &arena, frames, 8, &number), EMBER_NO_OUT);
     expect("as it was", number, 9);
@@ -123,13 +123,13 @@ static void building(void)
     small = ember_arena_of(bytes, 5);
     expect("no room", (uint64_t)ember_put_text(rows[0], EMBER_IDENTIFIER, &small, "router"), 0);
     expect("absent", (uint64_t)ember_has(rows[0], EMBER_IDENTIFIER) + small.used, 0);
-    expect("full", (uint64_t)small.full, 1);
-    expect("and not written", ember_frames(ember_rows(rows), 1, EMBER_ELEMENTS, &small, frames, sizeof frames, &count), EMBER_NO_OUT);
+    expect("and not written", ember_frames(ember_rows(rows), 1, EMBER_ELEMENTS, &small, frames, sizeof frames, &count), EMBER_NO_ROOM);
     small = ember_arena_of(bytes, 5);
     expect("no room", (uint64_t)ember_put_numbers(rows[0], EMBER_NUMBER_OR_PATH, &small, sources, 3), 0);
     expect("as it was", small.used, 0);
     numbers[0] = 2147483648u;
     expect("too large", (uint64_t)ember_put_numbers(rows[0], EMBER_NUMBER_OR_PATH, &arena, numbers, 1), 0);
+    expect("and told", arena.refused, EMBER_BAD_NUMBER);
 }
 
 /* ---- ember_why */

@@ -424,13 +424,14 @@ static inline int ember_encode(const uint64_t *numbers, size_t count, uint8_t *o
 }
 
 /* ---- An arena: memory of the caller's for the texts, octets, paths and sources of rows made by hand. What it holds is the parts that
- * ember_write and ember_accepts are given: arena.bytes, arena.used. If something had no room, `full` is 1 from then on, and
- * ember_frames answers EMBER_NO_OUT */
+ * ember_write and ember_accepts are given: arena.bytes, arena.used. What could not be put is kept in `refused`, from the first on:
+ * EMBER_NO_ROOM if it had no room, EMBER_BAD_NUMBER for a number over 2,147,483,647. So nobody needs to ask after each member:
+ * ember_frames answers it */
 
 struct ember_arena {
     uint8_t *bytes;
     size_t room, used;
-    int full;
+    uint64_t refused;
 };
 
 /* An empty arena over lent bytes; 16,384, EMBER_MESSAGE_MAX, hold the parts of any message.
@@ -441,7 +442,7 @@ static inline struct ember_arena ember_arena_of(uint8_t *bytes, size_t room)
     arena.bytes = bytes;
     arena.room = room;
     arena.used = 0;
-    arena.full = 0;
+    arena.refused = EMBER_DONE;
     return arena;
 }
 
@@ -451,7 +452,8 @@ static inline int ember_put_part(uint64_t *row, size_t member, uint64_t type, st
 {
     if (count > arena->room - arena->used) {
         ember_put(row, member, EMBER_TYPE_ABSENT, 0, 0);
-        arena->full = 1;
+        if (arena->refused == EMBER_DONE)
+            arena->refused = EMBER_NO_ROOM;
         return 0;
     }
     if (count > 0)
@@ -476,13 +478,17 @@ static inline int ember_put_octets(uint64_t *row, size_t member, struct ember_ar
 }
 
 /* Puts the numbers of a path or of sources: 1; or 0 and the member absent, if they have no room or one is over 2,147,483,647.
- * Never leaves the arena changed where it answers 0, but for `full`. */
+ * Never leaves the arena changed where it answers 0, but for `refused`. */
 static inline int ember_put_numbers(uint64_t *row, size_t member, struct ember_arena *arena, const uint64_t *numbers, size_t count)
 {
-    size_t start = arena->used;
+    size_t start = arena->used, i;
     if (!ember_encode(numbers, count, arena->bytes, arena->room, &arena->used)) {
         ember_put(row, member, EMBER_TYPE_ABSENT, 0, 0);
-        arena->full = 1;
+        for (i = 0; i < count && arena->refused == EMBER_DONE; i++)
+            if (numbers[i] > 2147483647u)
+                arena->refused = EMBER_BAD_NUMBER;
+        if (arena->refused == EMBER_DONE)
+            arena->refused = EMBER_NO_ROOM;
         return 0;
     }
     ember_put(row, member, EMBER_TYPE_RELATIVE_OID, start, arena->used - start);
@@ -526,8 +532,8 @@ static inline int ember_connection(uint64_t *row, uint64_t in, struct ember_aren
     return source_words == 0 || ember_put_numbers(row, EMBER_CONNECTION_SOURCES, arena, sources, source_words);
 }
 
-/* Writes rows and their arena as one message, in frames that can be sent: EMBER_DONE and *count, how many bytes; or EMBER_NO_OUT, with out
- * and *count as they were, if out is too short (EMBER_FRAMES_MAX always holds a message), the arena was too small, the message would be
+/* Writes rows and their arena as one message, in frames that can be sent: EMBER_DONE and *count, how many bytes; or, with out and *count as
+ * they were, what the arena refused, or EMBER_NO_OUT, if out is too short (EMBER_FRAMES_MAX always holds a message), the message would be
  * over 16,384 bytes, or the rows make no tree (ember_why says why). It takes 16 KB of stack.
  * Never writes a part of a message. */
 static inline uint64_t ember_frames(const uint64_t (*rows)[EMBER_ROW_WORDS], size_t row_count, uint64_t root, const struct ember_arena *arena,
@@ -535,8 +541,9 @@ static inline uint64_t ember_frames(const uint64_t (*rows)[EMBER_ROW_WORDS], siz
 {
     uint8_t message[EMBER_MESSAGE_MAX];
     uint64_t length[EMBER_WRITE_WORDS];
-    if (arena->full || ember_write(rows, row_count, row_count, root, arena->bytes, arena->used, message, sizeof message, length,
-                                   EMBER_WRITE_WORDS) != EMBER_DONE)
+    if (arena->refused != EMBER_DONE)
+        return arena->refused;
+    if (ember_write(rows, row_count, row_count, root, arena->bytes, arena->used, message, sizeof message, length, EMBER_WRITE_WORDS) != EMBER_DONE)
         return EMBER_NO_OUT;
     return ember_write_message(message, (size_t)length[0], out, out_bytes, count);
 }

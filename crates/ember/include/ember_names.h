@@ -43,7 +43,7 @@ static inline const char *ember_say(uint64_t number)
     case EMBER_BAD_REAL: return "a real that is not accepted";
     case EMBER_BAD_NAME: return "an identifier against its rule";
     case EMBER_BAD_PATH: return "a path that is empty, over 16 numbers or has a number out of range";
-    case EMBER_NO_ROOM: return "more entries than the table has rows";
+    case EMBER_NO_ROOM: return "no room: more entries than the table has rows, or an arena too small";
     case EMBER_NO_MATRIX: return "a connection of another matrix";
     case EMBER_NO_TARGET: return "no such target";
     case EMBER_NO_SOURCE: return "no such source";

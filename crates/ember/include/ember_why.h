@@ -208,7 +208,7 @@ static inline size_t ember_why_path(const uint64_t (*table)[EMBER_ROW_WORDS], si
 
 /* Says why the table's first `count` rows make no tree that the reader accepts: answers the cause, and sets *row to the first row with
  * which they make none, and *member to the member that is wrong there, or to 16, EMBER_MEMBERS, if it is the row as a whole.
- * EMBER_WHY_TREE, with both as they were, exactly if ember_accepts gives 1. Then EMBER_NO_OUT of ember_write means that the output is too
+ * EMBER_WHY_TREE, with *row as count and *member as 16, exactly if ember_accepts gives 1. Then EMBER_NO_OUT of ember_write means that the output is too
  * short or the message over 16,384 bytes.
  * Never changes the rows, and never reads past them or the parts. */
 #define EMBER_MEMBERS 16
@@ -217,10 +217,11 @@ static inline uint64_t ember_why(const uint64_t (*table)[EMBER_ROW_WORDS], size_
 {
     size_t right = 0, wrong = count, place, depth, m;
     uint64_t cause;
+    *row = count;
+    *member = EMBER_MEMBERS;
     if (ember_accepts(table, table_rows, count, root, parts, parts_bytes))
         return EMBER_WHY_TREE;
     *row = 0;
-    *member = EMBER_MEMBERS;
     if (root != EMBER_ELEMENTS && root != EMBER_STREAMS)
         return EMBER_WHY_ROOT;
     if (count > table_rows || count > EMBER_ROWS_MAX) {
