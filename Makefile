@@ -43,13 +43,13 @@ target/staticlib/lib%.a: crates.txt $(SOURCES)
 	rt staticlib $*
 	touch $@
 
-$(OUT)/%.pc: Makefile crates/ember/include/ember.h
+$(NAMES:%=$(OUT)/%.pc): $(OUT)/%.pc: always
 	mkdir -p $(OUT)
 	printf '%s\n' 'prefix=$(abspath $(PREFIX))' 'libdir=$(patsubst $(PREFIX)/%,$${prefix}/%,$(LIBDIR))' \
 	    'includedir=$(patsubst $(PREFIX)/%,$${prefix}/%,$(INCLUDEDIR))' '' 'Name: $*' 'Description: $(TEXT_$*)' 'Version: $(VERSION)' \
 	    'Libs: -L$${libdir} -l$*' 'Cflags: -I$${includedir}/ember' > $@
 
-.PHONY: all install uninstall $(NAMES:%=$(OUT)/%.pc)
+.PHONY: all install uninstall always
 install: $(LIBRARIES) $(NAMES:%=$(OUT)/%.pc)
 	install -d $(DESTDIR)$(LIBDIR)/pkgconfig $(DESTDIR)$(INCLUDEDIR)/ember $(DESTDIR)$(DOCDIR)
 	install -m 644 $(LIBRARIES) $(DESTDIR)$(LIBDIR)

@@ -2,6 +2,7 @@
  * against the library. Every cause of ember_why is made once, and on rows damaged at random it says a tree exactly where ember_accepts does,
  * and a length only of long messages. Says what differs and ends with 1. */
 #include "ember.h"
+#include "ember_text.h"
 
 #include <stdio.h>
 #include <string.h>
@@ -116,6 +117,35 @@ static void building(void)
     expect("none", (uint64_t)ember_next(&it, &number), 0);
     kept = ember_keep(line.table[3]);
     expect("kept", (uint64_t)memcmp(kept.row, line.table[3], sizeof kept.row), 0);
+
+    /* as text, in enough room and in less, down to none */
+    {
+        char out[EMBER_PATH_TEXT], longest[EMBER_NUMBER_TEXT];
+        uint64_t most[EMBER_PATH_MAX];
+        static ember_row one;
+        memset(out, '#', sizeof out);
+        for (number = 0; number < EMBER_PATH_MAX; number++)
+            most[number] = 2147483647;
+        expect("the longest path", strlen(ember_path_text(most, EMBER_PATH_MAX, out, sizeof out)), 16 * 11 - 1);
+        expect("none", strlen(ember_path_text(most, 0, out, sizeof out)), 0);
+        expect("cut off", (uint64_t)strcmp(ember_path_text(path, 2, out, 4), "1.2"), 0);
+        out[0] = '#';
+        ember_path_text(path, 2, out, 0);
+        expect("no room", out[0], '#');
+        ember_begin(one, EMBER_KIND_PARAMETER, EMBER_IN_ROOT);
+        ember_put_integer(one, EMBER_PARAMETER_VALUE, INT64_MIN);
+        ember_put_real(one, EMBER_PARAMETER_MINIMUM, -2.2250738585072014e-308);
+        expect("an integer", (uint64_t)strcmp(ember_value_text(one, EMBER_PARAMETER_VALUE, NULL, 0, longest, sizeof longest), "-9223372036854775808"), 0);
+        expect("a real", (uint64_t)strcmp(ember_value_text(one, EMBER_PARAMETER_MINIMUM, NULL, 0, longest, sizeof longest), "-2.2250738585072014e-308"), 0);
+        expect("absent", strlen(ember_value_text(one, EMBER_PARAMETER_MAXIMUM, NULL, 0, longest, sizeof longest)), 0);
+        expect("sources", (uint64_t)strcmp(ember_value_text(line.table[3], EMBER_CONNECTION_SOURCES, line.store, line.message_bytes, out, sizeof out),
+                                           "0.300.2147483647"), 0);
+        expect("octets", (uint64_t)strcmp(ember_value_text(line.table[1], EMBER_PARAMETER_VALUE, line.store, line.message_bytes, out, sizeof out), "0001"), 0);
+        expect("a boolean", (uint64_t)strcmp(ember_value_text(line.table[1], EMBER_PARAMETER_ONLINE, line.store, line.message_bytes, out, 3), "tr"), 0);
+        expect("past the message", strlen(ember_value_text(line.table[0], EMBER_IDENTIFIER, line.store, 4, out, sizeof out)), 0);
+        ember_put_bytes(one, EMBER_IDENTIFIER, EMBER_TYPE_TEXT, 0, 4);
+        expect("control characters", (uint64_t)strcmp(ember_value_text(one, EMBER_IDENTIFIER, (const uint8_t *)"\033[2\177", 4, out, sizeof out), ".[2."), 0);
+    }
 
     /* no NaN, no room, and a number over 2,147,483,647 */
     expect("NaN", (uint64_t)ember_put_real(rows[1], EMBER_PARAMETER_MINIMUM, (double)(1e308 * 10 - 1e308 * 10)), 0);
@@ -294,6 +324,59 @@ static void damage(void)
             expect(ember_why_say(i), 0, 1);
 }
 
+/* ---- what of Glow is read (docs/GLOW.md) */
+
+/* A message of one element of an application number, with a member `5` under a context number, in its contents or beside them. */
+static uint64_t glow(uint8_t application, int inside, uint8_t context, const uint8_t *value, uint8_t count)
+{
+    static const uint8_t number[] = {0xa0, 0x03, 0x02, 0x01, 0x01};
+    static ember_row table[2];
+    uint64_t told[EMBER_READ_WORDS];
+    uint8_t out[64] = {0x60, 0, 0x6b, 0, 0xa0, 0, 0, 0};
+    size_t at = 8;
+    out[6] = (uint8_t)(0x60 + application);
+    memcpy(out + at, number, 5);
+    at += 5;
+    if (inside) {
+        out[at++] = 0xa1;
+        out[at++] = (uint8_t)(4 + count);
+        out[at++] = 0x31;
+        out[at++] = (uint8_t)(2 + count);
+    }
+    out[at++] = (uint8_t)(0xa0 + context);
+    out[at++] = count;
+    memcpy(out + at, value, count);
+    at += count;
+    for (size_t i = 1; i < 8; i += 2)
+        out[i] = (uint8_t)(at - i - 1);
+    return ember_read(out, at, table, 2, told, EMBER_READ_WORDS);
+}
+
+static void of_glow(void)
+{
+    static const uint8_t five[] = {0x02, 0x01, 0x05}, null[] = {0x05, 0x00}, text[] = {0x0c, 0x02, 0x61, 0x62};
+    static const uint8_t elements[] = {1, 2, 3, 13};
+    for (uint8_t context = 6; context <= 18; context++) {
+        int kept = context == 8 || context == 9 || context == 11 || context == 14;
+        expect("a member of a parameter's contents", glow(1, 1, context, text, 4) == EMBER_DONE, !kept);
+    }
+    for (uint8_t context = 4; context <= 5; context++)
+        expect("of a node's", glow(3, 1, context, text, 4), EMBER_DONE);
+    for (uint8_t context = 8; context <= 12; context++)
+        expect("of a matrix's", glow(13, 1, context, text, 4), EMBER_DONE);
+    for (uint8_t context = 3; context <= 4; context++)
+        expect("a matrix's targets and sources", glow(13, 0, context, text, 4), EMBER_DONE);
+    expect("an invocation", glow(2, 0, 2, text, 4), EMBER_DONE);
+    expect("a value", glow(1, 1, 2, five, 3), EMBER_DONE);
+    expect("null", glow(1, 1, 2, null, 2), EMBER_BAD_GLOW);
+    for (uint8_t application = 1; application < 31; application++) {
+        int read = 0;
+        for (size_t i = 0; i < sizeof elements; i++)
+            read |= application == elements[i];
+        expect("an element that is no other", glow(application, 0, 9, five, 3) == EMBER_DONE, read);
+    }
+}
+
 /* ---- the line */
 
 static struct ember_line again;
@@ -397,6 +480,7 @@ int main(void)
     building();
     causes();
     damage();
+    of_glow();
     lines();
     return wrong;
 }

@@ -12,8 +12,13 @@
  * count says, aligned for its type, and shared by no other argument of the call that is written to; where the count is 0
  * the pointer may be anything.
  *
- * After EMBER_SETUP all that was lent is as it was, the answer's words too: there is nothing in them to go by. A host's
- * loop for one line, then (ember_turn, with a desk, goes the same way):
+ * Most hosts begin with struct ember_line (ember_line.h): a stream, its entries and the desk behind it, in a loop of ten lines.
+ * This header takes in: ember_names.h, numbers, kinds and members in words; ember_entries.h, which looks into entries and makes
+ * them, so nobody decodes a row's words; ember_why.h, why rows make no tree; ember_line.h. Beside it stand ember_text.h, paths and
+ * values as text, and ember.hpp for C++17. Examples: examples/inventory, salvo, router, plugin, mirror.
+ *
+ * After EMBER_SETUP all that was lent is as it was, the answer's words too: there is nothing in them to go by. A loop for one
+ * line that lends by hand, then (ember_turn, with a desk, goes the same way):
  *
  *     ember_start(session, EMBER_SESSION_WORDS);
  *     while ((got = read(line, input, sizeof input)) > 0)
@@ -25,9 +30,8 @@
  *             if (event == EMBER_MESSAGE) ..    ember_read(store, answer[EMBER_LENGTH], table, ..)
  *         }
  *
- * ember_entries.h, which this header takes in, has functions that look into entries and make them; nobody needs to
- * decode a row's words. When to ask for a keep-alive, and when a link is dead, is for libsupervision_c.a to say
- * (supervision.h): it is shown what ember_feed or ember_turn answers. */
+ * When to ask for a keep-alive, and when a link is dead, is for libsupervision_c.a to say (supervision.h): it is shown what
+ * ember_feed, ember_turn or ember_line_turn answers. */
 #ifndef EMBER_H
 #define EMBER_H
 
@@ -97,8 +101,8 @@ enum ember_answer {
 };
 
 /* The names of the library are for the program or plugin that it is linked into: in an installed library they are hidden, and here
- * they are declared so, so that two plugins with two versions never meet in one host. EMBER_VISIBLE, defined before this header is
- * taken in, leaves them visible, for those who make a shared library of it. */
+ * they are declared so, so that two plugins with two versions never meet in one host. Who makes a shared library of it takes the
+ * one that `rt staticlib ember` left, and defines EMBER_VISIBLE before this header is taken in. */
 #if defined __GNUC__ && !defined EMBER_VISIBLE
 #pragma GCC visibility push(hidden)
 #endif
@@ -160,7 +164,7 @@ uint64_t ember_write_request(uint8_t *out, size_t out_bytes, uint64_t *count);
  * Never writes a part of it: EMBER_NO_OUT if out is too short. */
 uint64_t ember_write_response(uint8_t *out, size_t out_bytes, uint64_t *count);
 
-/* Writes a message of at most 16,384 bytes as frames. EMBER_NO_OUT if it is longer or out too short.
+/* Writes a message of at most 16,384 bytes as frames, that say Glow 2.20. EMBER_NO_OUT if it is longer or out too short.
  * Never asks whether the message is a tree. */
 uint64_t ember_write_message(const uint8_t *message, size_t message_bytes, uint8_t *out, size_t out_bytes,
                              uint64_t *count);
@@ -179,8 +183,14 @@ uint64_t ember_write_message(const uint8_t *message, size_t message_bytes, uint8
  *
  * Message order: an entry, then all that stands in it, then the next one beside it; of a matrix the children, then the
  * connections. Qualified elements stand in Root alone, connections in a matrix, stream entries in a Root of streams; the
- * other kinds in Root or in any element. The reader passes over members of Glow that are not named below; an element of
- * another kind (a function, a template) is EMBER_BAD_GLOW. */
+ * other kinds in Root or in any element.
+ *
+ * What of Glow 2.20 is read, in short (docs/GLOW.md has the whole). Kept: the kinds and members named below. Passed over, and
+ * so not written again: every other member of 001, such as a parameter's format, enumeration, formula, default, type and stream
+ * descriptor, a matrix's labels and its lists of targets and sources, a connection's disposition, a command's invocation.
+ * Refused with the whole message, by EMBER_BAD_GLOW: functions, invocation results, templates, null as a value, and streams by
+ * the numbers of 001's notation (collection 6, entry 5: here they are 5 and 6). More than 256 entries are EMBER_NO_ROOM with any
+ * table. */
 #define EMBER_ROW_WORDS 50
 #define EMBER_ROW_KIND 0
 #define EMBER_ROW_PARENT 1
@@ -283,9 +293,10 @@ uint64_t ember_read(const uint8_t *message, size_t message_bytes, uint64_t (*tab
 
 /* Writes the message of the table's first `count` rows, as ember_read leaves them or made by hand (ember_begin and so on, in
  * ember_entries.h; a table that is not const goes in as ember_rows(table)); texts, octets, paths and sources are parts of
- * `parts`: the message that the rows were read from, or an arena's bytes; `root` is EMBER_ELEMENTS or EMBER_STREAMS. Definite shortest lengths, ascending tags, no
- * absent member and no empty collection; read back as the same tree. EMBER_NO_OUT if out is too short, the message would be over
- * 16,384 bytes or ember_accepts gives 0; EMBER_SETUP if answer_words is not 1.
+ * `parts`: the message that the rows were read from, or an arena's bytes; `root` is EMBER_ELEMENTS or EMBER_STREAMS. Definite
+ * shortest lengths, ascending tags, no absent member and no empty collection; read back as the same tree. EMBER_NO_OUT if out is
+ * too short, the message would be over 16,384 bytes or ember_accepts gives 0 (ember_why says why); EMBER_SETUP if answer_words is
+ * not 1.
  * Never writes a part of a message. */
 uint64_t ember_write(const uint64_t (*table)[EMBER_ROW_WORDS], size_t table_rows, size_t count, uint64_t root,
                      const uint8_t *parts, size_t parts_bytes, uint8_t *out, size_t out_bytes, uint64_t *answer,
@@ -412,8 +423,9 @@ uint64_t ember_sheet_write(const uint64_t *figures, size_t figures_words, const 
 
 /* Reads a sheet of any length: EMBER_DONE, and figures, path and crosspoints are those of its desk, which is legal; or the first refusal:
  * EMBER_BAD_BYTE for a bad line, 10 to 24, EMBER_BAD_GLOW unless it is one message of one qualified matrix and its connections, 30 to 38,
- * 41 to 45. EMBER_SETUP if store_bytes is not 17,408, table_rows not 256, figures_words not 7, path_words not 16, crosspoint_bytes not
- * 4,096 or answer_words not 1. Store and table are scratch: they may hold anything after it.
+ * 41 to 45. ember_sheet_line (ember_line.h) says at which line, and which spellings are read. EMBER_SETUP if store_bytes is not 17,408,
+ * table_rows not 256, figures_words not 7, path_words not 16, crosspoint_bytes not 4,096 or answer_words not 1. Store and table are
+ * scratch: they may hold anything after it.
  * Never changes figures, path or crosspoints unless it answers EMBER_DONE. */
 uint64_t ember_sheet_read(const uint8_t *text, size_t text_bytes, uint8_t *store, size_t store_bytes,
                           uint64_t (*table)[EMBER_ROW_WORDS], size_t table_rows, uint64_t *figures, size_t figures_words,

@@ -90,7 +90,8 @@ static inline const char *supervision_say(uint64_t number)
 uint64_t supervision_start(uint64_t *link, size_t link_words, uint32_t tick);
 
 /* Shows the tick and the number that framing_feed answered at it, or 0 where nothing happened: 0 and 1 are no events, 4
- * is an incoming request, and every other number is an event. Its tick is never behind the one shown before, but for the wrap. An event counts before what is due at its tick. Show each
+ * is an incoming request, and every other number is an event. A tick is never behind the one shown before, but for the
+ * wrap. An event counts before what is due at its tick. Show each
  * event with its tick, and some tick at least once in every 1,000 ms: then a link is declared dead no later than
  * 12,000 ms after its last event, and one with an event in every 4,000 ms never is. A request is answered in every
  * state, that of a dead link too; at any other showing a dead link answers SUPERVISION_DEAD. SUPERVISION_SETUP, with
