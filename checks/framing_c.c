@@ -186,19 +186,23 @@ static void gateway(void)
         said += strcmp(framing_say(number), "no such number") != 0;
     expect("numbers that are said", said, 19);
     for (size_t chunk = 1; chunk <= sizeof stream; chunk++) {
-        struct framing_frame frame = {0, {0}};
+        static struct framing_line line;
         uint8_t passed[sizeof stream];
         size_t length = 0;
-        fresh();
-        for (size_t at = 0; at < sizeof stream; at += answer[FRAMING_CONSUMED]) {
+        expect("a line", framing_line_start(&line), FRAMING_DONE);
+        for (size_t at = 0; at < sizeof stream; at += line.consumed) {
             size_t left = sizeof stream - at;
-            number = feed(stream + at, left < chunk ? left : chunk);
-            framing_keep(&frame, stream + at, answer[FRAMING_CONSUMED]);
+            number = framing_line_feed(&line, stream + at, left < chunk ? left : chunk);
+            expect("its number", number, line.number);
+            expect("no message", line.message_bytes + (uint64_t)line.discarded, 0);
             if (framing_passes(number)) {
-                memcpy(passed + length, frame.bytes, frame.length);
-                length += frame.length;
+                memcpy(passed + length, line.frame.bytes, line.frame.length);
+                length += line.frame.length;
             }
         }
+        line.session[0] = 6;
+        expect("words that the host changed", framing_line_feed(&line, stream, 5), FRAMING_SETUP);
+        expect("and no loop", line.consumed, 5);
         expect("bytes that pass", length, 17);
         expect("a request", (uint64_t)memcmp(passed, stream + 2, 8), 0);
         expect("a response", (uint64_t)memcmp(passed + 8, stream + 21, 9), 0);

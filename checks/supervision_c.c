@@ -111,6 +111,12 @@ static void out_of_order(void)
         expect("no time passed", show(latest, 0), SUPERVISION_NOTHING);
         expect("half the range back", supervision_later(&latest, latest - 2147483647u), (uint32_t)(starts[i] + 10));
         expect("half the range on", supervision_later(&latest, latest + 2147483647u), (uint32_t)(starts[i] + 10 + 2147483647u));
+        struct supervision_link link;
+        expect("a link", supervision_link_start(&link, starts[i]), SUPERVISION_NOTHING);
+        expect("a millisecond back", supervision_link_show(&link, starts[i] - 1, 0), SUPERVISION_NOTHING);
+        expect("asked by the latest", supervision_link_show(&link, starts[i] + SUPERVISION_SILENCE, 0), SUPERVISION_ASK);
+        expect("back again", supervision_link_show(&link, starts[i], 0), SUPERVISION_NOTHING);
+        expect("dead by the latest", supervision_link_show(&link, starts[i] + 2 * SUPERVISION_SILENCE, 0), SUPERVISION_DEAD);
         start(starts[i]);
         expect("bare, a millisecond back: 49 days", show(starts[i] - 1, 0), SUPERVISION_ASK);
     }

@@ -15,9 +15,9 @@
 #include <time.h>
 #include <unistd.h>
 
-/* The supervisor of a link, the latest tick it was shown, and the way back; none if that is -1. */
-static uint64_t state[SUPERVISION_LINK_WORDS];
-static uint32_t latest;
+/* The stream, the supervisor of its link, and the way back; none if that is -1. */
+static struct framing_line line;
+static struct supervision_link link_state;
 static int back = -1;
 
 static int fail(const char *what, int code)
@@ -41,7 +41,7 @@ static int show(uint64_t number)
     uint64_t length = 0;
     if (back < 0)
         return 1;
-    switch (supervision_show(state, SUPERVISION_LINK_WORDS, supervision_later(&latest, tick()), number)) {
+    switch (supervision_link_show(&link_state, tick(), number)) {
     case SUPERVISION_ASK: framing_write_request(out, sizeof out, &length); break;
     case SUPERVISION_ANSWER: framing_write_response(out, sizeof out, &length); break;
     case SUPERVISION_DEAD: return 0;
@@ -49,19 +49,24 @@ static int show(uint64_t number)
     return write(back, out, length) == (ssize_t)length;
 }
 
+/* A frame that passes, but with a way back no keep-alive: those are answered there. */
+static int passed_on(uint64_t number)
+{
+    return framing_passes(number) && (back < 0 || number <= FRAMING_MESSAGE);
+}
+
 int main(int count, char **words)
 {
-    static uint8_t store[FRAMING_STORE_BYTES], input[65536];
-    static struct framing_frame frame;
+    static uint8_t input[65536];
     struct pollfd from = {.fd = STDIN_FILENO, .events = POLLIN};
-    uint64_t session[FRAMING_SESSION_WORDS], answer[FRAMING_ANSWER_WORDS], counts[FRAMING_BAD_BIG + 1] = {0}, discarded = 0;
+    unsigned long long counts[FRAMING_BAD_BIG + 1] = {0}, discarded = 0;
     ssize_t got;
-    framing_start(session, FRAMING_SESSION_WORDS);
+    framing_line_start(&line);
     if (count > 1) {
         back = open(words[1], O_WRONLY | O_CREAT | O_TRUNC, 0666);
         if (back < 0)
             return fail("the way back cannot be written", 1);
-        supervision_start(state, SUPERVISION_LINK_WORDS, latest = tick());
+        supervision_link_start(&link_state, tick());
     }
     for (;;) {
         size_t at = 0;
@@ -71,16 +76,13 @@ int main(int count, char **words)
             break;
         /* Once also if nothing came: 0 is shown then, as it is for bytes that make no event. */
         do {
-            uint64_t number = framing_feed(session, FRAMING_SESSION_WORDS, store, sizeof store, input + at, (size_t)got - at, answer, FRAMING_ANSWER_WORDS);
-            if (number == FRAMING_SETUP)
-                return fail(framing_say(number), 1);
-            framing_keep(&frame, input + at, answer[FRAMING_CONSUMED]);
-            at += answer[FRAMING_CONSUMED];
-            discarded += answer[FRAMING_DISCARDED];
-            counts[number] += 1;
+            uint64_t number = framing_line_feed(&line, input + at, (size_t)got - at);
+            at += line.consumed;
+            counts[number]++;
+            discarded += (unsigned)line.discarded;
             if (!show(number))
                 return fail("the link is dead", 2);
-            if (framing_passes(number) && (back < 0 || number <= FRAMING_MESSAGE) && fwrite(frame.bytes, 1, frame.length, stdout) != frame.length)
+            if (passed_on(number) && fwrite(line.frame.bytes, 1, line.frame.length, stdout) != line.frame.length)
                 return fail("the output cannot be written", 1);
         } while (at < (size_t)got);
         /* what passed goes on at once: the stream may be live */
@@ -91,8 +93,7 @@ int main(int count, char **words)
         return fail("the input cannot be read", 1);
     for (uint64_t number = FRAMING_PIECE; number <= FRAMING_BAD_BIG; number++)
         if (counts[number] != 0)
-            fprintf(stderr, "%2d %llu %s\n", (int)number, (unsigned long long)counts[number],
-                    !framing_passes(number) ? "refused" : back >= 0 && number > FRAMING_MESSAGE ? "kept" : "forwarded");
-    fprintf(stderr, "messages thrown away: %llu\n", (unsigned long long)discarded);
+            fprintf(stderr, "%2d %llu %s\n", (int)number, counts[number], passed_on(number) ? "forwarded" : framing_passes(number) ? "kept" : "refused");
+    fprintf(stderr, "messages thrown away: %llu\n", discarded);
     return 0;
 }

@@ -12,6 +12,7 @@
 
 #include <stddef.h>
 #include <stdint.h>
+#include <string.h>
 
 #ifdef __cplusplus
 extern "C" {
@@ -144,16 +145,21 @@ uint64_t framing_version(void);
 #pragma GCC visibility pop
 #endif
 
-/* ---- For a gateway: the bytes of a frame that passed, as they came
+/* ---- A line: a stream with its session, its store and the bytes of its last frame, in one struct
  *
  * On the line a frame starts at a byte FE (BOF) and ends at FF (EOF); inside it bytes from F8 on come as FD (the escape byte) and
  * the byte XOR 20. Events 2 to 5 are frames that pass: each is the bytes since the last FE, that FE and the FF included, at most
  * FRAMING_FRAME_MAX of them. Every other event's bytes are to be dropped. framing_keep holds the bytes since the last FE, whatever
- * the chunks, so a gateway is:
+ * the chunks, and framing_line_feed calls it, so a gateway is:
  *
- *     number = framing_feed(session, FRAMING_SESSION_WORDS, store, sizeof store, chunk, bytes, answer, FRAMING_ANSWER_WORDS);
- *     framing_keep(&frame, chunk, answer[FRAMING_CONSUMED]);
- *     if (framing_passes(number)) send(to, frame.bytes, frame.length);
+ *     static struct framing_line line;
+ *     framing_line_start(&line);
+ *     while ((got = read(from, input, sizeof input)) > 0)
+ *         for (at = 0; at < (size_t)got; at += line.consumed) {
+ *             number = framing_line_feed(&line, input + at, (size_t)got - at);
+ *             if (framing_passes(number)) send(to, line.frame.bytes, line.frame.length);
+ *             if (number == FRAMING_MESSAGE) ..     the message is line.store, line.message_bytes, until the next call
+ *         }
  *
  * A gateway that answers keep-alives itself (supervision.h) passes events 2 and 3 alone: a request that is answered and passed on
  * is answered twice. */
@@ -180,6 +186,39 @@ static inline void framing_keep(struct framing_frame *frame, const uint8_t *byte
 static inline int framing_passes(uint64_t number)
 {
     return number >= FRAMING_PIECE && number <= FRAMING_RESPONSE;
+}
+
+struct framing_line {
+    /* what the last call told */
+    uint64_t number;      /* what it answered */
+    size_t consumed;      /* bytes of the chunk; offer the rest again */
+    int discarded;        /* 1 if an unfinished message was thrown away */
+    size_t message_bytes; /* after FRAMING_MESSAGE: the message is the store's first bytes, until the next call; else 0 */
+
+    struct framing_frame frame; /* after events 2 to 5: the frame, as it came */
+    uint8_t store[FRAMING_STORE_BYTES];
+    uint64_t session[FRAMING_SESSION_WORDS];
+};
+
+/* Starts a line, or starts it anew: outside frames, no message open. FRAMING_DONE.
+ * Never fails. */
+static inline uint64_t framing_line_start(struct framing_line *line)
+{
+    memset(line, 0, sizeof *line);
+    return framing_start(line->session, FRAMING_SESSION_WORDS);
+}
+
+/* Offers a chunk, as framing_feed, and tells the rest in the line's fields. FRAMING_SETUP if the host changed words of the session.
+ * Never loops a host for ever: after FRAMING_SETUP the whole chunk counts as consumed, though nothing of it was. */
+static inline uint64_t framing_line_feed(struct framing_line *line, const uint8_t *chunk, size_t chunk_bytes)
+{
+    uint64_t answer[FRAMING_ANSWER_WORDS] = {0};
+    line->number = framing_feed(line->session, FRAMING_SESSION_WORDS, line->store, sizeof line->store, chunk, chunk_bytes, answer, FRAMING_ANSWER_WORDS);
+    framing_keep(&line->frame, chunk, answer[FRAMING_CONSUMED]);
+    line->consumed = line->number == FRAMING_SETUP ? chunk_bytes : (size_t)answer[FRAMING_CONSUMED];
+    line->discarded = answer[FRAMING_DISCARDED] != 0;
+    line->message_bytes = (size_t)answer[FRAMING_LENGTH];
+    return line->number;
 }
 
 #ifdef __cplusplus

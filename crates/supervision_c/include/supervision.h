@@ -13,23 +13,24 @@
  *
  * Three things that a host must see to:
  * - Ticks never go back. They run past their top, so one that is a millisecond behind the last counts as 49 days later, and the
- *   link is dead. A host whose ticks come from several threads, or from a clock that is set, shows supervision_later(&latest, tick).
+ *   link is dead. Ticks from several threads, or from a clock that is set, may go back: struct supervision_link, below, keeps the
+ *   latest and shows that then; by hand, supervision_later does.
  * - What has come is shown before that nothing has. After a pause of the host (it slept, was stopped, or was busy) bytes may wait
  *   that say the link lives: read and feed them first, and show a bare tick only when none are there.
  * - A bare tick is due also while bytes come that make no event. framing_feed answers 0 then, and 0 is what is shown: bytes alone
  *   keep no link alive, and half a frame every second is a silence.
  *
- * A loop that does so; `examples/gateway` is one:
+ * A loop that does so, over struct framing_line; `examples/gateway` is one:
  *
- *     supervision_start(link, SUPERVISION_LINK_WORDS, latest = tick());
+ *     supervision_link_start(&link, tick());
  *     for (alive = 1; alive;) {
  *         got = 0;
  *         if (poll(&input, 1, 500) > 0 && (got = read(from, chunk, sizeof chunk)) <= 0) break;     500 ms: shown every second
  *         at = 0;
- *         do {                                                                       once also if nothing came
- *             number = framing_feed(session, .., chunk + at, got - at, answer, ..);  0 where nothing happened
- *             at += answer[FRAMING_CONSUMED];
- *             switch (supervision_show(link, SUPERVISION_LINK_WORDS, supervision_later(&latest, tick()), number)) {
+ *         do {                                                                                     once also if nothing came
+ *             number = framing_line_feed(&line, chunk + at, got - at);                             0 where nothing happened
+ *             at += line.consumed;
+ *             switch (supervision_link_show(&link, tick(), number)) {
  *             case SUPERVISION_ASK: ..        framing_write_request, and send it
  *             case SUPERVISION_ANSWER: ..     framing_write_response, and send it
  *             case SUPERVISION_DEAD: alive = 0;
@@ -115,6 +116,27 @@ static inline uint32_t supervision_later(uint32_t *latest, uint32_t tick)
     if ((uint32_t)(tick - *latest) < 0x80000000u)
         *latest = tick;
     return *latest;
+}
+
+/* A link with the latest tick that it was shown, for hosts whose ticks may come out of order. */
+struct supervision_link {
+    uint64_t words[SUPERVISION_LINK_WORDS];
+    uint32_t latest;
+};
+
+/* Starts: the start counts as an event. SUPERVISION_NOTHING.
+ * Never reads a clock. */
+static inline uint64_t supervision_link_start(struct supervision_link *link, uint32_t tick)
+{
+    link->latest = tick;
+    return supervision_start(link->words, SUPERVISION_LINK_WORDS, tick);
+}
+
+/* Shows a tick and a number, as supervision_show; a tick that is behind the latest counts as no time passed.
+ * Never shows a tick that goes back. */
+static inline uint64_t supervision_link_show(struct supervision_link *link, uint32_t tick, uint64_t number)
+{
+    return supervision_show(link->words, SUPERVISION_LINK_WORDS, supervision_later(&link->latest, tick), number);
 }
 
 #ifdef __cplusplus
