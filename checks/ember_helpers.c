@@ -94,6 +94,11 @@ static void building(void)
     expect("no desk", line.answer_count + line.desk, 0);
     expect("depth", ember_depth(ember_rows(line.table), line.count, 2), 2);
     expect("depth", ember_depth(ember_rows(line.table), line.count, 0), 0);
+    expect("depth", ember_line_depth(&line, 2) * 10 + ember_line_depth(&line, 5), 20);
+    text = ember_line_text_or(&line, 0, EMBER_IDENTIFIER, "none", &letters);
+    expect("text", (uint64_t)memcmp(text, "router", letters < 5 ? letters : 5) + letters, 6);
+    ember_line_text_or(&line, 5, EMBER_IDENTIFIER, "none", &letters);
+    expect("past the count", letters, 4);
     expect("answer 1", ember_line_answered(&line, 1), 4);
     expect("no answer 2", ember_line_answered(&line, 2), 5);
     expect("its path", ember_line_path(&line, 1, numbers), 3);

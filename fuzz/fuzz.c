@@ -91,7 +91,8 @@ static uint64_t below(uint64_t count)
 
 static uint64_t word(void)
 {
-    static const uint64_t edges[] = {0, 1, 2, 63, 64, 65, 255, 256, 1024, 1025, 16384, 16385, 2147483647, 2147483648u, UINT32_MAX, UINT64_MAX, (uint64_t)1 << 63};
+    static const uint64_t edges[] = {0,     1,     2,          63,          64,         65,         255,               256, 1024, 1025,
+                                     16384, 16385, 2147483647, 2147483648u, UINT32_MAX, UINT64_MAX, (uint64_t)1 << 63};
     uint64_t how = byte(), value = 0;
     if (how < 128)
         return how;
@@ -239,8 +240,10 @@ static void sessions(void)
             slots = 3;
             chunk = lend(offered, stream + at);
             remember();
-            number = run == 0 ? done("ember_feed", ember_feed(session, EMBER_SESSION_WORDS, store, EMBER_STORE_BYTES, chunk, offered, answer, EMBER_FEED_WORDS))
-                              : done("framing_feed", framing_feed(session, EMBER_SESSION_WORDS, store, EMBER_STORE_BYTES, chunk, offered, answer, EMBER_FEED_WORDS));
+            if (run == 0)
+                number = done("ember_feed", ember_feed(session, EMBER_SESSION_WORDS, store, EMBER_STORE_BYTES, chunk, offered, answer, EMBER_FEED_WORDS));
+            else
+                number = done("framing_feed", framing_feed(session, EMBER_SESSION_WORDS, store, EMBER_STORE_BYTES, chunk, offered, answer, EMBER_FEED_WORDS));
             must(number != EMBER_SETUP && same(chunk), "a session goes on");
             must(answer[EMBER_CONSUMED] <= offered && (number != EMBER_DONE || answer[EMBER_CONSUMED] == offered), "consumed");
             at += answer[EMBER_CONSUMED];
@@ -441,8 +444,8 @@ static size_t make_rows(struct ember_arena *arena, uint64_t *root)
         size_t n = odd ? below(8) : 1 + below(3);
         if (odd)
             in = below(count + 1);
-        else if (count > 0 && made[count - 1][EMBER_ROW_KIND] == EMBER_KIND_CONNECTION && (kind = how & 32 ? kind : EMBER_KIND_CONNECTION) == EMBER_KIND_CONNECTION)
-            in = made[count - 1][EMBER_ROW_PARENT];
+        else if (count > 0 && ember_kind(made[count - 1]) == EMBER_KIND_CONNECTION && (kind == EMBER_KIND_CONNECTION || !(how & 32)))
+            in = made[count - 1][EMBER_ROW_PARENT], kind = EMBER_KIND_CONNECTION;
         else if (count > 0 && (ember_is_matrix(made[count - 1]) || kind == EMBER_KIND_CONNECTION))
             in = count, kind = EMBER_KIND_CONNECTION;
         else if (count > 0 && (made[count - 1][EMBER_ROW_KIND] == EMBER_KIND_COMMAND || made[count - 1][EMBER_ROW_KIND] == EMBER_KIND_CONNECTION || kind > 4))
@@ -531,8 +534,9 @@ static uint64_t call_turn(uint64_t *session, uint8_t *store, const uint8_t *chun
 {
     uint64_t *lent_answers = lend(8 * EMBER_ROWS_MAX, NULL), number;
     remember();
-    number = done("ember_turn", ember_turn(session, EMBER_SESSION_WORDS, store, EMBER_STORE_BYTES, chunk, chunk_bytes, table, rows, figures, EMBER_FIGURES_WORDS,
-                                           path, path_words, crosspoints, EMBER_CROSSPOINTS, lent_answers, EMBER_ROWS_MAX, answer, EMBER_TURN_WORDS));
+    number = done("ember_turn", ember_turn(session, EMBER_SESSION_WORDS, store, EMBER_STORE_BYTES, chunk, chunk_bytes, table, rows, figures,
+                                           EMBER_FIGURES_WORDS, path, path_words, crosspoints, EMBER_CROSSPOINTS, lent_answers, EMBER_ROWS_MAX, answer,
+                                           EMBER_TURN_WORDS));
     for (size_t i = 0; number == EMBER_MESSAGE && i < answer[EMBER_TURN_ANSWERS]; i++)
         answers[i] = (uint8_t)lent_answers[i];
     return number;
@@ -724,7 +728,8 @@ static void sheets(void)
         uint64_t cut = 1 + byte();
         if (how == 2 && make_desk() == 1) {
             uint64_t length[1] = {0};
-            ember_sheet_write(desk_figures, EMBER_FIGURES_WORDS, desk_path, desk_path_words, desk_crosspoints, EMBER_CROSSPOINTS, sheet, sizeof sheet, length, 1);
+            ember_sheet_write(desk_figures, EMBER_FIGURES_WORDS, desk_path, desk_path_words, desk_crosspoints, EMBER_CROSSPOINTS, sheet, sizeof sheet, length,
+                              EMBER_SHEET_WORDS);
             bytes = (size_t)length[0];
             for (uint64_t damage = below(3); damage > 0 && bytes > 0; damage--)
                 sheet[(byte() << 8 | byte()) % bytes] = (uint8_t)byte();
@@ -765,8 +770,10 @@ static void sheets(void)
     text = lend(EMBER_SHEET_MAX, NULL);
     answer = lend(8 * EMBER_SHEET_WORDS, NULL);
     remember();
-    must(done("ember_desk_is_legal", ember_desk_is_legal(figures, EMBER_FIGURES_WORDS, path, words, crosspoints, EMBER_CROSSPOINTS)) == 1, "what is read is legal");
-    number = done("ember_sheet_write", ember_sheet_write(figures, EMBER_FIGURES_WORDS, path, words, crosspoints, EMBER_CROSSPOINTS, text, EMBER_SHEET_MAX, answer, 1));
+    number = done("ember_desk_is_legal", ember_desk_is_legal(figures, EMBER_FIGURES_WORDS, path, words, crosspoints, EMBER_CROSSPOINTS));
+    must(number == 1, "what is read is legal");
+    number = done("ember_sheet_write", ember_sheet_write(figures, EMBER_FIGURES_WORDS, path, words, crosspoints, EMBER_CROSSPOINTS, text, EMBER_SHEET_MAX,
+                                                         answer, EMBER_SHEET_WORDS));
     must(number == EMBER_DONE && answer[0] <= EMBER_SHEET_MAX, "its sheet fits");
     bytes = (size_t)answer[0];
     memcpy(again, text, bytes);

@@ -15,7 +15,7 @@ static void list(size_t place)
     uint64_t path[EMBER_PATH_MAX];
     size_t numbers = ember_line_path(&line, place, path), member;
     char text[EMBER_PATH_TEXT], value[64];
-    printf("%*s%s", (int)(2 * ember_depth(ember_rows(line.table), line.count, place)), "", ember_kind_name(ember_kind(row)));
+    printf("%*s%s", (int)(2 * ember_line_depth(&line, place)), "", ember_kind_name(ember_kind(row)));
     if (numbers > 0)
         printf(" %s", ember_path_text(path, numbers, text, sizeof text));
     for (member = numbers > 0; member < EMBER_MEMBERS; member++)

@@ -51,7 +51,7 @@ static int announced(size_t place)
     const uint64_t *row = line.table[place];
     int64_t targets, sources;
     size_t letters;
-    const char *name = ember_text_or(row, EMBER_IDENTIFIER, line.store, line.message_bytes, "", &letters);
+    const char *name = ember_line_text_or(&line, place, EMBER_IDENTIFIER, "", &letters);
     if (path_words != 0 || !ember_is_matrix(row) || !ember_integer(row, EMBER_MATRIX_TARGETS, &targets) || !ember_integer(row, EMBER_MATRIX_SOURCES, &sources))
         return GOING;
     path_words = ember_line_path(&line, place, path);

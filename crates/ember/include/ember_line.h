@@ -131,6 +131,23 @@ static inline size_t ember_line_path(const struct ember_line *line, size_t place
     return ember_path((const ember_row *)line->table, line->count, place, line->store, line->message_bytes, path);
 }
 
+/* How many entries the one at a place of the line's table stands in: 0 in Root.
+ * Never reads past the table's count. */
+static inline size_t ember_line_depth(const struct ember_line *line, size_t place)
+{
+    return ember_depth((const ember_row *)line->table, line->count, place);
+}
+
+/* A text of the entry at a place, and how many bytes it has; or `otherwise`, which ends in a 0, and its length.
+ * Never puts a 0 after a text that was sent: print it with "%.*s". */
+static inline const char *ember_line_text_or(const struct ember_line *line, size_t place, size_t member, const char *otherwise, size_t *count)
+{
+    if (place < line->count)
+        return ember_text_or(line->table[place], member, line->store, line->message_bytes, otherwise, count);
+    *count = strlen(otherwise);
+    return otherwise;
+}
+
 /* The place in the line's table of the connection that answer i is for; line->count if there is none.
  * Never past the count. */
 static inline size_t ember_line_answered(const struct ember_line *line, size_t i)
