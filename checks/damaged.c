@@ -483,7 +483,7 @@ static void desk_call(void)
     if (number == EMBER_DONE && (answer[0] > n || !same_from(5, 8 * answer[0])))
         wrong("more answers than entries");
     for (size_t i = 0; number == EMBER_DONE && i < answer[0]; i++)
-        if (answers[i] != EMBER_DONE && (answers[i] < EMBER_MATRIX || answers[i] > EMBER_TOTAL))
+        if (answers[i] != EMBER_DONE && (answers[i] < EMBER_NO_MATRIX || answers[i] > EMBER_BAD_TOTAL))
             wrong("an answer that is none");
     desk_went(number, 0, 2, words);
 }
@@ -536,9 +536,9 @@ static void read_tree(void)
         wrong("a refusal changed the table");
     if (number == EMBER_DONE && (answer[EMBER_COUNT] > rows || !same_from(1, answer[EMBER_COUNT] * sizeof *table)))
         wrong("rows past the count");
-    if (number >= EMBER_BER && number <= EMBER_PATH && answer[EMBER_PLACE] > bytes)
+    if (number >= EMBER_BAD_BER && number <= EMBER_BAD_PATH && answer[EMBER_PLACE] > bytes)
         wrong("a place past the message");
-    if (number == EMBER_ROOM && answer[EMBER_COUNT] <= rows)
+    if (number == EMBER_NO_ROOM && answer[EMBER_COUNT] <= rows)
         wrong("there was room");
     look(ember_rows(table), rows > 24 ? 24 : rows, lent[0].bytes, bytes);
 }
@@ -556,7 +556,7 @@ static void write_tree(void)
     count("ember_accepts", accepted);
     number = ember_write(ember_rows((ember_row *)lent[1].bytes), rows, n, root, lent[0].bytes, bytes, out, m, answer, k);
     count("ember_write", number);
-    if (number == EMBER_OUT && !same(2))
+    if (number == EMBER_NO_OUT && !same(2))
         wrong("46 changed the output");
     if (number == EMBER_DONE && (answer[0] > m || !same_from(2, answer[0])))
         wrong("bytes past the message");
@@ -588,7 +588,7 @@ static void write_frames(void)
         number = ember_write_response(out, m, length), name = "ember_write_response";
     }
     count(name, number);
-    if (number == EMBER_OUT && (!same(1) || length[0] != before))
+    if (number == EMBER_NO_OUT && (!same(1) || length[0] != before))
         wrong("46 changed the output or the count");
     if (number == EMBER_DONE && (length[0] > m || !same_from(1, length[0])))
         wrong("bytes past the frames");
@@ -640,7 +640,7 @@ static void write_sheet(void)
     remember();
     number = ember_sheet_write((uint64_t *)lent[0].bytes, words, (uint64_t *)lent[1].bytes, numbers, lent[2].bytes, cells, lent[3].bytes, m, answer, k);
     count("ember_sheet_write", number);
-    if (number == EMBER_OUT && !same(3))
+    if (number == EMBER_NO_OUT && !same(3))
         wrong("46 changed the output");
     if (number == EMBER_DONE && (answer[0] > m || !same_from(3, answer[0])))
         wrong("bytes past the sheet");

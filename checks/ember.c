@@ -77,29 +77,29 @@ static void events(void)
     expect("EMBER_DONE", feed(NULL, 0), EMBER_DONE);
     FIRST(EMBER_REQUEST, 0xfe, 0x00, 0x0e, 0x01, 0x01, 0x94, 0xe4, 0xff);
     FIRST(EMBER_RESPONSE, 0xfe, 0x00, 0x0e, 0x02, 0x01, 0xfd, 0xdc, 0xce, 0xff);
-    FIRST(EMBER_STRAY, 0x00);
-    FIRST(EMBER_CUT, 0xfe, 0x00, 0xfe);
-    FIRST(EMBER_BYTE, 0xfe, 0xf8, 0xff);
-    FIRST(EMBER_ESCAPE, 0xfe, 0xfd, 0xff);
-    FIRST(EMBER_SHORT, 0xfe, 0xfe, 0xff);
-    FIRST(EMBER_CRC, 0xfe, 0x00, 0x0e, 0x01, 0x01, 0x94, 0xe5, 0xff);
+    FIRST(EMBER_BAD_STRAY, 0x00);
+    FIRST(EMBER_BAD_CUT, 0xfe, 0x00, 0xfe);
+    FIRST(EMBER_BAD_BYTE, 0xfe, 0xf8, 0xff);
+    FIRST(EMBER_BAD_ESCAPE, 0xfe, 0xfd, 0xff);
+    FIRST(EMBER_BAD_SHORT, 0xfe, 0xfe, 0xff);
+    FIRST(EMBER_BAD_CRC, 0xfe, 0x00, 0x0e, 0x01, 0x01, 0x94, 0xe5, 0xff);
 
     memset(bytes, 0, sizeof bytes);
     bytes[0] = 0xfe;
     bytes[1 + 1025] = 0xff;
     fresh();
-    expect("EMBER_LONG", feed(bytes, 1 + 1025 + 1), EMBER_LONG);
+    expect("EMBER_BAD_LONG", feed(bytes, 1 + 1025 + 1), EMBER_BAD_LONG);
 
     fresh();
     memcpy(bytes, "\x01\x0e\x01\x01", 4);
-    expect("EMBER_HEADER", feed_content(bytes, 4), EMBER_HEADER);
-    expect("EMBER_FLAGS", feed_packet(0xc1, 0x01, 1), EMBER_FLAGS);
-    expect("EMBER_DTD", feed_packet(0xc0, 0x02, 1), EMBER_DTD);
-    expect("EMBER_ORPHAN", feed_packet(0x40, 0x01, 1), EMBER_ORPHAN);
+    expect("EMBER_BAD_HEADER", feed_content(bytes, 4), EMBER_BAD_HEADER);
+    expect("EMBER_BAD_FLAGS", feed_packet(0xc1, 0x01, 1), EMBER_BAD_FLAGS);
+    expect("EMBER_BAD_DTD", feed_packet(0xc0, 0x02, 1), EMBER_BAD_DTD);
+    expect("EMBER_BAD_ORPHAN", feed_packet(0x40, 0x01, 1), EMBER_BAD_ORPHAN);
     expect("EMBER_PIECE", feed_packet(0x80, 0x01, 1013), EMBER_PIECE);
     for (int piece = 2; piece <= 16; piece++)
         expect("EMBER_PIECE", feed_packet(0x00, 0x01, 1013), EMBER_PIECE);
-    expect("EMBER_BIG", feed_packet(0x00, 0x01, 1013), EMBER_BIG);
+    expect("EMBER_BAD_BIG", feed_packet(0x00, 0x01, 1013), EMBER_BAD_BIG);
     expect("fed[EMBER_DISCARDED]", fed[EMBER_DISCARDED], 1);
     expect("EMBER_MESSAGE", feed_packet(0xc0, 0x01, 7), EMBER_MESSAGE);
     expect("fed[EMBER_DISCARDED]", fed[EMBER_DISCARDED], 0);
@@ -150,7 +150,7 @@ static void writers(void)
     static uint8_t content[16385], out[EMBER_FRAMES_MAX + 1];
     uint64_t count = 0, longest = 0;
     expect("content at most", ember_write_frame(content, EMBER_CONTENT_MAX, out, sizeof out, &count), EMBER_DONE);
-    expect("EMBER_OUT", ember_write_frame(content, EMBER_CONTENT_MAX + 1, out, sizeof out, &count), EMBER_OUT);
+    expect("EMBER_NO_OUT", ember_write_frame(content, EMBER_CONTENT_MAX + 1, out, sizeof out, &count), EMBER_NO_OUT);
     /* Escaped throughout; some CRC is too. */
     memset(content, 0xff, sizeof content);
     for (unsigned last = 0; last < 8 * 8 * 8 * 8 * 8; last++) {
@@ -164,15 +164,15 @@ static void writers(void)
     }
     expect("EMBER_FRAME_MAX", longest, EMBER_FRAME_MAX);
     expect("a frame that just fits", ember_write_frame(content, EMBER_CONTENT_MAX, out, longest, &count), EMBER_DONE);
-    expect("one byte less", ember_write_frame(content, EMBER_CONTENT_MAX, out, longest - 1, &count), EMBER_OUT);
+    expect("one byte less", ember_write_frame(content, EMBER_CONTENT_MAX, out, longest - 1, &count), EMBER_NO_OUT);
     expect("a message in 17 frames", ember_write_message(content, 16384, out, EMBER_FRAMES_MAX, &count), EMBER_DONE);
-    expect("a message too long", ember_write_message(content, 16385, out, sizeof out, &count), EMBER_OUT);
+    expect("a message too long", ember_write_message(content, 16385, out, sizeof out, &count), EMBER_NO_OUT);
     expect("ember_write_request", ember_write_request(out, 8, &count), EMBER_DONE);
     expect("its count", count, 8);
-    expect("ember_write_request", ember_write_request(out, 7, &count), EMBER_OUT);
+    expect("ember_write_request", ember_write_request(out, 7, &count), EMBER_NO_OUT);
     expect("ember_write_response", ember_write_response(out, 9, &count), EMBER_DONE);
     expect("its count", count, 9);
-    expect("ember_write_response", ember_write_response(out, 8, &count), EMBER_OUT);
+    expect("ember_write_response", ember_write_response(out, 8, &count), EMBER_NO_OUT);
 }
 
 /* ---- the tree */
@@ -210,16 +210,16 @@ static void tree_numbers(void)
     expect("its number", cell(0, 0, 1), 32);
     expect("no mask", cell(0, 1, 0), EMBER_TYPE_ABSENT);
 
-    ANSWERS(EMBER_BER, EMBER_PLACE, 4, 0x60, 0x02, 0x6b, 0x00, 0x00);
-    ANSWERS(EMBER_FORM, EMBER_PLACE, 2, 0x60, 0x80, 0x6b, 0x00, 0x00, 0x00);
-    ANSWERS(EMBER_GLOW, EMBER_PLACE, 0, 0x61, 0x00);
-    ANSWERS(EMBER_NUMBER, EMBER_PLACE, 10, 0x60, 0x0b, 0x6b, 0x09, 0xa0, 0x07, 0x63, 0x05, 0xa0, 0x03, 0x02, 0x01, 0x00);
-    ANSWERS(EMBER_REAL, EMBER_PLACE, 19, 0x60, 0x14, 0x6b, 0x12, 0xa0, 0x10, 0x61, 0x0e, 0xa0, 0x03, 0x02, 0x01, 0x01, 0xa1, 0x07, 0x31, 0x05,
+    ANSWERS(EMBER_BAD_BER, EMBER_PLACE, 4, 0x60, 0x02, 0x6b, 0x00, 0x00);
+    ANSWERS(EMBER_BAD_FORM, EMBER_PLACE, 2, 0x60, 0x80, 0x6b, 0x00, 0x00, 0x00);
+    ANSWERS(EMBER_BAD_GLOW, EMBER_PLACE, 0, 0x61, 0x00);
+    ANSWERS(EMBER_BAD_NUMBER, EMBER_PLACE, 10, 0x60, 0x0b, 0x6b, 0x09, 0xa0, 0x07, 0x63, 0x05, 0xa0, 0x03, 0x02, 0x01, 0x00);
+    ANSWERS(EMBER_BAD_REAL, EMBER_PLACE, 19, 0x60, 0x14, 0x6b, 0x12, 0xa0, 0x10, 0x61, 0x0e, 0xa0, 0x03, 0x02, 0x01, 0x01, 0xa1, 0x07, 0x31, 0x05,
             0xa2, 0x03, 0x09, 0x01, 0x42);
-    ANSWERS(EMBER_NAME, EMBER_PLACE, 19, 0x60, 0x14, 0x6b, 0x12, 0xa0, 0x10, 0x63, 0x0e, 0xa0, 0x03, 0x02, 0x01, 0x01, 0xa1, 0x07, 0x31, 0x05,
+    ANSWERS(EMBER_BAD_NAME, EMBER_PLACE, 19, 0x60, 0x14, 0x6b, 0x12, 0xa0, 0x10, 0x63, 0x0e, 0xa0, 0x03, 0x02, 0x01, 0x01, 0xa1, 0x07, 0x31, 0x05,
             0xa0, 0x03, 0x0c, 0x01, 0x2f);
-    ANSWERS(EMBER_PATH, EMBER_PLACE, 10, 0x60, 0x0a, 0x6b, 0x08, 0xa0, 0x06, 0x6a, 0x04, 0xa0, 0x02, 0x0d, 0x00);
-    ANSWERS(EMBER_ROOM, EMBER_COUNT, 2, 0x60, 0x14, 0x6b, 0x12, 0xa0, 0x07, 0x62, 0x05, 0xa0, 0x03, 0x02, 0x01, 0x20, 0xa0, 0x07, 0x62, 0x05,
+    ANSWERS(EMBER_BAD_PATH, EMBER_PLACE, 10, 0x60, 0x0a, 0x6b, 0x08, 0xa0, 0x06, 0x6a, 0x04, 0xa0, 0x02, 0x0d, 0x00);
+    ANSWERS(EMBER_NO_ROOM, EMBER_COUNT, 2, 0x60, 0x14, 0x6b, 0x12, 0xa0, 0x07, 0x62, 0x05, 0xa0, 0x03, 0x02, 0x01, 0x20, 0xa0, 0x07, 0x62, 0x05,
             0xa0, 0x03, 0x02, 0x01, 0x20);
 
     /* Unlisted containers in a command, below the four that hold it: the 65th is one too many. */
@@ -231,8 +231,8 @@ static void tree_numbers(void)
         if (i + 1 < sizeof deep)
             deep[i + 1] = 0x80;
     }
-    expect("EMBER_DEPTH", read_into(deep, sizeof deep, 1), EMBER_DEPTH);
-    expect("EMBER_DEPTH, its place", answer[EMBER_PLACE], 8 + sizeof number + 60 * 2);
+    expect("EMBER_BAD_DEPTH", read_into(deep, sizeof deep, 1), EMBER_BAD_DEPTH);
+    expect("EMBER_BAD_DEPTH, its place", answer[EMBER_PLACE], 8 + sizeof number + 60 * 2);
 }
 
 /* A message with an element of each kind, and values of each type. */
@@ -283,7 +283,7 @@ static void tree_rows(void)
     expect("path, its length", cell(5, 0, 2), 2);
     expect("sources", cell(6, 1, 0), EMBER_TYPE_RELATIVE_OID);
     expect("operation", cell(7, 2, 1), 2);
-    expect("a stream without its value", read_into(streams, sizeof streams, 1), EMBER_GLOW);
+    expect("a stream without its value", read_into(streams, sizeof streams, 1), EMBER_BAD_GLOW);
     static const uint8_t stream[] = {0x60, 0x10, 0x65, 0x0e, 0xa0, 0x0c, 0x66, 0x0a, 0xa0, 0x03, 0x02, 0x01, 0x05, 0xa1, 0x03, 0x01, 0x01, 0x00};
     expect("a stream", read_into(stream, sizeof stream, 1), EMBER_DONE);
     expect("streams", answer[EMBER_ROOT], EMBER_STREAMS);
@@ -299,7 +299,7 @@ static void tree_lengths(void)
     expect("words of the answer", ember_read(message, 4, table, 1, answer, EMBER_READ_WORDS - 1), EMBER_SETUP);
     expect("words of the answer", ember_read(message, 4, table, 1, answer, EMBER_READ_WORDS + 1), EMBER_SETUP);
     expect("the answer as it was", answer[0], 0xeeeeeeeeeeeeeeeeull);
-    expect("bytes at the limit", read_into(message, EMBER_MESSAGE_MAX, EMBER_ROWS_MAX), EMBER_BER);
+    expect("bytes at the limit", read_into(message, EMBER_MESSAGE_MAX, EMBER_ROWS_MAX), EMBER_BAD_BER);
     expect("no rows", read_into(message, 4, 0), EMBER_DONE);
 }
 
@@ -312,7 +312,7 @@ static void writing(void)
     uint64_t length[EMBER_WRITE_WORDS + 1] = {0};
     expect("read", read_into(message, sizeof message, 1), EMBER_DONE);
     memset(out, 0xee, sizeof out);
-    expect("too short", ember_write(rows, 1, 1, EMBER_ELEMENTS, message, sizeof message, out, sizeof message - 1, length, EMBER_WRITE_WORDS), EMBER_OUT);
+    expect("too short", ember_write(rows, 1, 1, EMBER_ELEMENTS, message, sizeof message, out, sizeof message - 1, length, EMBER_WRITE_WORDS), EMBER_NO_OUT);
     expect("the output as it was", out[0], 0xee);
     expect("words", ember_write(rows, 1, 1, EMBER_ELEMENTS, message, sizeof message, out, sizeof out, length, EMBER_WRITE_WORDS - 1), EMBER_SETUP);
     expect("words", ember_write(rows, 1, 1, EMBER_ELEMENTS, message, sizeof message, out, sizeof out, length, EMBER_WRITE_WORDS + 1), EMBER_SETUP);
@@ -327,7 +327,7 @@ static void writing(void)
     expect("an empty tree", ember_write(rows, 0, 0, EMBER_STREAMS, message, 0, out, sizeof out, length, EMBER_WRITE_WORDS), EMBER_DONE);
     expect("its length", length[0], 4);
     table[0][EMBER_ROW_PARENT] = 1;
-    expect("its own parent", ember_write(rows, 1, 1, EMBER_ELEMENTS, message, sizeof message, out, sizeof out, length, EMBER_WRITE_WORDS), EMBER_OUT);
+    expect("its own parent", ember_write(rows, 1, 1, EMBER_ELEMENTS, message, sizeof message, out, sizeof out, length, EMBER_WRITE_WORDS), EMBER_NO_OUT);
     expect("no length", length[0], 0);
 }
 
@@ -383,24 +383,24 @@ static void desk(void)
     expect("cleared", crosspoints[EMBER_CROSSPOINTS - 1], 0);
     expect("no more than these", crosspoints[EMBER_CROSSPOINTS], 0xee);
     expect("a path of 16", ember_desk_open(figures, EMBER_FIGURES_WORDS, 0, path, EMBER_PATH_MAX, crosspoints, EMBER_CROSSPOINTS), EMBER_DONE);
-    expect("a path of 17", ember_desk_open(figures, EMBER_FIGURES_WORDS, 0, path, EMBER_PATH_MAX + 1, crosspoints, EMBER_CROSSPOINTS), EMBER_DESK);
-    expect("no path", ember_desk_open(figures, EMBER_FIGURES_WORDS, 0, path, 0, crosspoints, EMBER_CROSSPOINTS), EMBER_DESK);
-    expect("mode 1", ember_desk_open(figures, EMBER_FIGURES_WORDS, 1, path, 2, crosspoints, EMBER_CROSSPOINTS), EMBER_DESK);
+    expect("a path of 17", ember_desk_open(figures, EMBER_FIGURES_WORDS, 0, path, EMBER_PATH_MAX + 1, crosspoints, EMBER_CROSSPOINTS), EMBER_BAD_DESK);
+    expect("no path", ember_desk_open(figures, EMBER_FIGURES_WORDS, 0, path, 0, crosspoints, EMBER_CROSSPOINTS), EMBER_BAD_DESK);
+    expect("mode 1", ember_desk_open(figures, EMBER_FIGURES_WORDS, 1, path, 2, crosspoints, EMBER_CROSSPOINTS), EMBER_BAD_DESK);
     expect("it is legal", is_legal(), 1);
     expect("without a path it is not", ember_desk_is_legal(figures, EMBER_FIGURES_WORDS, path, 0, crosspoints, EMBER_CROSSPOINTS), 0);
 
     make_figures(EMBER_N_TO_N, EMBER_SIDE_MAX + 1, 1);
-    expect("65 targets", open_desk(), EMBER_DESK);
+    expect("65 targets", open_desk(), EMBER_BAD_DESK);
     make_figures(EMBER_N_TO_N, 1, EMBER_SIDE_MAX + 1);
-    expect("65 sources", open_desk(), EMBER_DESK);
+    expect("65 sources", open_desk(), EMBER_BAD_DESK);
     make_figures(EMBER_N_TO_N + 1, 1, 1);
-    expect("no type", open_desk(), EMBER_DESK);
+    expect("no type", open_desk(), EMBER_BAD_DESK);
     make_figures(EMBER_N_TO_N, 1, 1);
     figures[EMBER_FIGURES_TOTAL] = 1;
     expect("a limit that is not given", open_desk(), EMBER_SETUP);
     expect("nor legal", is_legal(), 0);
     limit(EMBER_FIGURES_HAS_TOTAL, EMBER_FIGURES_TOTAL, 0);
-    expect("a limit of 0", open_desk(), EMBER_DESK);
+    expect("a limit of 0", open_desk(), EMBER_BAD_DESK);
     figures[EMBER_FIGURES_HAS_TOTAL] = 2;
     expect("given twice", open_desk(), EMBER_SETUP);
     figures[EMBER_FIGURES_HAS_TOTAL] = figures[EMBER_FIGURES_TOTAL] = 0;
@@ -410,9 +410,9 @@ static void desk(void)
     /* 1:N: a target has one source */
     make_figures(EMBER_ONE_TO_N, 2, 3);
     expect("open", open_desk(), EMBER_DONE);
-    expect("EMBER_TARGET", ask(2, EMBER_CONNECT, 1, 0, 0), EMBER_TARGET);
-    expect("EMBER_SOURCE", ask(1, EMBER_CONNECT, 1, 3, 0), EMBER_SOURCE);
-    expect("EMBER_MANY", ask(1, EMBER_CONNECT, 2, 0, 1), EMBER_MANY);
+    expect("EMBER_NO_TARGET", ask(2, EMBER_CONNECT, 1, 0, 0), EMBER_NO_TARGET);
+    expect("EMBER_NO_SOURCE", ask(1, EMBER_CONNECT, 1, 3, 0), EMBER_NO_SOURCE);
+    expect("EMBER_BAD_MANY", ask(1, EMBER_CONNECT, 2, 0, 1), EMBER_BAD_MANY);
     expect("no operation", ask(1, EMBER_DISCONNECT + 1, 1, 0, 0), EMBER_SETUP);
     expect("connect", ask(1, EMBER_CONNECT, 1, 2, 0), EMBER_DONE);
     expect("connected", crosspoints[EMBER_CROSSPOINT(1, 2)], 1);
@@ -440,8 +440,8 @@ static void desk(void)
     limit(EMBER_FIGURES_HAS_EACH, EMBER_FIGURES_EACH, 2);
     expect("open", open_desk(), EMBER_DONE);
     expect("two", ask(0, EMBER_CONNECT, 2, 0, 1), EMBER_DONE);
-    expect("EMBER_MANY", ask(0, EMBER_CONNECT, 1, 2, 0), EMBER_MANY);
-    expect("EMBER_TOTAL", ask(1, EMBER_ABSOLUTE, 2, 0, 1), EMBER_TOTAL);
+    expect("EMBER_BAD_MANY", ask(0, EMBER_CONNECT, 1, 2, 0), EMBER_BAD_MANY);
+    expect("EMBER_BAD_TOTAL", ask(1, EMBER_ABSOLUTE, 2, 0, 1), EMBER_BAD_TOTAL);
     expect("three", ask(1, EMBER_ABSOLUTE, 1, 1, 0), EMBER_DONE);
 }
 
@@ -496,7 +496,7 @@ static void desk_calls(void)
                                      EMBER_CROSSPOINTS, answers, count, words, EMBER_CALL_WORDS), EMBER_DONE);
     expect("answers", words[0], 2);
     expect("ours", answers[0], EMBER_DONE);
-    expect("another's", answers[1], EMBER_MATRIX);
+    expect("another's", answers[1], EMBER_NO_MATRIX);
     expect("connected", crosspoints[EMBER_CROSSPOINT(1, 2)], 1);
 }
 
@@ -541,19 +541,19 @@ static void turns(void)
     expect("served", turn_words[EMBER_TURN_DESK], EMBER_DONE);
     expect("answers", turn_words[EMBER_TURN_ANSWERS], 2);
     expect("ours", turn_answers[0], EMBER_DONE);
-    expect("another's", turn_answers[1], EMBER_MATRIX);
+    expect("another's", turn_answers[1], EMBER_NO_MATRIX);
     expect("connected", crosspoints[EMBER_CROSSPOINT(1, 2)], 1);
     expect("rows past the count", table[4][0], 0xeeeeeeeeeeeeeeeeull);
 
     expect("three rows", turn(frames, count, 3, 3, 2, EMBER_CROSSPOINTS, EMBER_TURN_WORDS), EMBER_MESSAGE);
-    expect("EMBER_ROOM", turn_words[EMBER_TURN_TREE], EMBER_ROOM);
+    expect("EMBER_NO_ROOM", turn_words[EMBER_TURN_TREE], EMBER_NO_ROOM);
     expect("how many", turn_words[EMBER_TURN_COUNT], 4);
 
     /* one byte too many after Root */
     message[message_bytes] = 0;
     expect("frames", ember_write_message(message, message_bytes + 1, frames, sizeof frames, &count), EMBER_DONE);
     expect("a turn", turn(frames, count, EMBER_ROWS_MAX, EMBER_ROWS_MAX, 2, EMBER_CROSSPOINTS, EMBER_TURN_WORDS), EMBER_MESSAGE);
-    expect("EMBER_BER", turn_words[EMBER_TURN_TREE], EMBER_BER);
+    expect("EMBER_BAD_BER", turn_words[EMBER_TURN_TREE], EMBER_BAD_BER);
     expect("its place", turn_words[EMBER_TURN_PLACE], message_bytes);
 
     /* a desk that is not legal: the message is read, and the desk says 1 */
@@ -596,7 +596,7 @@ static void sheets(void)
                more == 0 ? EMBER_DONE : EMBER_SETUP);
     expect("the longest sheet fits", length[0] <= EMBER_SHEET_MAX, 1);
     expect("and is long", length[0] > EMBER_SHEET_MAX / 3, 1);
-    expect("one byte less", ember_sheet_write(figures, EMBER_FIGURES_WORDS, path, EMBER_PATH_MAX, crosspoints, EMBER_CROSSPOINTS, sheet, length[0] - 1, length, EMBER_SHEET_WORDS), EMBER_OUT);
+    expect("one byte less", ember_sheet_write(figures, EMBER_FIGURES_WORDS, path, EMBER_PATH_MAX, crosspoints, EMBER_CROSSPOINTS, sheet, length[0] - 1, length, EMBER_SHEET_WORDS), EMBER_NO_OUT);
     expect("no length", length[0], 0);
     expect("written", ember_sheet_write(figures, EMBER_FIGURES_WORDS, path, EMBER_PATH_MAX, crosspoints, EMBER_CROSSPOINTS, sheet, sizeof sheet, length, EMBER_SHEET_WORDS), EMBER_DONE);
     memset(figures, 0, sizeof figures);
@@ -609,9 +609,9 @@ static void sheets(void)
         expect("crosspoints", read_sheet(length[0], EMBER_ROWS_MAX, EMBER_FIGURES_WORDS, EMBER_PATH_MAX, EMBER_CROSSPOINTS + more, EMBER_SHEET_WORDS), EMBER_SETUP);
         expect("words", read_sheet(length[0], EMBER_ROWS_MAX, EMBER_FIGURES_WORDS, EMBER_PATH_MAX, EMBER_CROSSPOINTS, EMBER_SHEET_WORDS + more), EMBER_SETUP);
     }
-    expect("cut off", read_sheet(length[0] - 2, EMBER_ROWS_MAX, EMBER_FIGURES_WORDS, EMBER_PATH_MAX, EMBER_CROSSPOINTS, EMBER_SHEET_WORDS), EMBER_BYTE);
+    expect("cut off", read_sheet(length[0] - 2, EMBER_ROWS_MAX, EMBER_FIGURES_WORDS, EMBER_PATH_MAX, EMBER_CROSSPOINTS, EMBER_SHEET_WORDS), EMBER_BAD_BYTE);
     expect("as they were", path[0] + figures[1] + crosspoints[0], 5);
-    expect("nothing", read_sheet(0, EMBER_ROWS_MAX, EMBER_FIGURES_WORDS, EMBER_PATH_MAX, EMBER_CROSSPOINTS, EMBER_SHEET_WORDS), EMBER_GLOW);
+    expect("nothing", read_sheet(0, EMBER_ROWS_MAX, EMBER_FIGURES_WORDS, EMBER_PATH_MAX, EMBER_CROSSPOINTS, EMBER_SHEET_WORDS), EMBER_BAD_GLOW);
     expect("no numbers", answer[0], 0);
     expect("read", read_sheet(length[0], EMBER_ROWS_MAX, EMBER_FIGURES_WORDS, EMBER_PATH_MAX, EMBER_CROSSPOINTS, EMBER_SHEET_WORDS), EMBER_DONE);
     expect("numbers", answer[0], EMBER_PATH_MAX);
@@ -910,7 +910,7 @@ static void message_order(void)
     expect("a member that is not listed", read_into(passed, sizeof passed, 1), EMBER_DONE);
     for (size_t c = 1; c < 16; c++)
         expect("nothing of it is kept", cell(0, c, 0), EMBER_TYPE_ABSENT);
-    ANSWERS(EMBER_GLOW, EMBER_PLACE, 6, 0x60, 0x0b, 0x6b, 0x09, 0xa0, 0x07, 0x73, 0x05, 0xa0, 0x03, 0x02, 0x01, 0x01);
+    ANSWERS(EMBER_BAD_GLOW, EMBER_PLACE, 6, 0x60, 0x0b, 0x6b, 0x09, 0xa0, 0x07, 0x73, 0x05, 0xa0, 0x03, 0x02, 0x01, 0x01);
     element(0, EMBER_KIND_NODE, 0);
     ember_put_bytes(table[0], EMBER_DESCRIPTION, EMBER_TYPE_TEXT, 0, 2);
     expect("a text that is no UTF-8", ember_accepts(ember_rows(table), 1, 1, EMBER_ELEMENTS, bad, sizeof bad), 1);

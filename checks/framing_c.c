@@ -75,29 +75,29 @@ static void events(void)
     expect("FRAMING_DONE", feed(NULL, 0), FRAMING_DONE);
     FIRST(FRAMING_REQUEST, 0xfe, 0x00, 0x0e, 0x01, 0x01, 0x94, 0xe4, 0xff);
     FIRST(FRAMING_RESPONSE, 0xfe, 0x00, 0x0e, 0x02, 0x01, 0xfd, 0xdc, 0xce, 0xff);
-    FIRST(FRAMING_STRAY, 0x00);
-    FIRST(FRAMING_CUT, 0xfe, 0x00, 0xfe);
-    FIRST(FRAMING_BYTE, 0xfe, 0xf8, 0xff);
-    FIRST(FRAMING_ESCAPE, 0xfe, 0xfd, 0xff);
-    FIRST(FRAMING_SHORT, 0xfe, 0xfe, 0xff);
-    FIRST(FRAMING_CRC, 0xfe, 0x00, 0x0e, 0x01, 0x01, 0x94, 0xe5, 0xff);
+    FIRST(FRAMING_BAD_STRAY, 0x00);
+    FIRST(FRAMING_BAD_CUT, 0xfe, 0x00, 0xfe);
+    FIRST(FRAMING_BAD_BYTE, 0xfe, 0xf8, 0xff);
+    FIRST(FRAMING_BAD_ESCAPE, 0xfe, 0xfd, 0xff);
+    FIRST(FRAMING_BAD_SHORT, 0xfe, 0xfe, 0xff);
+    FIRST(FRAMING_BAD_CRC, 0xfe, 0x00, 0x0e, 0x01, 0x01, 0x94, 0xe5, 0xff);
 
     memset(bytes, 0, sizeof bytes);
     bytes[0] = 0xfe;
     bytes[1 + 1025] = 0xff;
     fresh();
-    expect("FRAMING_LONG", feed(bytes, 1 + 1025 + 1), FRAMING_LONG);
+    expect("FRAMING_BAD_LONG", feed(bytes, 1 + 1025 + 1), FRAMING_BAD_LONG);
 
     fresh();
     memcpy(bytes, "\x01\x0e\x01\x01", 4);
-    expect("FRAMING_HEADER", feed_content(bytes, 4), FRAMING_HEADER);
-    expect("FRAMING_FLAGS", feed_packet(0xc1, 0x01, 1), FRAMING_FLAGS);
-    expect("FRAMING_DTD", feed_packet(0xc0, 0x02, 1), FRAMING_DTD);
-    expect("FRAMING_ORPHAN", feed_packet(0x40, 0x01, 1), FRAMING_ORPHAN);
+    expect("FRAMING_BAD_HEADER", feed_content(bytes, 4), FRAMING_BAD_HEADER);
+    expect("FRAMING_BAD_FLAGS", feed_packet(0xc1, 0x01, 1), FRAMING_BAD_FLAGS);
+    expect("FRAMING_BAD_DTD", feed_packet(0xc0, 0x02, 1), FRAMING_BAD_DTD);
+    expect("FRAMING_BAD_ORPHAN", feed_packet(0x40, 0x01, 1), FRAMING_BAD_ORPHAN);
     expect("FRAMING_PIECE", feed_packet(0x80, 0x01, 1013), FRAMING_PIECE);
     for (int piece = 2; piece <= 16; piece++)
         expect("FRAMING_PIECE", feed_packet(0x00, 0x01, 1013), FRAMING_PIECE);
-    expect("FRAMING_BIG", feed_packet(0x00, 0x01, 1013), FRAMING_BIG);
+    expect("FRAMING_BAD_BIG", feed_packet(0x00, 0x01, 1013), FRAMING_BAD_BIG);
     expect("answer[FRAMING_DISCARDED]", answer[FRAMING_DISCARDED], 1);
     expect("FRAMING_MESSAGE", feed_packet(0xc0, 0x01, 7), FRAMING_MESSAGE);
     expect("answer[FRAMING_DISCARDED]", answer[FRAMING_DISCARDED], 0);
@@ -148,7 +148,7 @@ static void writers(void)
     static uint8_t content[16385], out[17 * FRAMING_FRAME_MAX + 1];
     uint64_t count = 0, longest = 0;
     expect("content at most", framing_write_frame(content, FRAMING_CONTENT_MAX, out, sizeof out, &count), FRAMING_DONE);
-    expect("FRAMING_OUT", framing_write_frame(content, FRAMING_CONTENT_MAX + 1, out, sizeof out, &count), FRAMING_OUT);
+    expect("FRAMING_NO_OUT", framing_write_frame(content, FRAMING_CONTENT_MAX + 1, out, sizeof out, &count), FRAMING_NO_OUT);
     /* Escaped throughout; some CRC is too. */
     memset(content, 0xff, sizeof content);
     for (unsigned last = 0; last < 8 * 8 * 8 * 8 * 8; last++) {
@@ -162,19 +162,56 @@ static void writers(void)
     }
     expect("FRAMING_FRAME_MAX", longest, FRAMING_FRAME_MAX);
     expect("a frame that just fits", framing_write_frame(content, FRAMING_CONTENT_MAX, out, longest, &count), FRAMING_DONE);
-    expect("one byte less", framing_write_frame(content, FRAMING_CONTENT_MAX, out, longest - 1, &count), FRAMING_OUT);
-    expect("a message in 17 frames", framing_write_message(content, 16384, out, 17 * FRAMING_FRAME_MAX, &count), FRAMING_DONE);
-    expect("a message too long", framing_write_message(content, 16385, out, sizeof out, &count), FRAMING_OUT);
+    expect("one byte less", framing_write_frame(content, FRAMING_CONTENT_MAX, out, longest - 1, &count), FRAMING_NO_OUT);
+    expect("a message in 17 frames", framing_write_message(content, 16384, out, FRAMING_FRAMES_MAX, &count), FRAMING_DONE);
+    expect("17 frames", FRAMING_FRAMES_MAX, 17 * FRAMING_FRAME_MAX);
+    expect("a message too long", framing_write_message(content, 16385, out, sizeof out, &count), FRAMING_NO_OUT);
     expect("framing_write_request", framing_write_request(out, 8, &count), FRAMING_DONE);
     expect("its count", count, 8);
-    expect("framing_write_request", framing_write_request(out, 7, &count), FRAMING_OUT);
+    expect("framing_write_request", framing_write_request(out, 7, &count), FRAMING_NO_OUT);
     expect("framing_write_response", framing_write_response(out, 9, &count), FRAMING_DONE);
     expect("its count", count, 9);
-    expect("framing_write_response", framing_write_response(out, 8, &count), FRAMING_OUT);
+    expect("framing_write_response", framing_write_response(out, 8, &count), FRAMING_NO_OUT);
+}
+
+/* Numbers in words; and of a stream in chunks of each length the frames that pass, as they came. */
+static void gateway(void)
+{
+    static const uint8_t stream[] = {0x00, 0xfe, 0xfe, 0x00, 0x0e, 0x01, 0x01, 0x94, 0xe4, 0xff, 0xff, 0xfe, 0x00, 0xfe, 0x00, 0x0e,
+                                     0x01, 0x01, 0x94, 0xe5, 0xff, 0xfe, 0x00, 0x0e, 0x02, 0x01, 0xfd, 0xdc, 0xce, 0xff, 0x07};
+    uint64_t number;
+    size_t said = 0;
+    expect("version", FRAMING_VERSION_NUMBER, 200);
+    for (number = 0; number <= 100; number++)
+        said += strcmp(framing_say(number), "no such number") != 0;
+    expect("numbers that are said", said, 19);
+    for (size_t chunk = 1; chunk <= sizeof stream; chunk++) {
+        static struct framing_line line;
+        uint8_t passed[sizeof stream];
+        size_t length = 0;
+        expect("a line", framing_line_start(&line), FRAMING_DONE);
+        for (size_t at = 0; at < sizeof stream; at += line.consumed) {
+            size_t left = sizeof stream - at;
+            number = framing_line_feed(&line, stream + at, left < chunk ? left : chunk);
+            expect("its number", number, line.number);
+            expect("no message", line.message_bytes + (uint64_t)line.discarded, 0);
+            if (framing_passes(number)) {
+                memcpy(passed + length, line.frame.bytes, line.frame.length);
+                length += line.frame.length;
+            }
+        }
+        line.session[0] = 6;
+        expect("words that the host changed", framing_line_feed(&line, stream, 5), FRAMING_SETUP);
+        expect("and no loop", line.consumed, 5);
+        expect("bytes that pass", length, 17);
+        expect("a request", (uint64_t)memcmp(passed, stream + 2, 8), 0);
+        expect("a response", (uint64_t)memcmp(passed + 8, stream + 21, 9), 0);
+    }
 }
 
 int main(void)
 {
+    gateway();
     lengths();
     events();
     session_words();

@@ -47,16 +47,16 @@ static void numbers(void)
     expect("its number", cell(0, 0, 1), 32);
     expect("no mask", cell(0, 1, 0), GLOW_TYPE_ABSENT);
 
-    ANSWERS(GLOW_BER, GLOW_PLACE, 4, 0x60, 0x02, 0x6b, 0x00, 0x00);
-    ANSWERS(GLOW_FORM, GLOW_PLACE, 2, 0x60, 0x80, 0x6b, 0x00, 0x00, 0x00);
-    ANSWERS(GLOW_GLOW, GLOW_PLACE, 0, 0x61, 0x00);
-    ANSWERS(GLOW_NUMBER, GLOW_PLACE, 10, 0x60, 0x0b, 0x6b, 0x09, 0xa0, 0x07, 0x63, 0x05, 0xa0, 0x03, 0x02, 0x01, 0x00);
-    ANSWERS(GLOW_REAL, GLOW_PLACE, 19, 0x60, 0x14, 0x6b, 0x12, 0xa0, 0x10, 0x61, 0x0e, 0xa0, 0x03, 0x02, 0x01, 0x01, 0xa1, 0x07, 0x31, 0x05,
+    ANSWERS(GLOW_BAD_BER, GLOW_PLACE, 4, 0x60, 0x02, 0x6b, 0x00, 0x00);
+    ANSWERS(GLOW_BAD_FORM, GLOW_PLACE, 2, 0x60, 0x80, 0x6b, 0x00, 0x00, 0x00);
+    ANSWERS(GLOW_BAD_GLOW, GLOW_PLACE, 0, 0x61, 0x00);
+    ANSWERS(GLOW_BAD_NUMBER, GLOW_PLACE, 10, 0x60, 0x0b, 0x6b, 0x09, 0xa0, 0x07, 0x63, 0x05, 0xa0, 0x03, 0x02, 0x01, 0x00);
+    ANSWERS(GLOW_BAD_REAL, GLOW_PLACE, 19, 0x60, 0x14, 0x6b, 0x12, 0xa0, 0x10, 0x61, 0x0e, 0xa0, 0x03, 0x02, 0x01, 0x01, 0xa1, 0x07, 0x31, 0x05,
             0xa2, 0x03, 0x09, 0x01, 0x42);
-    ANSWERS(GLOW_NAME, GLOW_PLACE, 19, 0x60, 0x14, 0x6b, 0x12, 0xa0, 0x10, 0x63, 0x0e, 0xa0, 0x03, 0x02, 0x01, 0x01, 0xa1, 0x07, 0x31, 0x05,
+    ANSWERS(GLOW_BAD_NAME, GLOW_PLACE, 19, 0x60, 0x14, 0x6b, 0x12, 0xa0, 0x10, 0x63, 0x0e, 0xa0, 0x03, 0x02, 0x01, 0x01, 0xa1, 0x07, 0x31, 0x05,
             0xa0, 0x03, 0x0c, 0x01, 0x2f);
-    ANSWERS(GLOW_PATH, GLOW_PLACE, 10, 0x60, 0x0a, 0x6b, 0x08, 0xa0, 0x06, 0x6a, 0x04, 0xa0, 0x02, 0x0d, 0x00);
-    ANSWERS(GLOW_ROOM, GLOW_COUNT, 2, 0x60, 0x14, 0x6b, 0x12, 0xa0, 0x07, 0x62, 0x05, 0xa0, 0x03, 0x02, 0x01, 0x20, 0xa0, 0x07, 0x62, 0x05,
+    ANSWERS(GLOW_BAD_PATH, GLOW_PLACE, 10, 0x60, 0x0a, 0x6b, 0x08, 0xa0, 0x06, 0x6a, 0x04, 0xa0, 0x02, 0x0d, 0x00);
+    ANSWERS(GLOW_NO_ROOM, GLOW_COUNT, 2, 0x60, 0x14, 0x6b, 0x12, 0xa0, 0x07, 0x62, 0x05, 0xa0, 0x03, 0x02, 0x01, 0x20, 0xa0, 0x07, 0x62, 0x05,
             0xa0, 0x03, 0x02, 0x01, 0x20);
 
     /* Unlisted containers in a command, below the four that hold it: the 65th is one too many. */
@@ -68,8 +68,8 @@ static void numbers(void)
         if (i + 1 < sizeof deep)
             deep[i + 1] = 0x80;
     }
-    expect("GLOW_DEPTH", read_into(deep, sizeof deep, 1), GLOW_DEPTH);
-    expect("GLOW_DEPTH, its place", answer[GLOW_PLACE], 8 + sizeof number + 60 * 2);
+    expect("GLOW_BAD_DEPTH", read_into(deep, sizeof deep, 1), GLOW_BAD_DEPTH);
+    expect("GLOW_BAD_DEPTH, its place", answer[GLOW_PLACE], 8 + sizeof number + 60 * 2);
 }
 
 /* A message with an element of each kind, and values of each type. */
@@ -120,7 +120,7 @@ static void rows(void)
     expect("path, its length", cell(5, 0, 2), 2);
     expect("sources", cell(6, 1, 0), GLOW_TYPE_RELATIVE_OID);
     expect("operation", cell(7, 2, 1), 2);
-    expect("a stream without its value", read_into(streams, sizeof streams, 1), GLOW_GLOW);
+    expect("a stream without its value", read_into(streams, sizeof streams, 1), GLOW_BAD_GLOW);
     static const uint8_t stream[] = {0x60, 0x10, 0x65, 0x0e, 0xa0, 0x0c, 0x66, 0x0a, 0xa0, 0x03, 0x02, 0x01, 0x05, 0xa1, 0x03, 0x01, 0x01, 0x00};
     expect("a stream", read_into(stream, sizeof stream, 1), GLOW_DONE);
     expect("streams", answer[GLOW_ROOT], GLOW_STREAMS);
@@ -136,7 +136,7 @@ static void lengths(void)
     expect("words of the answer", glow_read(message, 4, table, 1, answer, GLOW_ANSWER_WORDS - 1), GLOW_SETUP);
     expect("words of the answer", glow_read(message, 4, table, 1, answer, GLOW_ANSWER_WORDS + 1), GLOW_SETUP);
     expect("the answer as it was", answer[0], 0xeeeeeeeeeeeeeeeeull);
-    expect("bytes at the limit", read_into(message, GLOW_MESSAGE_MAX, GLOW_ROWS_MAX), GLOW_BER);
+    expect("bytes at the limit", read_into(message, GLOW_MESSAGE_MAX, GLOW_ROWS_MAX), GLOW_BAD_BER);
     expect("no rows", read_into(message, 4, 0), GLOW_DONE);
 }
 
@@ -149,7 +149,7 @@ static void writing(void)
     uint64_t length[GLOW_WRITE_WORDS + 1] = {0};
     expect("read", read_into(message, sizeof message, 1), GLOW_DONE);
     memset(out, 0xee, sizeof out);
-    expect("too short", glow_write(rows, 1, 1, GLOW_ELEMENTS, message, sizeof message, out, sizeof message - 1, length, GLOW_WRITE_WORDS), GLOW_OUT);
+    expect("too short", glow_write(rows, 1, 1, GLOW_ELEMENTS, message, sizeof message, out, sizeof message - 1, length, GLOW_WRITE_WORDS), GLOW_NO_OUT);
     expect("the output as it was", out[0], 0xee);
     expect("words", glow_write(rows, 1, 1, GLOW_ELEMENTS, message, sizeof message, out, sizeof out, length, GLOW_WRITE_WORDS - 1), GLOW_SETUP);
     expect("words", glow_write(rows, 1, 1, GLOW_ELEMENTS, message, sizeof message, out, sizeof out, length, GLOW_WRITE_WORDS + 1), GLOW_SETUP);
@@ -164,7 +164,7 @@ static void writing(void)
     expect("an empty tree", glow_write(rows, 0, 0, GLOW_STREAMS, message, 0, out, sizeof out, length, GLOW_WRITE_WORDS), GLOW_DONE);
     expect("its length", length[0], 4);
     table[0][GLOW_PARENT] = 1;
-    expect("its own parent", glow_write(rows, 1, 1, GLOW_ELEMENTS, message, sizeof message, out, sizeof out, length, GLOW_WRITE_WORDS), GLOW_OUT);
+    expect("its own parent", glow_write(rows, 1, 1, GLOW_ELEMENTS, message, sizeof message, out, sizeof out, length, GLOW_WRITE_WORDS), GLOW_NO_OUT);
     expect("no length", length[0], 0);
 }
 

@@ -3,6 +3,7 @@
 #include "supervision.h"
 
 #include <stdio.h>
+#include <string.h>
 
 static int wrong;
 
@@ -98,8 +99,35 @@ static void refused(void)
     }
 }
 
+/* Ticks that come out of order: as many as there are, none goes back, and the link lives as by the latest of them. */
+static void out_of_order(void)
+{
+    static const uint32_t starts[] = {0, 1, 4294967295u, 2147483648u, 4294967295u - 7000};
+    for (size_t i = 0; i < sizeof starts / sizeof *starts; i++) {
+        uint32_t latest = starts[i];
+        start(latest);
+        expect("later", supervision_later(&latest, starts[i] + 10), (uint32_t)(starts[i] + 10));
+        expect("a millisecond back", supervision_later(&latest, starts[i] + 9), (uint32_t)(starts[i] + 10));
+        expect("no time passed", show(latest, 0), SUPERVISION_NOTHING);
+        expect("half the range back", supervision_later(&latest, latest - 2147483647u), (uint32_t)(starts[i] + 10));
+        expect("half the range on", supervision_later(&latest, latest + 2147483647u), (uint32_t)(starts[i] + 10 + 2147483647u));
+        struct supervision_link link;
+        expect("a link", supervision_link_start(&link, starts[i]), SUPERVISION_NOTHING);
+        expect("a millisecond back", supervision_link_show(&link, starts[i] - 1, 0), SUPERVISION_NOTHING);
+        expect("asked by the latest", supervision_link_show(&link, starts[i] + SUPERVISION_SILENCE, 0), SUPERVISION_ASK);
+        expect("back again", supervision_link_show(&link, starts[i], 0), SUPERVISION_NOTHING);
+        expect("dead by the latest", supervision_link_show(&link, starts[i] + 2 * SUPERVISION_SILENCE, 0), SUPERVISION_DEAD);
+        start(starts[i]);
+        expect("bare, a millisecond back: 49 days", show(starts[i] - 1, 0), SUPERVISION_ASK);
+    }
+    for (uint64_t number = 0; number <= 5; number++)
+        expect("said", (uint64_t)(strcmp(supervision_say(number), "no such number") == 0), number == 5);
+    expect("version", SUPERVISION_VERSION_NUMBER, 200);
+}
+
 int main(void)
 {
+    out_of_order();
     lengths();
     silence();
     numbers();

@@ -19,7 +19,7 @@ static uint64_t target, source;
 static uint64_t path[EMBER_PATH_MAX];
 static size_t path_words;
 
-static ember_row table[EMBER_ROWS_MAX];
+static struct ember_line line;
 
 enum { GOING, CONNECTED, REFUSED, FAILED };
 
@@ -29,42 +29,32 @@ static int fail(const char *what)
     return FAILED;
 }
 
-/* The request, as a message and then as frames. */
+/* The request, in frames. */
 static int request(void)
 {
     ember_row rows[2];
-    uint8_t octets[5 * EMBER_PATH_MAX + 5], message[256], frames[EMBER_FRAME_MAX];
-    uint64_t length[EMBER_WRITE_WORDS], count;
-    size_t at = 0, start;
-    ember_begin(rows[0], EMBER_KIND_QUALIFIED_MATRIX, 0);
-    ember_encode(path, path_words, octets, sizeof octets, &at);
-    ember_put_bytes(rows[0], EMBER_NUMBER_OR_PATH, EMBER_TYPE_RELATIVE_OID, 0, at);
-    start = at;
-    ember_begin(rows[1], EMBER_KIND_CONNECTION, 1);
-    ember_put_integer(rows[1], EMBER_CONNECTION_TARGET, (int64_t)target);
-    ember_encode(&source, 1, octets, sizeof octets, &at);
-    ember_put_bytes(rows[1], EMBER_CONNECTION_SOURCES, EMBER_TYPE_RELATIVE_OID, start, at - start);
-    ember_put_integer(rows[1], EMBER_CONNECTION_OPERATION, EMBER_CONNECT);
-    if (ember_write(ember_rows(rows), 2, 2, EMBER_ELEMENTS, octets, at, message, sizeof message, length, EMBER_WRITE_WORDS) != EMBER_DONE)
+    uint8_t octets[128], frames[EMBER_FRAME_MAX];
+    struct ember_arena arena = ember_arena_of(octets, sizeof octets);
+    uint64_t count;
+    ember_qualified(rows[0], EMBER_KIND_QUALIFIED_MATRIX, &arena, path, path_words);
+    ember_connection(rows[1], EMBER_IN(0), &arena, target, &source, 1, EMBER_CONNECT);
+    if (ember_frames(ember_rows(rows), 2, EMBER_ELEMENTS, &arena, frames, sizeof frames, &count) != EMBER_DONE)
         return fail("no such request can be made");
-    if (ember_write_message(message, length[0], frames, sizeof frames, &count) != EMBER_DONE)
-        return fail("the request has no room");
     if (fwrite(frames, 1, count, stdout) != count || fflush(stdout) != 0)
         return fail("the output cannot be written");
     return GOING;
 }
 
 /* A matrix with its counts: is the errand possible on it? */
-static int announced(size_t count, size_t place, const uint8_t *message, size_t message_bytes)
+static int announced(size_t place)
 {
+    const uint64_t *row = line.table[place];
     int64_t targets, sources;
-    const char *name = "";
-    size_t letters = 0;
-    if (path_words != 0 || !ember_is_matrix(table[place]) || !ember_integer(table[place], EMBER_MATRIX_TARGETS, &targets)
-        || !ember_integer(table[place], EMBER_MATRIX_SOURCES, &sources))
+    size_t letters;
+    const char *name = ember_line_text_or(&line, place, EMBER_IDENTIFIER, "", &letters);
+    if (path_words != 0 || !ember_is_matrix(row) || !ember_integer(row, EMBER_MATRIX_TARGETS, &targets) || !ember_integer(row, EMBER_MATRIX_SOURCES, &sources))
         return GOING;
-    path_words = ember_path(ember_rows(table), count, place, message, message_bytes, path);
-    ember_text(table[place], EMBER_IDENTIFIER, message, message_bytes, &name, &letters);
+    path_words = ember_line_path(&line, place, path);
     fprintf(stderr, "matrix");
     for (size_t i = 0; i < path_words; i++)
         fprintf(stderr, "%c%" PRIu64, i == 0 ? ' ' : '.', path[i]);
@@ -73,53 +63,45 @@ static int announced(size_t count, size_t place, const uint8_t *message, size_t 
 }
 
 /* A connection: of our matrix and our target? Then it says which sources the target has. */
-static int connection(size_t count, size_t place, const uint8_t *message, size_t message_bytes)
+static int connection(size_t place)
 {
-    uint64_t sources[EMBER_ROWS_MAX], matrix[EMBER_PATH_MAX];
-    size_t n, found = 0;
-    int64_t t;
-    if (ember_kind(table[place]) != EMBER_KIND_CONNECTION || !ember_integer(table[place], EMBER_CONNECTION_TARGET, &t)
-        || (uint64_t)t != target)
+    const uint64_t *row = line.table[place];
+    struct ember_iterator sources = ember_iterate(row, EMBER_CONNECTION_SOURCES, line.store, line.message_bytes);
+    uint64_t matrix[EMBER_PATH_MAX], next;
+    int found = 0;
+    if (ember_kind(row) != EMBER_KIND_CONNECTION || (uint64_t)ember_integer_or(row, EMBER_CONNECTION_TARGET, -1) != target
+        || ember_line_path(&line, ember_parent(row), matrix) != path_words || memcmp(matrix, path, path_words * sizeof *path) != 0)
         return GOING;
-    n = ember_path(ember_rows(table), count, ember_parent(table[place]), message, message_bytes, matrix);
-    if (n != path_words || memcmp(matrix, path, n * sizeof *path) != 0)
-        return GOING;
-    n = ember_numbers(table[place], EMBER_CONNECTION_SOURCES, message, message_bytes, sources, EMBER_ROWS_MAX);
     fprintf(stderr, "target %" PRIu64 ": sources", target);
-    for (size_t i = 0; i < n && i < EMBER_ROWS_MAX; i++) {
-        fprintf(stderr, " %" PRIu64, sources[i]);
-        found |= sources[i] == source;
+    while (ember_next(&sources, &next)) {
+        fprintf(stderr, " %" PRIu64, next);
+        found |= next == source;
     }
     fputc('\n', stderr);
     return found ? CONNECTED : REFUSED;
 }
 
-/* A message: the announcement, until a matrix is found; then answers. */
-static int look(const uint8_t *message, size_t message_bytes)
+/* The entries of a message, if one was read: the announcement, until a matrix is found; then answers. */
+static int look(void)
 {
-    uint64_t told[EMBER_READ_WORDS];
     int searching = path_words == 0, state = GOING;
-    if (ember_read(message, message_bytes, table, EMBER_ROWS_MAX, told, EMBER_READ_WORDS) != EMBER_DONE)
-        return GOING;
-    for (size_t i = 0; i < told[EMBER_COUNT] && state == GOING; i++)
-        state = searching ? announced(told[EMBER_COUNT], i, message, message_bytes) : connection(told[EMBER_COUNT], i, message, message_bytes);
+    for (size_t i = 0; i < line.count && state == GOING; i++)
+        state = searching ? announced(i) : connection(i);
     return state;
 }
 
 int main(int words, char **word)
 {
-    static uint8_t store[EMBER_STORE_BYTES], input[65536];
-    uint64_t session[EMBER_SESSION_WORDS], fed[EMBER_FEED_WORDS];
+    static uint8_t input[65536];
     ssize_t got;
     if (words != 3)
         return fail("TARGET SOURCE");
     target = strtoull(word[1], NULL, 10);
     source = strtoull(word[2], NULL, 10);
-    ember_start(session, EMBER_SESSION_WORDS);
+    ember_line_listen(&line);
     while ((got = read(STDIN_FILENO, input, sizeof input)) > 0) {
-        for (size_t at = 0; at < (size_t)got; at += fed[EMBER_CONSUMED]) {
-            uint64_t event = ember_feed(session, EMBER_SESSION_WORDS, store, sizeof store, input + at, (size_t)got - at, fed, EMBER_FEED_WORDS);
-            int state = event == EMBER_MESSAGE ? look(store, fed[EMBER_LENGTH]) : event == EMBER_SETUP ? FAILED : GOING;
+        for (size_t at = 0; at < (size_t)got; at += line.consumed) {
+            int state = ember_line_turn(&line, input + at, (size_t)got - at) == EMBER_SETUP ? FAILED : look();
             if (state != GOING)
                 return state == CONNECTED ? 0 : 1;
         }

@@ -3,14 +3,14 @@
  * A row is `table[i]`, i under the count; a member is one of the cells that ember.h names (EMBER_PARAMETER_VALUE and so on);
  * the message is the one the table was read from, as long as it is there. No function here allocates or keeps anything,
  * and none reads past the row or the message: each tests what it uses. */
+#include "ember.h"
+
 #ifndef EMBER_ENTRIES_H
 #define EMBER_ENTRIES_H
 
 #include <stddef.h>
 #include <stdint.h>
 #include <string.h>
-
-#include "ember.h"
 
 #ifdef __cplusplus
 extern "C" {
@@ -73,7 +73,7 @@ static inline int ember_is_matrix(const uint64_t *row)
  * Never looks at its content. */
 static inline uint64_t ember_type(const uint64_t *row, size_t member)
 {
-    return member < 16 ? row[EMBER_ROW_CELLS + EMBER_CELL_WORDS * member] : EMBER_TYPE_ABSENT;
+    return member < 16 ? row[EMBER_ROW_CELLS + EMBER_CELL_WORDS * member] : (uint64_t)EMBER_TYPE_ABSENT;
 }
 
 /* 1 if a member was sent; else 0.
@@ -224,17 +224,132 @@ static inline size_t ember_path(const uint64_t (*table)[EMBER_ROW_WORDS], size_t
     return fronts + above;
 }
 
-/* ---- Rows made by hand, for ember_write. Whether they make a tree is ember_accepts' to say */
+/* ---- A member's value, or another where it is absent or of another type */
 
-/* Begins an entry: its kind, its parent's place in the table and 1, or 0 for Root; every member absent.
+/* An integer, or `otherwise`.
+ * Never converts a real or a boolean. */
+static inline int64_t ember_integer_or(const uint64_t *row, size_t member, int64_t otherwise)
+{
+    ember_integer(row, member, &otherwise);
+    return otherwise;
+}
+
+/* A real, or `otherwise`.
+ * Never converts an integer. */
+static inline double ember_real_or(const uint64_t *row, size_t member, double otherwise)
+{
+    ember_real(row, member, &otherwise);
+    return otherwise;
+}
+
+/* A boolean, or `otherwise`.
+ * Never converts a number. */
+static inline int ember_boolean_or(const uint64_t *row, size_t member, int otherwise)
+{
+    ember_boolean(row, member, &otherwise);
+    return otherwise;
+}
+
+/* A text and how many bytes it has, or `otherwise`, which ends in a 0, and its length.
+ * Never puts a 0 after a text that was sent: print it with "%.*s". */
+static inline const char *ember_text_or(const uint64_t *row, size_t member, const uint8_t *message, size_t message_bytes,
+                                        const char *otherwise, size_t *count)
+{
+    const char *text;
+    if (ember_text(row, member, message, message_bytes, &text, count))
+        return text;
+    *count = strlen(otherwise);
+    return otherwise;
+}
+
+/* The numbers of a path or of sources, one after another:
+ *     struct ember_iterator it = ember_iterate(row, EMBER_CONNECTION_SOURCES, message, message_bytes);
+ *     while (ember_next(&it, &source)) .. */
+struct ember_iterator {
+    const uint8_t *next;
+    size_t left;
+};
+
+/* Begins with the first number; there is none if the member is absent.
+ * Never copies them: the message stays as long as the iterator is asked. */
+static inline struct ember_iterator ember_iterate(const uint64_t *row, size_t member, const uint8_t *message, size_t message_bytes)
+{
+    struct ember_iterator it;
+    it.next = message;
+    it.left = 0;
+    ember_bytes(row, member, EMBER_TYPE_RELATIVE_OID, message, message_bytes, &it.next, &it.left);
+    return it;
+}
+
+/* Gives the next number and 1; or 0, with *number as it was, after the last.
+ * Never reads past the member. */
+static inline int ember_next(struct ember_iterator *it, uint64_t *number)
+{
+    uint64_t next = 0;
+    while (it->left > 0) {
+        uint8_t octet = *it->next++;
+        it->left--;
+        next = next << 7 | (octet & 0x7f);
+        if (octet < 0x80) {
+            *number = next;
+            return 1;
+        }
+    }
+    return 0;
+}
+
+/* How many entries the one at a place stands in: 0 in Root.
+ * Never more than count, whatever the rows say. */
+static inline size_t ember_depth(const uint64_t (*table)[EMBER_ROW_WORDS], size_t count, size_t place)
+{
+    size_t depth = 0;
+    while (place < count && depth < count && ember_has_parent(table[place])) {
+        place = ember_parent(table[place]);
+        depth++;
+    }
+    return depth;
+}
+
+/* The place of the connection that answer i is for, i from 0: answers of ember_turn and ember_desk_call are one for each connection.
+ * Never past count: that is the answer if there is no such connection. */
+static inline size_t ember_answered(const uint64_t (*table)[EMBER_ROW_WORDS], size_t count, size_t i)
+{
+    size_t place;
+    for (place = 0; place < count; place++)
+        if (ember_kind(table[place]) == EMBER_KIND_CONNECTION && i-- == 0)
+            break;
+    return place;
+}
+
+/* A row as a struct, which C and C++ copy: `struct ember_entry kept = ember_keep(table[i]);`, then kept.row as any other row.
+ * Never copies its texts, octets, paths and sources: they stay parts of the message. */
+struct ember_entry {
+    ember_row row;
+};
+
+static inline struct ember_entry ember_keep(const uint64_t *row)
+{
+    struct ember_entry entry;
+    memcpy(entry.row, row, sizeof entry.row);
+    return entry;
+}
+
+/* ---- Rows made by hand, for ember_write and ember_frames: each entry, then all that stands in it, then the next beside it. Whether
+ * they make a tree is ember_accepts' to say, and why they do not ember_why's (ember_why.h) */
+
+/* What an entry stands in: Root, or the entry at a place of the rows. */
+#define EMBER_IN_ROOT ((uint64_t)0)
+#define EMBER_IN(place) ((uint64_t)(place) + 1)
+
+/* Begins an entry: its kind, and what it stands in, EMBER_IN_ROOT or EMBER_IN(place); every member absent.
  * Never leaves a word of the row as it was. */
-static inline void ember_begin(uint64_t *row, uint64_t kind, uint64_t parent_and_1)
+static inline void ember_begin(uint64_t *row, uint64_t kind, uint64_t in)
 {
     size_t i;
     for (i = 0; i < EMBER_ROW_WORDS; i++)
         row[i] = 0;
     row[EMBER_ROW_KIND] = kind;
-    row[EMBER_ROW_PARENT] = parent_and_1;
+    row[EMBER_ROW_PARENT] = in;
 }
 
 /* Puts a member's type and its two words.
@@ -255,13 +370,20 @@ static inline void ember_put_integer(uint64_t *row, size_t member, int64_t value
     ember_put(row, member, EMBER_TYPE_INTEGER, (uint64_t)value, 0);
 }
 
-/* Puts a real.
- * Never rounds it; minus zero and NaN are then not written. */
-static inline void ember_put_real(uint64_t *row, size_t member, double value)
+/* Puts a real and answers 1: minus zero as zero, since Glow has no minus zero here; NaN, which it has not either, leaves the member
+ * absent, and answers 0.
+ * Never rounds it. */
+static inline int ember_put_real(uint64_t *row, size_t member, double value)
 {
-    uint64_t bits;
-    memcpy(&bits, &value, sizeof bits);
+    uint64_t bits = 0;
+    if (value != value) {
+        ember_put(row, member, EMBER_TYPE_ABSENT, 0, 0);
+        return 0;
+    }
+    if (value != 0)
+        memcpy(&bits, &value, sizeof bits);
     ember_put(row, member, EMBER_TYPE_REAL, bits, 0);
+    return 1;
 }
 
 /* Puts a boolean.
@@ -272,7 +394,7 @@ static inline void ember_put_boolean(uint64_t *row, size_t member, int value)
 }
 
 /* Puts a text (EMBER_TYPE_TEXT), octets (EMBER_TYPE_OCTETS), a path or sources (EMBER_TYPE_RELATIVE_OID) that stand at `start`
- * in the message that ember_write is given.
+ * in the parts that ember_write is given. With an arena, below, nobody counts starts.
  * Never copies them. */
 static inline void ember_put_bytes(uint64_t *row, size_t member, uint64_t type, size_t start, size_t length)
 {
@@ -301,7 +423,132 @@ static inline int ember_encode(const uint64_t *numbers, size_t count, uint8_t *o
     return 1;
 }
 
-/* The rows as ember_write, ember_accepts, ember_desk_call and ember_path take them, which only look at them: ISO C has no such
+/* ---- An arena: memory of the caller's for the texts, octets, paths and sources of rows made by hand. What it holds is the parts that
+ * ember_write and ember_accepts are given: arena.bytes, arena.used. What could not be put is kept in `refused`, from the first on:
+ * EMBER_NO_ROOM if it had no room, EMBER_BAD_NUMBER for a number over 2,147,483,647. So nobody needs to ask after each member:
+ * ember_frames answers it */
+
+struct ember_arena {
+    uint8_t *bytes;
+    size_t room, used;
+    uint64_t refused;
+};
+
+/* An empty arena over lent bytes; 16,384, EMBER_MESSAGE_MAX, hold the parts of any message.
+ * Never clears them. */
+static inline struct ember_arena ember_arena_of(uint8_t *bytes, size_t room)
+{
+    struct ember_arena arena;
+    arena.bytes = bytes;
+    arena.room = room;
+    arena.used = 0;
+    arena.refused = EMBER_DONE;
+    return arena;
+}
+
+/* Copies bytes into the arena and puts them as a member of that type: 1; or 0 and the member absent, if they have no room.
+ * Never writes past the arena. */
+static inline int ember_put_part(uint64_t *row, size_t member, uint64_t type, struct ember_arena *arena, const void *bytes, size_t count)
+{
+    if (count > arena->room - arena->used) {
+        ember_put(row, member, EMBER_TYPE_ABSENT, 0, 0);
+        if (arena->refused == EMBER_DONE)
+            arena->refused = EMBER_NO_ROOM;
+        return 0;
+    }
+    if (count > 0)
+        memcpy(arena->bytes + arena->used, bytes, count);
+    ember_put(row, member, type, arena->used, count);
+    arena->used += count;
+    return 1;
+}
+
+/* Puts a text, which ends in a 0 that is not sent: 1; or 0 and the member absent, if it has no room.
+ * Never asks whether it is UTF-8, nor an identifier by its rule. */
+static inline int ember_put_text(uint64_t *row, size_t member, struct ember_arena *arena, const char *text)
+{
+    return ember_put_part(row, member, EMBER_TYPE_TEXT, arena, text, strlen(text));
+}
+
+/* Puts octets: 1; or 0 and the member absent, if they have no room.
+ * Never looks at them. */
+static inline int ember_put_octets(uint64_t *row, size_t member, struct ember_arena *arena, const uint8_t *bytes, size_t count)
+{
+    return ember_put_part(row, member, EMBER_TYPE_OCTETS, arena, bytes, count);
+}
+
+/* Puts the numbers of a path or of sources: 1; or 0 and the member absent, if they have no room or one is over 2,147,483,647.
+ * Never leaves the arena changed where it answers 0, but for `refused`. */
+static inline int ember_put_numbers(uint64_t *row, size_t member, struct ember_arena *arena, const uint64_t *numbers, size_t count)
+{
+    size_t start = arena->used, i;
+    if (!ember_encode(numbers, count, arena->bytes, arena->room, &arena->used)) {
+        ember_put(row, member, EMBER_TYPE_ABSENT, 0, 0);
+        for (i = 0; i < count && arena->refused == EMBER_DONE; i++)
+            if (numbers[i] > 2147483647u)
+                arena->refused = EMBER_BAD_NUMBER;
+        if (arena->refused == EMBER_DONE)
+            arena->refused = EMBER_NO_ROOM;
+        return 0;
+    }
+    ember_put(row, member, EMBER_TYPE_RELATIVE_OID, start, arena->used - start);
+    return 1;
+}
+
+/* A parameter, node or matrix with its number.
+ * Never asks whether the kind has one: a qualified kind is ember_qualified's. */
+static inline void ember_element(uint64_t *row, uint64_t kind, uint64_t in, uint64_t number)
+{
+    ember_begin(row, kind, in);
+    ember_put(row, EMBER_NUMBER_OR_PATH, EMBER_TYPE_INTEGER, number, 0);
+}
+
+/* A qualified parameter, node or matrix with its full path, in Root: 1; or 0 if the path has no room.
+ * Never asks whether the path is right. */
+static inline int ember_qualified(uint64_t *row, uint64_t kind, struct ember_arena *arena, const uint64_t *path, size_t path_words)
+{
+    ember_begin(row, kind, EMBER_IN_ROOT);
+    return ember_put_numbers(row, EMBER_NUMBER_OR_PATH, arena, path, path_words);
+}
+
+/* A command: EMBER_GET_DIRECTORY, EMBER_SUBSCRIBE or EMBER_UNSUBSCRIBE. In Root EMBER_GET_DIRECTORY asks for what stands there.
+ * Never puts a mask: ember_put_integer(row, EMBER_COMMAND_MASK, ..) does. */
+static inline void ember_command(uint64_t *row, uint64_t in, int64_t command)
+{
+    ember_begin(row, EMBER_KIND_COMMAND, in);
+    ember_put_integer(row, EMBER_COMMAND_NUMBER, command);
+}
+
+/* A connection of the matrix that it stands in: its target, its sources, none if source_words is 0, and the operation, EMBER_ABSOLUTE
+ * left out. 1; or 0 if the sources have no room or one is over 2,147,483,647.
+ * Never asks whether the matrix has such a target or source. */
+static inline int ember_connection(uint64_t *row, uint64_t in, struct ember_arena *arena, uint64_t target, const uint64_t *sources,
+                                   size_t source_words, uint64_t operation)
+{
+    ember_begin(row, EMBER_KIND_CONNECTION, in);
+    ember_put(row, EMBER_CONNECTION_TARGET, EMBER_TYPE_INTEGER, target, 0);
+    if (operation != EMBER_ABSOLUTE)
+        ember_put(row, EMBER_CONNECTION_OPERATION, EMBER_TYPE_INTEGER, operation, 0);
+    return source_words == 0 || ember_put_numbers(row, EMBER_CONNECTION_SOURCES, arena, sources, source_words);
+}
+
+/* Writes rows and their arena as one message, in frames that can be sent: EMBER_DONE and *count, how many bytes; or, with out and *count as
+ * they were, what the arena refused, or EMBER_NO_OUT, if out is too short (EMBER_FRAMES_MAX always holds a message), the message would be
+ * over 16,384 bytes, or the rows make no tree (ember_why says why). It takes 16 KB of stack.
+ * Never writes a part of a message. */
+static inline uint64_t ember_frames(const uint64_t (*rows)[EMBER_ROW_WORDS], size_t row_count, uint64_t root, const struct ember_arena *arena,
+                                    uint8_t *out, size_t out_bytes, uint64_t *count)
+{
+    uint8_t message[EMBER_MESSAGE_MAX];
+    uint64_t length[EMBER_WRITE_WORDS];
+    if (arena->refused != EMBER_DONE)
+        return arena->refused;
+    if (ember_write(rows, row_count, row_count, root, arena->bytes, arena->used, message, sizeof message, length, EMBER_WRITE_WORDS) != EMBER_DONE)
+        return EMBER_NO_OUT;
+    return ember_write_message(message, (size_t)length[0], out, out_bytes, count);
+}
+
+/* The rows as ember_write, ember_frames, ember_accepts, ember_desk_call and ember_path take them, which only look at them: ISO C has no such
  * conversion of its own.
  * Never copies them. */
 static inline const ember_row *ember_rows(ember_row *table)

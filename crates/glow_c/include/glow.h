@@ -56,7 +56,7 @@ extern "C" {
 
 /* The answer, three words. Where a word says nothing it is 0.
  *   0: the place of a refusal, 30 to 37: a position in the message, or its length
- *   1: how many entries were read, or for GLOW_ROOM how many the message has
+ *   1: how many entries were read, or for GLOW_NO_ROOM how many the message has
  *   2: after GLOW_DONE, what Root holds: GLOW_ELEMENTS or GLOW_STREAMS */
 #define GLOW_ANSWER_WORDS 3
 #define GLOW_PLACE 0
@@ -65,18 +65,21 @@ extern "C" {
 #define GLOW_ELEMENTS 0
 #define GLOW_STREAMS 3
 
-/* The numbers answered. */
-#define GLOW_DONE 0    /* read: the table's first rows are the entries */
-#define GLOW_SETUP 1   /* a table over 256 rows, a message over 16,384 bytes, or an answer of other than three words */
-#define GLOW_BER 30    /* bad tag, length or value octets, a tag 00 that ends nothing, bytes run out or left after Root */
-#define GLOW_FORM 31   /* an outer tag and its value, one definite and one indefinite */
-#define GLOW_DEPTH 32  /* a 65th container open at once */
-#define GLOW_GLOW 33   /* a tag unexpected, repeated or out of order, a member or value missing */
-#define GLOW_NUMBER 34 /* a number out of its range */
-#define GLOW_REAL 35   /* a real that is not accepted */
-#define GLOW_NAME 36   /* an identifier against its rule */
-#define GLOW_PATH 37   /* a path that is empty, over 16 numbers (parents counted) or has a number out of range */
-#define GLOW_ROOM 38   /* the message is right, the table too small */
+/* The numbers answered, as document 01 has them (ember.h says the place of each). */
+enum glow_answer {
+    GLOW_DONE = 0, /* read: the table's first rows are the entries */
+    GLOW_SETUP = 1, /* a table over 256 rows, a message over 16,384 bytes, or an answer of other than three words */
+    GLOW_BAD_BER = 30, /* bad tag, length or value octets, a tag 00 that ends nothing, bytes run out or left after Root */
+    GLOW_BAD_FORM = 31, /* an outer tag and its value, one definite and one indefinite */
+    GLOW_BAD_DEPTH = 32, /* a 65th container open at once */
+    GLOW_BAD_GLOW = 33, /* a tag unexpected, repeated or out of order, a member or value missing */
+    GLOW_BAD_NUMBER = 34, /* a number out of its range */
+    GLOW_BAD_REAL = 35, /* a real that is not accepted */
+    GLOW_BAD_NAME = 36, /* an identifier against its rule */
+    GLOW_BAD_PATH = 37, /* a path that is empty, over 16 numbers (parents counted) or has a number out of range */
+    GLOW_NO_ROOM = 38, /* the message is right, the table too small */
+    GLOW_NO_OUT = 46 /* writer: the output is too short, or the rows make no tree that the reader accepts in 16,384 bytes */
+};
 
 /* Reads a message into the table's rows. GLOW_DONE, 30 to 38, or GLOW_SETUP, which leaves the answer's words too.
  * Never changes the table unless it answers GLOW_DONE, and then no row past the count. */
@@ -84,24 +87,23 @@ uint64_t glow_read(const uint8_t *message, size_t message_bytes, uint64_t (*tabl
                    uint64_t *answer, size_t answer_words);
 
 /* Writing. The rows are as glow_read leaves them, or made by hand: the same kinds, cells and types; texts, octets, paths
- * and sources are parts of `message`, which may be any bytes. `root` is GLOW_ELEMENTS or GLOW_STREAMS. The answer is one
- * word, the length of the message that was written; 0 after GLOW_OUT. */
+ * and sources are parts of `parts`, which may be any bytes. `root` is GLOW_ELEMENTS or GLOW_STREAMS. The answer is one
+ * word, the length of the message that was written; 0 after GLOW_NO_OUT. */
 #define GLOW_WRITE_WORDS 1
-#define GLOW_OUT 46 /* the output is too short, or the rows make no tree that the reader accepts in 16,384 bytes */
 
 /* Writes the message of the table's first `count` rows: definite shortest lengths, ascending tags, no absent member and no
- * empty collection. What is written is read back as the same tree. Output past the message stays as it was. GLOW_OUT leaves
+ * empty collection. What is written is read back as the same tree. Output past the message stays as it was. GLOW_NO_OUT leaves
  * the whole output as it was; GLOW_SETUP, for an answer of other than one word, leaves the answer too.
  * Never writes a part of a message. */
 uint64_t glow_write(const uint64_t (*table)[GLOW_ROW_WORDS], size_t table_rows, size_t count, uint64_t root,
-                    const uint8_t *message, size_t message_bytes, uint8_t *out, size_t out_bytes, uint64_t *answer,
+                    const uint8_t *parts, size_t parts_bytes, uint8_t *out, size_t out_bytes, uint64_t *answer,
                     size_t answer_words);
 
 /* 1 if the table's first `count` rows make a tree that the reader accepts: some message of at most 16,384 bytes is read as
  * exactly these entries; else 0.
  * Never changes anything. */
 uint64_t glow_accepts(const uint64_t (*table)[GLOW_ROW_WORDS], size_t table_rows, size_t count, uint64_t root,
-                      const uint8_t *message, size_t message_bytes);
+                      const uint8_t *parts, size_t parts_bytes);
 
 #ifdef __cplusplus
 }

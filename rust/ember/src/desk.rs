@@ -1,7 +1,8 @@
 //! The desk, and whole turns.
 
 use crate::frames::event;
-use crate::{ffi, number, Event, Read, Root, Row, Session, PATH_MAX, ROWS_MAX, SIDE_MAX, STORE_BYTES};
+use crate::tree::read_of;
+use crate::{error, ffi, number, Error, Event, Kind, Read, Root, Row, Session, PATH_MAX, ROWS_MAX, SIDE_MAX, STORE_BYTES};
 
 /// The type of a matrix.
 #[derive(Clone, Copy, PartialEq, Eq, Debug)]
@@ -59,11 +60,11 @@ pub struct Desk {
 }
 
 impl Desk {
-    /// Opens a desk with no connections; 45 if figures or path are out of their ranges.
+    /// Opens a desk with no connections; [`Error::Desk`] if figures or path are out of their ranges.
     /// Never gives a desk that is not legal.
-    pub fn open(figures: Figures, path: &[u64]) -> Result<Desk, u64> {
+    pub fn open(figures: Figures, path: &[u64]) -> Result<Desk, Error> {
         let mut desk = Desk { figures, path: [0; PATH_MAX], numbers: path.len(), crosspoints: [0; SIDE_MAX * SIDE_MAX] };
-        desk.path.get_mut(..path.len()).ok_or(number::DESK)?.copy_from_slice(path);
+        desk.path.get_mut(..path.len()).ok_or(Error::Desk)?.copy_from_slice(path);
         let words = figures.words();
         // SAFETY: each pointer and its count name a slice that is borrowed here, the crosspoints mutably.
         let number = unsafe {
@@ -77,11 +78,7 @@ impl Desk {
                 desk.crosspoints.len(),
             )
         };
-        if number == number::DONE {
-            Ok(desk)
-        } else {
-            Err(number)
-        }
+        error::told(number).map(|()| desk)
     }
 
     /// The figures it was opened from.
@@ -127,8 +124,8 @@ impl Desk {
     }
 
     /// Asks for one target, with a list of sources that may be empty or name one twice; or 41 to 44.
-    /// Never changes a crosspoint if it answers a number.
-    pub fn request(&mut self, target: u64, sources: &[u64], operation: Operation) -> Result<(), u64> {
+    /// Never changes a crosspoint if it refuses.
+    pub fn request(&mut self, target: u64, sources: &[u64], operation: Operation) -> Result<(), Error> {
         let words = self.figures.words();
         // SAFETY: each pointer and its count name a slice that is borrowed here, the crosspoints mutably.
         let number = unsafe {
@@ -143,17 +140,13 @@ impl Desk {
                 self.crosspoints.len(),
             )
         };
-        if number == number::DONE {
-            Ok(())
-        } else {
-            Err(number)
-        }
+        error::told(number)
     }
 
-    /// Serves the connections among rows, in order: how many answers there are, 0 or 40 to 44 each; or 1, if the rows make no tree
+    /// Serves the connections among rows, in order: how many answers there are, 0 or 40 to 44 each; or `Setup`, if the rows make no tree
     /// that the reader accepts or `answers` is shorter than `rows`.
-    /// Never changes anything if it answers 1, nor a crosspoint for a connection that is refused.
-    pub fn call(&mut self, rows: &[Row], root: Root, message: &[u8], answers: &mut [u64]) -> Result<usize, u64> {
+    /// Never changes anything if it refuses, nor a crosspoint for a connection that is refused.
+    pub fn call(&mut self, rows: &[Row], root: Root, message: &[u8], answers: &mut [u64]) -> Result<usize, Error> {
         let words = self.figures.words();
         let mut answer = [0; 1];
         // SAFETY: each pointer and its count name a slice that is borrowed here, those written to mutably.
@@ -177,11 +170,7 @@ impl Desk {
                 answer.len(),
             )
         };
-        if number == number::DONE {
-            Ok(answer[0] as usize)
-        } else {
-            Err(number)
-        }
+        error::told(number).map(|()| answer[0] as usize)
     }
 }
 
@@ -199,9 +188,9 @@ impl Default for Scratch {
 
 /// Route sheets.
 impl Desk {
-    /// Writes the desk's sheet: how many bytes it has, at most [`crate::SHEET_MAX`]; 46 and the output as it was if it has no room.
+    /// Writes the desk's sheet: how many bytes it has, at most [`crate::SHEET_MAX`]; [`Error::Out`] and the output as it was if it has no room.
     /// Never writes a part of a sheet.
-    pub fn write_sheet(&self, out: &mut [u8]) -> Result<usize, u64> {
+    pub fn write_sheet(&self, out: &mut [u8]) -> Result<usize, Error> {
         let words = self.figures.words();
         let mut answer = [0; 1];
         // SAFETY: each pointer and its count name a slice that is borrowed here, those written to mutably.
@@ -219,16 +208,12 @@ impl Desk {
                 answer.len(),
             )
         };
-        if number == number::DONE {
-            Ok(answer[0] as usize)
-        } else {
-            Err(number)
-        }
+        error::told(number).map(|()| answer[0] as usize)
     }
 
-    /// Reads a sheet: its desk, or the number of the first refusal.
+    /// Reads a sheet: its desk, or the first refusal.
     /// Never gives a desk that is not legal.
-    pub fn read_sheet(text: &[u8], scratch: &mut Scratch) -> Result<Desk, u64> {
+    pub fn read_sheet(text: &[u8], scratch: &mut Scratch) -> Result<Desk, Error> {
         let mut words = [0; 7];
         let mut path = [0; PATH_MAX];
         let mut crosspoints = [0; SIDE_MAX * SIDE_MAX];
@@ -265,11 +250,7 @@ impl Desk {
             total: given(words[3], words[4]),
             each: given(words[5], words[6]),
         };
-        if number == number::DONE {
-            Ok(Desk { figures, path, numbers: answer[0] as usize, crosspoints })
-        } else {
-            Err(number)
-        }
+        error::told(number).map(|()| Desk { figures, path, numbers: answer[0] as usize, crosspoints })
     }
 }
 
@@ -292,13 +273,22 @@ pub struct Turn<'a> {
     /// Whether an unfinished message was thrown away.
     pub discarded: bool,
     /// After a message what the tree reader answered.
-    pub tree: Option<Read>,
+    pub tree: Option<Result<Read, Error>>,
     /// The message's entries, if it was read.
     pub rows: &'a [Row],
     /// The desk's answer to each of its connections, in order: 0 or 40 to 44.
     pub answers: &'a [u64],
     /// The desk after the turn.
     pub desk: &'a Desk,
+}
+
+impl<'a> Turn<'a> {
+    /// Each connection of the message with the desk's answer to it, in order.
+    /// Never one without the other.
+    pub fn results(&self) -> impl Iterator<Item = (&'a Row, Result<(), Error>)> + use<'a> {
+        let connections = self.rows.iter().filter(|row| row.kind() == Some(Kind::Connection));
+        connections.zip(self.answers).map(|(row, &number)| (row, error::told(number.into())))
+    }
 }
 
 impl<const N: usize> Line<N> {
@@ -350,8 +340,8 @@ impl<const N: usize> Line<N> {
                 told.len(),
             )
         };
-        let tree = (number == number::MESSAGE).then(|| Read::of(told[3], told[4], told[5], told[6]));
-        let count = if let Some(Read::Entries { count, .. }) = tree { count } else { 0 };
+        let tree = (number == number::MESSAGE).then(|| read_of(told[3], told[4], told[5], told[6]));
+        let count = if let Some(Ok(Read { count, .. })) = tree { count } else { 0 };
         Turn {
             event: event(number, &self.session.store, told[2] as usize),
             consumed: told[1] as usize,

@@ -182,10 +182,12 @@ impl Row {
         self.put(member, [BOOLEAN, u64::from(value), 0]);
     }
 
-    /// Puts a real.
-    /// Never rounds it; minus zero and NaN are then not written.
-    pub fn put_real(&mut self, member: usize, value: f64) {
-        self.put(member, [REAL, value.to_bits(), 0]);
+    /// Puts a real, and says so: minus zero as zero; NaN, which cannot be sent, leaves the member absent, and is `false`.
+    /// Never rounds it.
+    pub fn put_real(&mut self, member: usize, value: f64) -> bool {
+        let bits = if value == 0.0 { 0 } else { value.to_bits() };
+        self.put(member, if value.is_nan() { [0; 3] } else { [REAL, bits, 0] });
+        !value.is_nan()
     }
 
     /// Puts a text that stands at `start` in the bytes that [`crate::write`] is given.

@@ -1,6 +1,6 @@
 //! The session, and the writer of frames.
 
-use crate::{ffi, number, STORE_BYTES};
+use crate::{error, ffi, number, Error, STORE_BYTES};
 
 /// A session with its store: one for each stream. Some 17 KB; put it into a `Box` where the stack is small.
 #[derive(Clone)]
@@ -33,8 +33,8 @@ pub enum Event<'a> {
     Request,
     /// Keep-alive response.
     Response,
-    /// A frame was refused, or bytes outside frames: its number, 10 to 24.
-    Refused(u64),
+    /// A frame was refused, or bytes outside frames: 10 to 24.
+    Refused(Error),
 }
 
 impl Default for Session {
@@ -81,48 +81,44 @@ pub(crate) fn event(number: u64, store: &[u8; STORE_BYTES], length: usize) -> Ev
         number::MESSAGE => Event::Message(store.get(..length).unwrap_or(&[])),
         number::REQUEST => Event::Request,
         number::RESPONSE => Event::Response,
-        number => Event::Refused(number),
+        number => Event::Refused(Error::of(number).unwrap_or(Error::Setup)),
     }
 }
 
-fn told(number: u64, count: u64) -> Result<usize, u64> {
-    if number == number::DONE {
-        Ok(count as usize)
-    } else {
-        Err(number)
-    }
+fn told(number: u64, count: u64) -> Result<usize, Error> {
+    error::told(number).map(|()| count as usize)
 }
 
-/// Writes a frame around content without its CRC, at most 1,022 bytes: how many bytes it has. 46 and the output as it was if it has no room.
+/// Writes a frame around content without its CRC, at most 1,022 bytes: how many bytes it has. [`Error::Out`] and the output as it was if it has no room.
 /// Never looks at what the content says.
-pub fn write_frame(content: &[u8], out: &mut [u8]) -> Result<usize, u64> {
+pub fn write_frame(content: &[u8], out: &mut [u8]) -> Result<usize, Error> {
     let mut count = 0;
     // SAFETY: each pointer and its count name a slice that is borrowed here, the output mutably.
     let number = unsafe { ffi::ember_write_frame(content.as_ptr(), content.len(), out.as_mut_ptr(), out.len(), &mut count) };
     told(number, count)
 }
 
-/// Writes the keep-alive request: how many bytes it has, or 46.
+/// Writes the keep-alive request: how many bytes it has, or [`Error::Out`].
 /// Never writes a part of it.
-pub fn write_request(out: &mut [u8]) -> Result<usize, u64> {
+pub fn write_request(out: &mut [u8]) -> Result<usize, Error> {
     let mut count = 0;
     // SAFETY: as above.
     let number = unsafe { ffi::ember_write_request(out.as_mut_ptr(), out.len(), &mut count) };
     told(number, count)
 }
 
-/// Writes the keep-alive response: how many bytes it has, or 46.
+/// Writes the keep-alive response: how many bytes it has, or [`Error::Out`].
 /// Never writes a part of it.
-pub fn write_response(out: &mut [u8]) -> Result<usize, u64> {
+pub fn write_response(out: &mut [u8]) -> Result<usize, Error> {
     let mut count = 0;
     // SAFETY: as above.
     let number = unsafe { ffi::ember_write_response(out.as_mut_ptr(), out.len(), &mut count) };
     told(number, count)
 }
 
-/// Writes a message of at most 16,384 bytes as frames: how many bytes they have, or 46.
+/// Writes a message of at most 16,384 bytes as frames: how many bytes they have, or [`Error::Out`].
 /// Never asks whether the message is a tree.
-pub fn write_message(message: &[u8], out: &mut [u8]) -> Result<usize, u64> {
+pub fn write_message(message: &[u8], out: &mut [u8]) -> Result<usize, Error> {
     let mut count = 0;
     // SAFETY: as above.
     let number = unsafe { ffi::ember_write_message(message.as_ptr(), message.len(), out.as_mut_ptr(), out.len(), &mut count) };

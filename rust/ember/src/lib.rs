@@ -5,7 +5,8 @@
 //! library does is proved (crates/ember of the repository); this wrapper is plain Rust, tested and not proved. Nothing here allocates, and
 //! the crate needs no `std`.
 //!
-//! Numbers are those of document 01 and of `ember.h`, in [`number`]; what an entry's members may be is in [`member`].
+//! Refusals are [`Error`], by name, with their number and, of the tree, their place; numbers are those of document 01 and of `ember.h`, in
+//! [`number`]; what an entry's members may be is in [`member`].
 //!
 //! A desk behind a stream, and a message of one connection for it, offered in chunks of three bytes:
 //!
@@ -33,27 +34,30 @@
 //!     while !rest.is_empty() {
 //!         let turn = line.turn(rest);
 //!         rest = &rest[turn.consumed..];
-//!         if let (Event::Message(message), Some(Read::Entries { count, .. })) = (turn.event, turn.tree) {
-//!             assert_eq!((count, turn.answers), (2, &[number::DONE][..]));
+//!         if let (Event::Message(message), Some(Ok(Read { count, .. }))) = (turn.event, turn.tree) {
+//!             assert_eq!(count, 2);
+//!             assert!(turn.results().all(|(connection, answer)| answer.is_ok()));
 //!             assert!(turn.rows[1].numbers(member::CONNECTION_SOURCES, message).eq([3]));
 //!             assert!(turn.desk.sources(0).eq([3]));
 //!         }
 //!     }
 //! }
 //! assert!(line.desk().is_connected(0, 3));
-//! # Ok::<(), u64>(())
+//! # Ok::<(), Error>(())
 //! ```
 #![no_std]
 #![warn(missing_docs)]
 
 mod desk;
 mod entries;
+mod error;
 mod ffi;
 mod frames;
 mod tree;
 
 pub use desk::{Desk, Figures, Line, Operation, Scratch, Turn, Type};
 pub use entries::{encode, full_path, Kind, Numbers, Row, Value};
+pub use error::Error;
 pub use frames::{write_frame, write_message, write_request, write_response, Event, Fed, Session};
 pub use tree::{accepts, read, write, Read, Root};
 
@@ -130,61 +134,61 @@ pub mod number {
     /// Keep-alive response.
     pub const RESPONSE: u64 = 5;
     /// The first of a run of bytes outside frames.
-    pub const STRAY: u64 = 10;
+    pub const BAD_STRAY: u64 = 10;
     /// A frame ended by the start of the next.
-    pub const CUT: u64 = 11;
+    pub const BAD_CUT: u64 = 11;
     /// A byte that may not stand there; of a sheet also: a bad line.
-    pub const BYTE: u64 = 12;
+    pub const BAD_BYTE: u64 = 12;
     /// Content over 1,024 bytes, CRC included.
-    pub const LONG: u64 = 13;
-    /// The frame's end directly after CE.
-    pub const ESCAPE: u64 = 14;
+    pub const BAD_LONG: u64 = 13;
+    /// The frame's end directly after FD, the escape byte.
+    pub const BAD_ESCAPE: u64 = 14;
     /// Content under 6 bytes, CRC included.
-    pub const SHORT: u64 = 15;
+    pub const BAD_SHORT: u64 = 15;
     /// CRC wrong.
-    pub const CRC: u64 = 16;
+    pub const BAD_CRC: u64 = 16;
     /// Slot, type, command, version or header size wrong.
-    pub const HEADER: u64 = 20;
+    pub const BAD_HEADER: u64 = 20;
     /// Flags wrong.
-    pub const FLAGS: u64 = 21;
+    pub const BAD_FLAGS: u64 = 21;
     /// DTD, count of application bytes or major version wrong.
-    pub const DTD: u64 = 22;
+    pub const BAD_DTD: u64 = 22;
     /// A later piece with no message open.
-    pub const ORPHAN: u64 = 23;
+    pub const BAD_ORPHAN: u64 = 23;
     /// A message over 16,384 bytes.
-    pub const BIG: u64 = 24;
+    pub const BAD_BIG: u64 = 24;
     /// Bad tag, length or value octets, a tag 00 that ends nothing, bytes run out or left after Root.
-    pub const BER: u64 = 30;
+    pub const BAD_BER: u64 = 30;
     /// An outer tag and its value, one definite and one indefinite.
-    pub const FORM: u64 = 31;
+    pub const BAD_FORM: u64 = 31;
     /// A 65th container open at once.
-    pub const DEPTH: u64 = 32;
+    pub const BAD_DEPTH: u64 = 32;
     /// A tag unexpected, repeated or out of order, a member or value missing.
-    pub const GLOW: u64 = 33;
+    pub const BAD_GLOW: u64 = 33;
     /// A number out of its range.
-    pub const NUMBER: u64 = 34;
+    pub const BAD_NUMBER: u64 = 34;
     /// A real that is not accepted.
-    pub const REAL: u64 = 35;
+    pub const BAD_REAL: u64 = 35;
     /// An identifier against its rule.
-    pub const NAME: u64 = 36;
+    pub const BAD_NAME: u64 = 36;
     /// A path that is empty, over 16 numbers (parents counted) or has a number out of range.
-    pub const PATH: u64 = 37;
+    pub const BAD_PATH: u64 = 37;
     /// The message is right, the table too small.
-    pub const ROOM: u64 = 38;
+    pub const NO_ROOM: u64 = 38;
     /// A connection of another matrix.
-    pub const MATRIX: u64 = 40;
+    pub const NO_MATRIX: u64 = 40;
     /// No such target.
-    pub const TARGET: u64 = 41;
+    pub const NO_TARGET: u64 = 41;
     /// No such source.
-    pub const SOURCE: u64 = 42;
+    pub const NO_SOURCE: u64 = 42;
     /// More sources than the target may have.
-    pub const MANY: u64 = 43;
+    pub const BAD_MANY: u64 = 43;
     /// More connections than the desk may have.
-    pub const TOTAL: u64 = 44;
+    pub const BAD_TOTAL: u64 = 44;
     /// Opening: figures, mode or path out of range.
-    pub const DESK: u64 = 45;
+    pub const BAD_DESK: u64 = 45;
     /// Writing: the output is too short, or what is to be written is nothing that the reader accepts.
-    pub const OUT: u64 = 46;
+    pub const NO_OUT: u64 = 46;
 }
 
 /// Bytes of a session's store.

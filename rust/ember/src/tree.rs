@@ -1,6 +1,6 @@
 //! The reader and the writer of the Glow tree.
 
-use crate::{ffi, number, Row};
+use crate::{error, ffi, number, Error, Row};
 
 /// What Root holds.
 #[derive(Clone, Copy, PartialEq, Eq, Debug)]
@@ -28,57 +28,39 @@ impl Root {
     }
 }
 
-/// What the tree reader answers.
+/// What the tree reader read: the first `count` rows are the entries, in message order.
 #[derive(Clone, Copy, PartialEq, Eq, Debug)]
-pub enum Read {
-    /// The first `count` rows are the entries, in message order.
-    Entries {
-        /// What Root holds.
-        root: Root,
-        /// How many.
-        count: usize,
-    },
-    /// 30 to 37, and the place in the message.
-    Refused {
-        /// The number.
-        number: u64,
-        /// The place.
-        place: usize,
-    },
-    /// 38: the message is right, and has that many entries.
-    Room {
-        /// How many.
-        count: usize,
-    },
-    /// 1: a table over 256 rows, or a message over 16,384 bytes.
-    Setup,
+pub struct Read {
+    /// What Root holds.
+    pub root: Root,
+    /// How many entries.
+    pub count: usize,
 }
 
-impl Read {
-    pub(crate) fn of(number: u64, place: u64, count: u64, root: u64) -> Read {
-        match number {
-            number::DONE => Read::Entries { root: Root::of(root), count: count as usize },
-            number::ROOM => Read::Room { count: count as usize },
-            number::SETUP => Read::Setup,
-            number => Read::Refused { number, place: place as usize },
-        }
+pub(crate) fn read_of(number: u64, place: u64, count: u64, root: u64) -> Result<Read, Error> {
+    if number == number::DONE {
+        Ok(Read { root: Root::of(root), count: count as usize })
+    } else {
+        Err(Error::in_tree(number, place, count))
     }
 }
 
-/// Reads a message into the rows of a table.
-/// Never changes the table unless it answers `Entries`, and then no row past the count.
-pub fn read(message: &[u8], table: &mut [Row]) -> Read {
+/// Reads a message into the rows of a table; or 30 to 37 with the place in the message, [`Error::Room`] with how many entries it has, or
+/// [`Error::Setup`] for a table over 256 rows or a message over 16,384 bytes.
+/// Never changes the table but after `Ok`, and then no row past the count.
+pub fn read(message: &[u8], table: &mut [Row]) -> Result<Read, Error> {
     let mut answer = [0; 3];
     // SAFETY: each pointer and its count name a slice that is borrowed here, those written to mutably; a row is fifty words.
     let number = unsafe {
         ffi::ember_read(message.as_ptr(), message.len(), table.as_mut_ptr(), table.len(), answer.as_mut_ptr(), answer.len())
     };
-    Read::of(number, answer[0], answer[1], answer[2])
+    read_of(number, answer[0], answer[1], answer[2])
 }
 
-/// Writes the message of rows, whose texts, octets, paths and sources are parts of `parts`: how long it is, or 46 and the output as it was.
+/// Writes the message of rows, whose texts, octets, paths and sources are parts of `parts`: how long it is, or [`Error::Out`] and
+/// the output as it was.
 /// Never writes a part of a message.
-pub fn write(rows: &[Row], root: Root, parts: &[u8], out: &mut [u8]) -> Result<usize, u64> {
+pub fn write(rows: &[Row], root: Root, parts: &[u8], out: &mut [u8]) -> Result<usize, Error> {
     let mut answer = [0; 1];
     // SAFETY: each pointer and its count name a slice that is borrowed here, those written to mutably.
     let number = unsafe {
@@ -95,11 +77,7 @@ pub fn write(rows: &[Row], root: Root, parts: &[u8], out: &mut [u8]) -> Result<u
             answer.len(),
         )
     };
-    if number == number::DONE {
-        Ok(answer[0] as usize)
-    } else {
-        Err(number)
-    }
+    error::told(number).map(|()| answer[0] as usize)
 }
 
 /// Whether rows make a tree that the reader accepts.

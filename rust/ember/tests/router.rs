@@ -2,7 +2,7 @@
 #![forbid(unsafe_code)]
 
 use ember::{
-    encode, member, number, write, write_message, write_response, Desk, Event, Figures, Kind, Line, Read, Root, Row, Type,
+    encode, member, write, write_message, write_response, Desk, Error, Event, Figures, Kind, Line, Root, Row, Turn, Type,
     FRAMES_MAX, FRAME_MAX, MESSAGE_MAX,
 };
 
@@ -16,19 +16,19 @@ fn stored_hex(name: &str) -> Vec<u8> {
 }
 
 /// The connections of the targets that a message named, as they are now.
-fn answer(desk: &Desk, rows: &[Row], answers: &[u64], text: &mut String) -> Vec<u8> {
+fn answer(turn: &Turn, text: &mut String) -> Vec<u8> {
+    let desk = turn.desk;
     let mut parts = [0; 4096];
     let mut at = encode(desk.path(), &mut parts).unwrap();
     let mut reply = vec![Row::new(Kind::QualifiedMatrix, None)];
     reply[0].put_numbers(member::NUMBER_OR_PATH, 0, at);
     let mut named = Vec::new();
-    let connections = rows.iter().filter(|row| row.kind() == Some(Kind::Connection));
-    for (place, (row, &told)) in connections.zip(answers).enumerate() {
-        if told != number::DONE {
-            *text += &format!("connection {}: {told}\n", place + 1);
+    for (place, (row, told)) in turn.results().enumerate() {
+        if let Err(error) = told {
+            *text += &format!("connection {}: {}\n", place + 1, error.number());
         }
         let target = row.integer(member::CONNECTION_TARGET).unwrap();
-        if told == number::MATRIX || told == number::TARGET || named.contains(&target) {
+        if matches!(told, Err(Error::Matrix | Error::Target)) || named.contains(&target) {
             continue;
         }
         named.push(target);
@@ -66,11 +66,13 @@ fn route(stream: &[u8], chunk: usize) -> (Vec<u8>, String) {
                     let length = write_response(&mut frame).unwrap();
                     out.extend(&frame[..length]);
                 }
-                (Event::Refused(event), _) => text += &format!("event {event}\n"),
-                (Event::Message(_), Some(Read::Entries { .. })) => {
-                    out.extend(answer(turn.desk, turn.rows, turn.answers, &mut text));
+                (Event::Refused(error), _) => text += &format!("event {}\n", error.number()),
+                (Event::Message(_), Some(Ok(_))) => {
+                    out.extend(answer(&turn, &mut text));
                 }
-                (Event::Message(_), Some(Read::Refused { number, place })) => text += &format!("tree {number} at {place}\n"),
+                (Event::Message(_), Some(Err(error))) => {
+                    text += &format!("tree {} at {}\n", error.number(), error.place().unwrap_or(0));
+                }
                 _ => {}
             }
         }
