@@ -1,5 +1,5 @@
--- A row of each kind, word for word, by computation: document 01's context numbers, each in its cell. Where a member is a number, it is here its own
--- context number plus 100, so that a member in another's cell shows.
+-- A row of each of the nine kinds, word for word, by computation: document 01's context numbers, each in its cell. Where a member is a number, it is
+-- here its own context number plus 100, so that a member in another's cell shows.
 use mathlib.Core.Path.{_≡_, refl}
 use mathlib.Core.Bool.{true, false}
 use mathlib.Core.List.{List, [], _∷_}
@@ -33,7 +33,38 @@ pub v-parameter : parameterRow (record {
 unfolding parameterRow words
 v-parameter = refl
 
--- "root flag 2, online 3"; a qualified one has a path
+-- a qualified one has a path; members that are absent
+pub v-qualified-parameter : parameterRow (record {
+  parent = Root;
+  key = ByPath 40 2;
+  identifier = NoPart;
+  description = NoPart;
+  value = Octets 60 6;
+  minimum = Absent;
+  maximum = Absent;
+  access = NoNumber;
+  factor = NoNumber;
+  online = NoFlag;
+  step = NoNumber;
+  stream = NoNumber;
+})
+    ≡ 5 ∷ 0 ∷ 13 ∷ 40 ∷ 2 ∷ 0 ∷ 0 ∷ 0 ∷ 0 ∷ 0 ∷ 0 ∷ 4 ∷ 60 ∷ 6 ∷ words (blanks 12)
+unfolding parameterRow words blanks
+v-qualified-parameter = refl
+
+-- "root flag 2, online 3"
+pub v-plain-node : nodeRow (record {
+  parent = At 3;
+  key = ByNumber (pos 7);
+  identifier = NoPart;
+  description = PartAt 20 5;
+  root = IsFlag false;
+  online = IsFlag true;
+})
+    ≡ 3 ∷ 4 ∷ 2 ∷ 7 ∷ 0 ∷ 0 ∷ 0 ∷ 0 ∷ 12 ∷ 20 ∷ 5 ∷ 1 ∷ 0 ∷ 0 ∷ 1 ∷ 1 ∷ 0 ∷ words (blanks 11)
+unfolding nodeRow words
+v-plain-node = refl
+
 pub v-node : nodeRow (record {
   parent = Root;
   key = ByPath 40 2;
@@ -62,6 +93,22 @@ pub v-matrix : matrixRow (record {
     ≡ 4 ∷ 0 ∷ 2 ∷ 9 ∷ 0 ∷ 0 ∷ 0 ∷ 0 ∷ 12 ∷ 20 ∷ 5 ∷ 2 ∷ 102 ∷ 0 ∷ 2 ∷ 103 ∷ 0 ∷ 2 ∷ 104 ∷ 0 ∷ 2 ∷ 105 ∷ 0 ∷ 2 ∷ 106 ∷ 0 ∷ 2 ∷ 107 ∷ 0 ∷ words (blanks 7)
 unfolding matrixRow words
 v-matrix = refl
+
+pub v-qualified-matrix : matrixRow (record {
+  parent = Root;
+  key = ByPath 40 2;
+  identifier = NoPart;
+  description = NoPart;
+  «matrix_type» = NoNumber;
+  mode = NoNumber;
+  targets = IsNumber (pos 104);
+  sources = IsNumber (pos 105);
+  «total_limit» = NoNumber;
+  «target_limit» = IsNumber (pos 107);
+})
+    ≡ 7 ∷ 0 ∷ 13 ∷ 40 ∷ 2 ∷ 0 ∷ 0 ∷ 0 ∷ 0 ∷ 0 ∷ 0 ∷ 0 ∷ 0 ∷ 0 ∷ 0 ∷ 0 ∷ 0 ∷ 2 ∷ 104 ∷ 0 ∷ 2 ∷ 105 ∷ 0 ∷ 0 ∷ 0 ∷ 0 ∷ 2 ∷ 107 ∷ 0 ∷ words (blanks 7)
+unfolding matrixRow words
+v-qualified-matrix = refl
 
 -- "Command: number 0, mask 1. StreamEntry: identifier 0, value 1. Connection: target 0, sources 1, operation 2."
 pub v-command : commandRow (record { parent = At 0; number = pos 100; mask = IsNumber (negsuc 0) })
