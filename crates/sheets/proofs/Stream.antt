@@ -14,21 +14,21 @@ use Rattle.integers.proofs.Radix.{lt-or-le}
 use Rattle.framing.specs.Numbers as framing
 use Rattle.framing.specs.Numbers.{messageLimit}
 use Rattle.framing.specs.Checksum.{checksum, octetsOf}
-use Rattle.framing.specs.Rules.{none, State, begin, happens, after, Happening}
-use Rattle.framing_writer.specs.Written.{escape, escapes, sealed, frame, requestBody, flags, header, packetBody, packet, packets}
+use Rattle.framing.specs.Rules.{none, State, begin, after, Happening}
+use Rattle.framing_writer.specs.Written.{escape, escapes, sealed, frame, flags, header, packetBody, packet, packets}
 use Rattle.framing_writer.specs.Written.{payloadLimit, earlier, inPackets}
 use Rattle.framing_writer.proofs.Laws.{escape-plain, escape-high}
-use Rattle.framing_writer.specs.Read.{Bytes, Gives, happening, packetEvents, messageEvents}
-use Rattle.framing_writer.proofs.Reading.{gives-then, opens-outside}
-use Rattle.framing_writer.proofs.Back.{request-back, message-back}
+use Rattle.framing_writer.specs.Read.{Bytes, packetEvents, messageEvents}
+use Rattle.framing_writer.proofs.Reading.{opens-outside}
+use Rattle.framing_writer.proofs.Back.{message-back}
 use Rattle.sheets.specs.Sheet.{glyphOf, hexText, lineOf, packetLines, messageLines}
-use Rattle.sheets.specs.Lines.{digitOf, Stream, bad, stream, push, Come, fresh, pairs, half, linesFrom, linesIn}
-use Rattle.sheets.specs.Reading.{Sheet, finished, somethingOpen, firstFault, ofMessage, ofEvents, heldIn, ofHeld}
+use Rattle.sheets.specs.Lines.{digitOf, Stream, stream, push, fresh, pairs, half, linesFrom, linesIn}
+use Rattle.sheets.specs.Reading.{finished, somethingOpen, firstFault, ofMessage, ofEvents, heldIn, ofHeld}
 
 -- ---- digits
 
 -- a digit's glyph is read as the digit
-glyph-read : (d : ℕ) → d < 16 → digitOf (glyphOf d) ≡ d
+pub glyph-read : (d : ℕ) → d < 16 → digitOf (glyphOf d) ≡ d
 unfolding digitOf
 glyph-read d h =
     ⊎-elim
@@ -81,7 +81,7 @@ module _ (b : ℕ) (h : b < 256) (rest : List ℕ) where
       let n : eqb (digitOf (glyphOf (b / 16))) 16 ≡ false = rw e (digit-not (b / 16) (omega arith)) in
       rw (glyph-line (b / 16) (omega arith), n, e) low
 
-abbrev pushes : List ℕ → Stream → Stream
+abbrev pub pushes : List ℕ → Stream → Stream
 pushes [] x = x
 pushes (b ∷ bs) x = push b (pushes bs x)
 
@@ -99,7 +99,7 @@ line-read b bs h rest =
     ap (linesFrom fresh) (append-assoc (hexText (b ∷ bs)) (10 ∷ []) rest)
     ∙ pair-fresh b (h .0) (t ++ (10 ∷ rest)) ∙ ap (push b) (line-end bs (h .1) rest)
 
-pushes-stream : (bs cs : List ℕ) → pushes bs (stream cs) ≡ stream (bs ++ cs)
+pub pushes-stream : (bs cs : List ℕ) → pushes bs (stream cs) ≡ stream (bs ++ cs)
 pushes-stream [] cs = refl
 pushes-stream (b ∷ bs) cs = ap (push b) (pushes-stream bs cs)
 
@@ -144,6 +144,10 @@ frame-tail xs h =
     let c = checksum-small xs in
     bytes-append (escapes (sealed xs)) (255 ∷ [])
     (escapes-bytes (sealed xs) (bytes-append xs (octetsOf (checksum xs)) h (omega arith, (omega arith, tt)))) (omega arith, tt)
+
+pub frame-bytes : (xs : List ℕ) → Bytes xs → Bytes (frame xs)
+unfolding frame
+frame-bytes xs h = (omega arith, frame-tail xs h)
 
 frame-line : (xs : List ℕ) → Bytes xs → (rest : List ℕ) → linesFrom fresh (lineOf (frame xs) ++ rest) ≡ pushes (frame xs) (linesFrom fresh rest)
 unfolding frame
@@ -201,25 +205,3 @@ message-read w m h l =
     ∙ ap (λ (hs : List Happening). ofHeld w (ofEvents hs (after begin (inPackets m)))) (g .events)
     ∙ ap (λ (s : State). ofHeld w (ofEvents (messageEvents false m 0) s)) (g .state)
     ∙ rw (a, b) refl
-
--- "keep-alives are passed over": the sheet of a message after a keep-alive's line.
-module _ (w : ℕ) (m : List ℕ) (h : Bytes m) (l : length m ≤ messageLimit) where
-  abbrev alive : List ℕ
-  alive = frame requestBody
-
-  alive-lines : linesIn (lineOf alive ++ messageLines m) ≡ stream (alive ++ inPackets m)
-  alive-lines =
-      frame-line requestBody (omega arith, (omega arith, (omega arith, (omega arith, tt)))) (messageLines m)
-      ∙ ap (pushes alive) (packets-read (earlier (length m)) true m h) ∙ pushes-stream alive (inPackets m)
-
-  pub alive-passed : ofHeld w (heldIn (linesIn (lineOf alive ++ messageLines m))) ≡ ofMessage w m
-  unfolding ofEvents somethingOpen firstFault finished
-  alive-passed =
-      let n = 0 + length alive in
-      let g = gives-then alive (inPackets m) (request-back begin (opens-outside none) 0) (message-back m h l begin (opens-outside none) n) in
-      let a = events-right (earlier (length m)) true false m m n in
-      let b = events-one (earlier (length m)) true false m m n in
-      ap (λ (x : Stream). ofHeld w (heldIn x)) alive-lines
-      ∙ ap (λ (hs : List Happening). ofHeld w (ofEvents hs (after begin (alive ++ inPackets m)))) (g .events)
-      ∙ ap (λ (s : State). ofHeld w (ofEvents (happening n 4 false [] ∷ messageEvents false m n) s)) (g .state)
-      ∙ rw (a, b) refl
