@@ -1,10 +1,9 @@
--- Keep-alives among the lines of frames change nothing of what reading gives, and lines may be of either case.
-use Prim.Native.Nat.{ℕ, zero, suc, _+_, _*_, _/_, _%_, _≤_, _<_}
+-- Keep-alives among the lines of frames change nothing of what reading gives.
+use Prim.Native.Nat.{ℕ, zero, suc, _+_, _*_, _≤_}
 use mathlib.Core.Path.{_≡_, refl, sym, ap, subst, _∙_}
-use mathlib.Core.List.{List, [], _∷_, _++_, append-assoc, append-nil}
+use mathlib.Core.List.{List, [], _∷_, _++_}
 use mathlib.Core.Bool.{Bool, true, false}
 use native.Mathlib.Omega.{arith}
-use borrow.Author.Tests.{ne-eqb}
 use lib.ListN.{length, take, drop, length-take, length-drop}
 use lib.Dec.{leb, eqb}
 use Rattle.integers.specs.Digits.{pick}
@@ -21,65 +20,11 @@ use Rattle.framing_writer.specs.Read.{Bytes, Gives, happening}
 use Rattle.framing_writer.specs.Written.{sealed, frame, requestBody, responseBody, flags, header, packetBody, packet, payloadLimit}
 use Rattle.framing_writer.proofs.Reading.{state, opens-outside}
 use Rattle.framing_writer.proofs.Back.{frame-back, request-back, response-back}
-use Rattle.sheets.specs.Sheet.{glyphOf, hexText, lineOf, packetLines}
-use Rattle.sheets.specs.Lines.{digitOf, Stream, bad, stream, push, fresh, pairs, half, linesFrom, linesIn}
+use Rattle.sheets.specs.Lines.{Stream}
 use Rattle.sheets.specs.Reading.{finished, firstFault, ofEvents, heldIn, ofHeld, readSheet}
-use Rattle.sheets.specs.KeepAlives.{Digits, nothing, pair, Lines, over, line, last}
+use Rattle.sheets.specs.KeepAlives.{Lines}
 use Rattle.sheets.specs.KeepAlives.{WithAlives, end, own, request, response, Framed, AllFramed, packetFrames}
-use Rattle.sheets.proofs.Stream.{glyph-read, pushes, pushes-stream, bytes-append, bytes-take, bytes-drop, flags-small, frame-bytes}
-
--- ---- lines of either case
-
-module _ (high low : ℕ) (h : digitOf high < 16) (l : digitOf low < 16) (rest : List ℕ) where
-  abbrev said : ℕ
-  said = digitOf high * 16 + digitOf low
-
-  half-read : linesFrom (half (digitOf high)) (low ∷ rest) ≡ push said (linesFrom pairs rest)
-  unfolding linesFrom
-  half-read = rw (ne-eqb (digitOf low) 16 (λ q. omega arith)) refl
-
-  digit-read : pick (eqb (digitOf high) 16) bad (linesFrom (half (digitOf high)) (low ∷ rest)) ≡ push said (linesFrom pairs rest)
-  digit-read = rw (ne-eqb (digitOf high) 16 (λ q. omega arith)) half-read
-
-  fresh-read : linesFrom fresh (high ∷ low ∷ rest) ≡ push said (linesFrom pairs rest)
-  unfolding linesFrom
-  fresh-read = digit-read
-
-  -- 0A is no digit
-  no-line : high ≡ 10 → ⊥
-  unfolding digitOf
-  no-line q = let e : digitOf high ≡ 16 = ap digitOf q in omega arith
-
-  pairs-read : linesFrom pairs (high ∷ low ∷ rest) ≡ push said (linesFrom pairs rest)
-  unfolding linesFrom
-  pairs-read = rw (ne-eqb high 10 no-line) digit-read
-
-digits-read : {bs text : List ℕ} → Digits bs text → (rest : List ℕ) → linesFrom pairs (text ++ rest) ≡ pushes bs (linesFrom pairs rest)
-digits-read nothing rest = refl
-digits-read (pair {b} {bs} {text} high low h l e d) rest =
-    pairs-read high low h l (text ++ rest) ∙ ap (λ (n : ℕ). push n (linesFrom pairs (text ++ rest))) e ∙ ap (push b) (digits-read d rest)
-
--- a line that holds something
-abbrev Some : List ℕ → Type 0
-Some [] = ⊥
-Some (b ∷ bs) = Unit {0}
-
-line-digits : {f digits : List ℕ} → Some f → Digits f digits → (rest : List ℕ) → linesFrom fresh (digits ++ rest) ≡ pushes f (linesFrom pairs rest)
-line-digits s nothing rest = absurd s
-line-digits s (pair {b} {bs} {text} high low h l e d) rest =
-    fresh-read high low h l (text ++ rest) ∙ ap (λ (n : ℕ). push n (linesFrom pairs (text ++ rest))) e ∙ ap (push b) (digits-read d rest)
-
-abbrev AllSome : List (List ℕ) → Type 0
-AllSome [] = Unit {0}
-AllSome (f ∷ fs) = Some f × AllSome fs
-
-lines-read : {fs : List (List ℕ)} {text : List ℕ} → AllSome fs → Lines fs text → linesIn text ≡ stream (joined fs)
-unfolding linesFrom
-lines-read s over = refl
-lines-read s (line {f} {fs} {digits} {text} d l) =
-    line-digits (s .0) d (10 ∷ text) ∙ ap (pushes f) (lines-read (s .1) l) ∙ pushes-stream f (joined fs)
-lines-read s (last {f} {digits} d) =
-    ap (linesFrom fresh) (sym (append-nil digits)) ∙ line-digits (s .0) d [] ∙ pushes-stream f []
+use Rattle.sheets.proofs.Stream.{Some, AllSome, lines-read, bytes-append, bytes-take, bytes-drop, flags-small}
 
 -- ---- a frame makes one event, and the stream is outside frames after it
 
@@ -153,12 +98,7 @@ module _ (m : Message) (n : ℕ) (f : List ℕ) {h : Happening} {m′ : Message}
 same-then : {e : Said} {i j : ℕ} {hs ks : List Happening} {s t : State} → Same hs s ks t
     → Same (record { offset = i; said = e } ∷ hs) s (record { offset = j; said = e } ∷ ks) t
 unfolding firstFault finished
-same-then {e = e} r =
-    record {
-      faults = ap (λ (x : ℕ). pick (leb 10 (e .number)) (e .number) x) (r .faults);
-      messages = ap (λ (x : List (List ℕ)). pick (eqb (e .number) 3) (e .message ∷ x) x) (r .messages);
-      states = r .states;
-    }
+same-then r = record { faults = rw (r .faults) refl; messages = rw (r .messages) refl; states = r .states }
 
 -- a keep-alive before the second
 same-request : {i : ℕ} {hs ks : List Happening} {s t : State} → Same hs s ks t → Same hs s (happening i 4 false [] ∷ ks) t
@@ -228,17 +168,7 @@ passed w {fs} {gs} r a l l′ =
     ∙ rw (e .faults, e .messages, e .states) refl
     ∙ ap (λ (x : Stream). ofHeld w (heldIn x)) (sym (lines-read s l))
 
--- ---- the lines that the writer writes are such lines, of such frames
-
-hex-digits : (bs : List ℕ) → Bytes bs → Digits bs (hexText bs)
-unfolding hexText
-hex-digits [] h = nothing
-hex-digits (b ∷ bs) h =
-    let x = h .0 in
-    let hi = glyph-read (b / 16) (omega arith) in
-    let lo = glyph-read (b % 16) (omega arith) in
-    let e : digitOf (glyphOf (b / 16)) * 16 + digitOf (glyphOf (b % 16)) ≡ b = omega arith in
-    pair (glyphOf (b / 16)) (glyphOf (b % 16)) (omega arith) (omega arith) e (hex-digits bs (h .1))
+-- ---- the frames of a message
 
 packet-framed : (first last′ : Bool) (p : List ℕ) → Bytes p → length p ≤ payloadLimit → Framed (packet first last′ p)
 unfolding packet
@@ -261,22 +191,3 @@ packets-framed (suc k) first m h l =
       packet-framed first false (take payloadLimit m) (bytes-take payloadLimit m h) (omega arith),
       packets-framed k false (drop payloadLimit m) (bytes-drop payloadLimit m h) (omega arith),
     )
-
-line-of : {f : List ℕ} {fs : List (List ℕ)} {text : List ℕ} → Bytes f → Lines fs text → Lines (f ∷ fs) (lineOf f ++ text)
-line-of {f} {fs} {text} h l = subst (Lines (f ∷ fs)) (sym (append-assoc (hexText f) (10 ∷ []) text)) (line (hex-digits f h) l)
-
-packet-bytes : (first last′ : Bool) (p : List ℕ) → Bytes p → Bytes (packet first last′ p)
-unfolding packet
-packet-bytes first last′ p h =
-    let f = flags-small first last′ (eqb (length p) 0) in
-    let b : Bytes (header (flags first last′ (length p))) = omega arith in
-    frame-bytes (packetBody first last′ p) (bytes-append (header (flags first last′ (length p))) p b h)
-
-pub packets-lines : (k : ℕ) (first : Bool) (m : List ℕ) → Bytes m → Lines (packetFrames k first m) (packetLines k first m)
-unfolding packetFrames packetLines
-packets-lines zero first m h =
-    let p = packet first true m in
-    subst (Lines (p ∷ [])) (append-nil (lineOf p)) (line-of (packet-bytes first true m h) over)
-packets-lines (suc k) first m h =
-    line-of (packet-bytes first false (take payloadLimit m) (bytes-take payloadLimit m h))
-    (packets-lines k false (drop payloadLimit m) (bytes-drop payloadLimit m h))

@@ -23,8 +23,8 @@ use Rattle.desk_calls.specs.Calls.{deskLegal}
 use Rattle.sheets.specs.Sheet.{Desk, desk, sheetTree, sheetMessage, sheetOf}
 use Rattle.sheets.specs.KeepAlives.{AllFramed, Lines, WithAlives, sheetFrames}
 use Rattle.sheets.specs.Reading.{Sheet, refused, read, ofEntries, ofAnswer, ofMessage, readSheet}
-use Rattle.sheets.proofs.Stream.{message-read}
-use Rattle.sheets.proofs.Alives.{passed, packets-framed, packets-lines}
+use Rattle.sheets.proofs.Stream.{message-read, packets-lines}
+use Rattle.sheets.proofs.Alives.{passed, packets-framed}
 use Rattle.sheets.proofs.Asked.{cells-ok, entries-read}
 use Rattle.sheets.proofs.Suited.{sheet-legal, sheet-count}
 use Rattle.sheets.proofs.Reals.{sheet-below}
