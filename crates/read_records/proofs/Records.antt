@@ -26,7 +26,7 @@ use Rattle.records.specs.declared.Connection.{Connection}
 use Rattle.records.specs.declared.ReadConnection.the-variants.{Entry as ConnectionEntry}
 use Rattle.records.specs.declared.Stream.{Stream}
 use Rattle.records.specs.declared.ReadStream.the-variants.{Entry as StreamEntry}
-use Rattle.records.specs.Held.{HeldKey}
+use Rattle.records.specs.Held.{HeldKey, HeldParameter, HeldNode, HeldMatrix, HeldCommand, HeldConnection, HeldStream}
 use Rattle.records.specs.Member.{keyCell, keyKind}
 use Rattle.records.specs.Record.{entry, parameterCells, parameterRow, parameterRead, nodeCells, nodeRow, nodeRead, matrixCells, matrixRow, matrixRead}
 use Rattle.records.specs.Record.{commandCells, commandRow, commandRead, connectionCells, connectionRow, connectionRead, streamCells, streamRow, streamRead}
@@ -184,23 +184,25 @@ module _ (p : ℕ) (low : p ≤ 256) (vs : List Cell) (size : length vs ≡ 16) 
         ∙ on (key .cells) (on (m1 .cells) (on (m2 .cells) (on (m3 .cells) (on (m4 .cells) (on (m5 .cells) (on (m6 .cells)
         (on (nothing-in _ s7) (on (nothing-in _ s8) (on (m9 .cells) (on (m10 .cells) (on (nothing-in _ s11) (on (m12 .cells)
         (on (nothing-in _ s13) (on (nothing-in _ s14) (on (m15 .cells) refl))))))))))))))) in
+        let held : HeldParameter x = record {
+          parent = up .held;
+          key = key .held;
+          value = m3 .held;
+          minimum = m4 .held;
+          maximum = m5 .held;
+          access = m6 .held;
+          factor = m9 .held;
+          step = m12 .held;
+          stream = m15 .held;
+        } in
         let same : row e ≡ parameterRow x = same-row (k ∙ kind-by 1 5 (key .member) b (key .sort)) (up .words) cs in (
           x,
           (
             key .sort,
             (
-              ap parameterRead same ∙ parameter-back x (record {
-                parent = up .held;
-                key = key .held;
-                value = m3 .held;
-                minimum = m4 .held;
-                maximum = m5 .held;
-                access = m6 .held;
-                factor = m9 .held;
-                step = m12 .held;
-                stream = m15 .held;
-              }),
+              ap parameterRead same ∙ parameter-back x held,
               record {
+                held = held;
                 parent = up .kept;
                 key = key .kept;
                 identifier = text-kept (m1 .member) (m1 .cells);
@@ -237,13 +239,18 @@ module _ (p : ℕ) (low : p ≤ 256) (vs : List Cell) (size : length vs ≡ 16) 
         let cs : vs ≡ nodeCells x =
         listed
         ∙ on (key .cells) (on (m1 .cells) (on (m2 .cells) (on (m3 .cells) (on (m4 .cells) (off-blank 11 5 off))))) in
+        let held : HeldNode x = record {
+          parent = up .held;
+          key = key .held;
+        } in
         let same : row e ≡ nodeRow x = same-row (k ∙ kind-by 3 6 (key .member) b (key .sort)) (up .words) cs in (
           x,
           (
             key .sort,
             (
-              ap nodeRead same ∙ node-back x (record { parent = up .held; key = key .held }),
+              ap nodeRead same ∙ node-back x held,
               record {
+                held = held;
                 parent = up .kept;
                 key = key .kept;
                 identifier = text-kept (m1 .member) (m1 .cells);
@@ -284,22 +291,24 @@ module _ (p : ℕ) (low : p ≤ 256) (vs : List Cell) (size : length vs ≡ 16) 
         listed
         ∙ on (key .cells) (on (m1 .cells) (on (m2 .cells) (on (m3 .cells) (on (m4 .cells) (on (m5 .cells) (on (m6 .cells) (on (m7 .cells) (on (m8 .cells)
         (off-blank 7 9 off))))))))) in
+        let held : HeldMatrix x = record {
+          parent = up .held;
+          key = key .held;
+          «matrix_type» = m3 .held;
+          mode = m4 .held;
+          targets = m5 .held;
+          sources = m6 .held;
+          «total_limit» = m7 .held;
+          «target_limit» = m8 .held;
+        } in
         let same : row e ≡ matrixRow x = same-row (k ∙ kind-by 4 7 (key .member) b (key .sort)) (up .words) cs in (
           x,
           (
             key .sort,
             (
-              ap matrixRead same ∙ matrix-back x (record {
-                parent = up .held;
-                key = key .held;
-                «matrix_type» = m3 .held;
-                mode = m4 .held;
-                targets = m5 .held;
-                sources = m6 .held;
-                «total_limit» = m7 .held;
-                «target_limit» = m8 .held;
-              }),
+              ap matrixRead same ∙ matrix-back x held,
               record {
+                held = held;
                 parent = up .kept;
                 key = key .kept;
                 identifier = text-kept (m1 .member) (m1 .cells);
@@ -324,11 +333,16 @@ module _ (p : ℕ) (low : p ≤ 256) (vs : List Cell) (size : length vs ≡ 16) 
       let cs : vs ≡ commandCells x =
       listed
       ∙ on (m0 .cells) (on (m1 .cells) (off-blank 14 2 off)) in
+      let held : HeldCommand x = record {
+        parent = up .held;
+        number = m0 .held;
+        mask = m1 .held;
+      } in
       let same : row (entry 2 p vs) ≡ commandRow x = same-row refl (up .words) cs in (
         x,
         (
-          ap commandRead same ∙ command-back x (record { parent = up .held; number = m0 .held; mask = m1 .held }),
-          record { parent = up .kept; number = sym (m0 .cells); mask = m1 .kept },
+          ap commandRead same ∙ command-back x held,
+          record { held = held; parent = up .kept; number = sym (m0 .cells); mask = m1 .kept },
         ),
       )
 
@@ -342,11 +356,16 @@ module _ (p : ℕ) (low : p ≤ 256) (vs : List Cell) (size : length vs ≡ 16) 
       let cs : vs ≡ connectionCells x =
       listed
       ∙ on (m0 .cells) (on (m1 .cells) (on (m2 .cells) (off-blank 13 3 off))) in
+      let held : HeldConnection x = record {
+        parent = up .held;
+        target = m0 .held;
+        operation = m2 .held;
+      } in
       let same : row (entry 8 p vs) ≡ connectionRow x = same-row refl (up .words) cs in (
         x,
         (
-          ap connectionRead same ∙ connection-back x (record { parent = up .held; target = m0 .held; operation = m2 .held }),
-          record { parent = up .kept; target = sym (m0 .cells); sources = list-kept (m1 .member) (m1 .cells); operation = m2 .kept },
+          ap connectionRead same ∙ connection-back x held,
+          record { held = held; parent = up .kept; target = sym (m0 .cells); sources = list-kept (m1 .member) (m1 .cells); operation = m2 .kept },
         ),
       )
 
@@ -359,12 +378,18 @@ module _ (p : ℕ) (low : p ≤ 256) (vs : List Cell) (size : length vs ≡ 16) 
       let cs : vs ≡ streamCells x =
       listed
       ∙ on (m0 .cells) (on (m1 .cells) (off-blank 14 2 off)) in
+      let held : HeldStream x = record {
+        parent = up .held;
+        identifier = m0 .held;
+        value = m1 .held;
+        present = some-value (m1 .member) (m1 .cells) there;
+      } in
       let same : row (entry 9 p vs) ≡ streamRow x = same-row refl (up .words) cs in (
         x,
         (
           ap streamRead same
-              ∙ stream-back x (record { parent = up .held; identifier = m0 .held; value = m1 .held; present = some-value (m1 .member) (m1 .cells) there }),
-          record { parent = up .kept; identifier = sym (m0 .cells); value = sym (m1 .cells) },
+              ∙ stream-back x held,
+          record { held = held; parent = up .kept; identifier = sym (m0 .cells); value = sym (m1 .cells) },
         ),
       )
 

@@ -32,6 +32,7 @@ use Rattle.records.specs.declared.ReadMatrix.the-variants.{Entry as MatrixEntry
 use Rattle.records.specs.declared.ReadCommand.the-variants.{Entry as CommandEntry}
 use Rattle.records.specs.declared.ReadConnection.the-variants.{Entry as ConnectionEntry}
 use Rattle.records.specs.declared.ReadStream.the-variants.{Entry as StreamEntry}
+use Rattle.records.specs.Held.{HeldParameter, HeldNode, HeldMatrix, HeldCommand, HeldConnection, HeldStream}
 use Rattle.records.specs.Record.{parameterRead, nodeRead, matrixRead, commandRead, connectionRead, streamRead}
 
 -- "Every listed member is kept, an absent one as absent": what the reader keeps of a member with this value (`cellOf`, `numbersCell`:
@@ -68,8 +69,10 @@ member e n = getD (e .cells) n absent
 abbrev pub contents : Entry → ℕ → Cell
 contents e n = getD (e .cells) (suc n) absent
 
+-- Of each kind its struct, member by member. What it holds fits its types, and its reals are numbers (`held`: crates/records/specs/Held.antt).
 -- "All contents: identifier 0, description 1. .. Parameter: value 2, minimum 3, maximum 4, access 5, factor 8, online 9, step 11, stream identifier 14."
 pub record IsParameter (e : Entry) (x : Parameter) : Type 0 where
+  pub held : HeldParameter x
   pub parent : parentKept (x .parent) ≡ e .parent
   pub key : keyKept (x .key) ≡ member e 0
   pub identifier : textKept (x .identifier) ≡ contents e 0
@@ -85,6 +88,7 @@ pub record IsParameter (e : Entry) (x : Parameter) : Type 0 where
 
 -- "Node: root flag 2, online 3."
 pub record IsNode (e : Entry) (x : Node) : Type 0 where
+  pub held : HeldNode x
   pub parent : parentKept (x .parent) ≡ e .parent
   pub key : keyKept (x .key) ≡ member e 0
   pub identifier : textKept (x .identifier) ≡ contents e 0
@@ -94,6 +98,7 @@ pub record IsNode (e : Entry) (x : Node) : Type 0 where
 
 -- "Matrix: type 2, mode 3, targets 4, sources 5, total limit 6, limit per target 7."
 pub record IsMatrix (e : Entry) (x : Matrix) : Type 0 where
+  pub held : HeldMatrix x
   pub parent : parentKept (x .parent) ≡ e .parent
   pub key : keyKept (x .key) ≡ member e 0
   pub identifier : textKept (x .identifier) ≡ contents e 0
@@ -107,12 +112,14 @@ pub record IsMatrix (e : Entry) (x : Matrix) : Type 0 where
 
 -- "Command: number 0, mask 1."
 pub record IsCommand (e : Entry) (x : Command) : Type 0 where
+  pub held : HeldCommand x
   pub parent : parentKept (x .parent) ≡ e .parent
   pub number : cellOf (Int (x .number)) ≡ member e 0
   pub mask : numberKept (x .mask) ≡ member e 1
 
 -- "Connection: target 0, sources 1, operation 2."
 pub record IsConnection (e : Entry) (x : Connection) : Type 0 where
+  pub held : HeldConnection x
   pub parent : parentKept (x .parent) ≡ e .parent
   pub target : cellOf (Int (x .target)) ≡ member e 0
   pub sources : listKept (x .sources) ≡ member e 1
@@ -120,6 +127,7 @@ pub record IsConnection (e : Entry) (x : Connection) : Type 0 where
 
 -- "StreamEntry: identifier 0, value 1."
 pub record IsStream (e : Entry) (x : Stream) : Type 0 where
+  pub held : HeldStream x
   pub parent : parentKept (x .parent) ≡ e .parent
   pub identifier : cellOf (Int (x .identifier)) ≡ member e 0
   pub value : cellOf (x .value) ≡ member e 1
