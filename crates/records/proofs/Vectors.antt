@@ -2,7 +2,7 @@
 -- here its own context number plus 100, so that a member in another's cell shows.
 use mathlib.Core.Path.{_≡_, refl}
 use mathlib.Core.Bool.{true, false}
-use mathlib.Core.List.{List, [], _∷_}
+use mathlib.Core.List.{[], _∷_, _++_}
 use lib.IntN.{pos, negsuc}
 use Rattle.values.specs.declared.Value.the-variants.{Absent, Int, Real, Text, Bool as Truth, Octets}
 use Rattle.entries.specs.Entry.{words, blanks}
@@ -11,7 +11,13 @@ use Rattle.records.specs.declared.Flag.the-variants.{Absent as NoFlag, I
 use Rattle.records.specs.declared.Part.the-variants.{Absent as NoPart, At as PartAt}
 use Rattle.records.specs.declared.Key.the-variants.{Number as ByNumber, Path as ByPath}
 use Rattle.records.specs.declared.Parent.the-variants.{Root, At}
-use Rattle.records.specs.Record.{parameterRow, nodeRow, matrixRow, commandRow, connectionRow, streamRow}
+use Rattle.records.specs.declared.ReadParameter.the-variants.{Other as ParameterOther}
+use Rattle.records.specs.declared.ReadNode.the-variants.{Other as NodeOther}
+use Rattle.records.specs.declared.ReadMatrix.the-variants.{Other as MatrixOther}
+use Rattle.records.specs.declared.ReadStream.the-variants.{Other as StreamOther}
+use Rattle.records.specs.Member.{intOf, numberOf, flagOf, partOf, valueOf, cellAt, keyOf, parentOf, same}
+use Rattle.records.specs.Record.{told, parameterRow, nodeRow, matrixRow, commandRow, connectionRow, streamRow}
+use Rattle.records.specs.Record.{parameterOf, parameterRead, nodeOf, nodeRead, matrixOf, matrixRead, streamOf, streamRead}
 
 -- "value 2, minimum 3, maximum 4, access 5, factor 8, online 9, step 11, stream identifier 14", behind identifier 0 and description 1
 pub v-parameter : parameterRow (record {
@@ -125,3 +131,13 @@ pub v-stream : streamRow (record { parent = Root; identifier = pos 100; value = 
     ≡ 9 ∷ 0 ∷ 2 ∷ 100 ∷ 0 ∷ 4 ∷ 60 ∷ 6 ∷ words (blanks 14)
 unfolding streamRow words
 v-stream = refl
+
+-- What is no entry of a kind: a row of another kind, one with a word where its kind has no member, a stream entry whose value is absent.
+pub v-other :
+    (parameterRead (3 ∷ 0 ∷ 2 ∷ 7 ∷ 0 ∷ words (blanks 15)) ≡ ParameterOther) ×
+    (nodeRead (1 ∷ 0 ∷ 2 ∷ 7 ∷ 0 ∷ words (blanks 15)) ≡ NodeOther) ×
+    (matrixRead (7 ∷ 0 ∷ 13 ∷ 40 ∷ 2 ∷ words (blanks 14) ++ (0 ∷ 0 ∷ 1 ∷ [])) ≡ MatrixOther) ×
+    (streamRead (9 ∷ 0 ∷ 2 ∷ 100 ∷ 0 ∷ words (blanks 15)) ≡ StreamOther)
+unfolding words blanks intOf numberOf flagOf partOf valueOf cellAt keyOf parentOf same told parameterRow parameterOf parameterRead
+    nodeRow nodeOf nodeRead matrixRow matrixOf matrixRead streamRow streamOf streamRead
+v-other = (refl, refl, refl, refl)

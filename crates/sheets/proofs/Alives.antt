@@ -191,3 +191,9 @@ packets-framed (suc k) first m h l =
       packet-framed first false (take payloadLimit m) (bytes-take payloadLimit m h) (omega arith),
       packets-framed k false (drop payloadLimit m) (bytes-drop payloadLimit m h) (omega arith),
     )
+
+-- ---- with none put in
+
+pub without : (fs : List (List ℕ)) → WithAlives fs fs
+without [] = end
+without (f ∷ fs) = own f (without fs)

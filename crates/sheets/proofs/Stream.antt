@@ -151,7 +151,7 @@ frame-tail xs h =
     bytes-append (escapes (sealed xs)) (255 ∷ [])
     (escapes-bytes (sealed xs) (bytes-append xs (octetsOf (checksum xs)) h (omega arith, (omega arith, tt)))) (omega arith, tt)
 
-frame-bytes : (xs : List ℕ) → Bytes xs → Bytes (frame xs)
+pub frame-bytes : (xs : List ℕ) → Bytes xs → Bytes (frame xs)
 unfolding frame
 frame-bytes xs h = (omega arith, frame-tail xs h)
 
@@ -177,7 +177,7 @@ hex-digits (b ∷ bs) h =
     let e : digitOf (glyphOf (b / 16)) * 16 + digitOf (glyphOf (b % 16)) ≡ b = omega arith in
     pair (glyphOf (b / 16)) (glyphOf (b % 16)) (omega arith) (omega arith) e (hex-digits bs (h .1))
 
-line-of : {f : List ℕ} {fs : List (List ℕ)} {text : List ℕ} → Bytes f → Lines fs text → Lines (f ∷ fs) (lineOf f ++ text)
+pub line-of : {f : List ℕ} {fs : List (List ℕ)} {text : List ℕ} → Bytes f → Lines fs text → Lines (f ∷ fs) (lineOf f ++ text)
 line-of {f} {fs} {text} h l = subst (Lines (f ∷ fs)) (sym (append-assoc (hexText f) (10 ∷ []) text)) (line (hex-digits f h) l)
 
 packet-bytes : (first last′ : Bool) (p : List ℕ) → Bytes p → Bytes (packet first last′ p)

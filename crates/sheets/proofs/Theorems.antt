@@ -3,7 +3,7 @@
 -- `sheetOf` (specs/Sheet.antt) is what the writer writes, `readSheet` (specs/Reading.antt) what reading a byte string gives.
 use Prim.Native.Nat.{ℕ, _+_, _*_, _≤_}
 use mathlib.Core.Path.{_≡_, sym, ap, _∙_}
-use mathlib.Core.List.{List, [], _∷_}
+use mathlib.Core.List.{List, [], _∷_, _++_}
 use mathlib.Core.Bool.{true}
 use native.Mathlib.Omega.{arith}
 use borrow.Author.Tests.{le-ltb}
@@ -11,7 +11,7 @@ use lib.ListN.{length}
 use Rattle.integers.proofs.Radix.{Below}
 use Rattle.forest.specs.Written.{writtenReal}
 use Rattle.framing_writer.specs.Read.{Bytes}
-use Rattle.framing_writer.specs.Written.{payloadLimit, earlier}
+use Rattle.framing_writer.specs.Written.{frame, requestBody, payloadLimit, earlier}
 use Rattle.walk.specs.Walk.{Walk}
 use Rattle.reading_back.proofs.ReadBack.{reads-back, flat-count, written-spells}
 use Rattle.crosspoints.specs.declared.Figures.{Figures}
@@ -20,11 +20,11 @@ use Rattle.crosspoints.specs.Crosspoints.{Cells}
 use Rattle.crosspoints.proofs.Laws.{fit-targets-le}
 use Rattle.crosspoints.proofs.Legal.{legal-fit}
 use Rattle.desk_calls.specs.Calls.{deskLegal}
-use Rattle.sheets.specs.Sheet.{Desk, desk, sheetTree, sheetMessage, sheetOf}
-use Rattle.sheets.specs.KeepAlives.{AllFramed, Lines, WithAlives, sheetFrames}
+use Rattle.sheets.specs.Sheet.{Desk, desk, lineOf, sheetTree, sheetMessage, sheetOf}
+use Rattle.sheets.specs.KeepAlives.{AllFramed, Lines, WithAlives, request, sheetFrames}
 use Rattle.sheets.specs.Reading.{Sheet, refused, read, ofEntries, ofAnswer, ofMessage, readSheet}
-use Rattle.sheets.proofs.Stream.{message-read, packets-lines}
-use Rattle.sheets.proofs.Alives.{passed, packets-framed}
+use Rattle.sheets.proofs.Stream.{message-read, frame-bytes, line-of, packets-lines}
+use Rattle.sheets.proofs.Alives.{passed, packets-framed, without}
 use Rattle.sheets.proofs.Asked.{cells-ok, entries-read}
 use Rattle.sheets.proofs.Suited.{sheet-legal, sheet-count}
 use Rattle.sheets.proofs.Reals.{sheet-below}
@@ -83,6 +83,18 @@ sheet-alive d ok gs text a l =
     alives-passed side (sheetFrames side d) gs (sheetOf side d) text (packets-framed (earlier (length m)) true m b n)
     (packets-lines (earlier (length m)) true m b) a l
     ∙ sheet-read d ok
+
+-- For one, with a request's line before it, all in the writer's own digits.
+pub sheet-alive-first : (d : Desk) → deskLegal side (d .figures) (d .path) (d .cells) ≡ true
+    → readSheet side (lineOf (frame requestBody) ++ sheetOf side d) ≡ read d
+unfolding sheetOf
+sheet-alive-first d ok =
+    let few : side ≤ 64 = omega arith in
+    let m = sheetMessage side d in
+    let b = bytes side few (d .figures) (d .path) (d .cells) ok in
+    let q : Bytes requestBody = (omega arith, (omega arith, (omega arith, (omega arith, tt)))) in
+    sheet-alive d ok (frame requestBody ∷ sheetFrames side d) (lineOf (frame requestBody) ++ sheetOf side d) (request (without (sheetFrames side d)))
+    (line-of (frame-bytes requestBody q) (packets-lines (earlier (length m)) true m b))
 
 -- Legal desks with one sheet are one desk: a sheet leaves nothing out.
 abbrev deskOr : Desk → Sheet → Desk
