@@ -30,15 +30,15 @@ set-three (x ∷ y ∷ z ∷ w ∷ ws) a b c h = absurd (omega arith)
 abbrev Told : Answer → ℕ → List ℕ → List ℕ → Type 0
 Told a number words answer = (number ≡ saidBy a .number) × (words ≡ wordsOf a answer)
 
-module _ (answer : List ℕ) {a : Answer} {words : List ℕ} {x : ℕ} where
-  pub tell-refused : {number place : ℕ} → a ≡ Refused number place → words ≡ x ∷ 0 ∷ 0 ∷ [] → x ≡ place → Told a number words answer
-  tell-refused e w p = rw (e, w, p) (refl, refl)
+module _ (answer : List ℕ) {a : Answer} {words : List ℕ} {x y z : ℕ} where
+  pub tell-refused : {number place : ℕ} → a ≡ Refused number place → words ≡ x ∷ y ∷ z ∷ [] → x ≡ place → y ≡ 0 → z ≡ 0 → Told a number words answer
+  tell-refused e w p q r = rw (e, w, p, q, r) (refl, refl)
 
-  pub tell-room : {count : ℕ} → a ≡ Room count → words ≡ 0 ∷ x ∷ 0 ∷ [] → x ≡ count → Told a 38 words answer
-  tell-room e w p = rw (e, w, p) (refl, refl)
+  pub tell-room : {count : ℕ} → a ≡ Room count → words ≡ x ∷ y ∷ z ∷ [] → x ≡ 0 → y ≡ count → z ≡ 0 → Told a 38 words answer
+  tell-room e w p q r = rw (e, w, p, q, r) (refl, refl)
 
-  pub tell-read : {root count : ℕ} → a ≡ Read root count → words ≡ 0 ∷ x ∷ root ∷ [] → x ≡ count → Told a 0 words answer
-  tell-read e w p = rw (e, w, p) (refl, refl)
+  pub tell-read : {root count : ℕ} → a ≡ Read root count → words ≡ x ∷ y ∷ z ∷ [] → x ≡ 0 → y ≡ count → z ≡ root → Told a 0 words answer
+  tell-read e w p q r = rw (e, w, p, q, r) (refl, refl)
 
 module _ (s : List ℕ) (rows : Rows) (answer : List ℕ) where
   pub call-other : (length answer ≡ 3 → ⊥) → calls s rows answer ≡ call 1 rows answer

@@ -1,5 +1,6 @@
 pub mod Laws
 pub mod Stream
+pub mod Alives
 pub mod Apply
 pub mod Step
 pub mod Asked

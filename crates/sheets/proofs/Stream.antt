@@ -1,4 +1,4 @@
--- The lines of a message are read as its packets, and these by the rules as exactly that message.
+-- Lines of either case are read as their frames, those of a message as its packets, and these by the rules as exactly that message.
 use Prim.Native.Nat.{ℕ, zero, suc, _+_, _-_, _*_, _/_, _%_, _≤_, _<_}
 use mathlib.Core.Path.{_≡_, refl, sym, ap, subst, _∙_}
 use mathlib.Core.List.{List, [], _∷_, _++_, append-assoc, append-nil}
@@ -14,16 +14,18 @@ use Rattle.integers.proofs.Radix.{lt-or-le}
 use Rattle.framing.specs.Numbers as framing
 use Rattle.framing.specs.Numbers.{messageLimit}
 use Rattle.framing.specs.Checksum.{checksum, octetsOf}
-use Rattle.framing.specs.Rules.{none, State, begin, happens, after, Happening}
-use Rattle.framing_writer.specs.Written.{escape, escapes, sealed, frame, requestBody, flags, header, packetBody, packet, packets}
+use Rattle.framing.specs.Offers.{joined}
+use Rattle.framing.specs.Rules.{none, State, begin, after, Happening}
+use Rattle.framing_writer.specs.Written.{escape, escapes, sealed, frame, flags, header, packetBody, packet, packets}
 use Rattle.framing_writer.specs.Written.{payloadLimit, earlier, inPackets}
 use Rattle.framing_writer.proofs.Laws.{escape-plain, escape-high}
-use Rattle.framing_writer.specs.Read.{Bytes, Gives, happening, packetEvents, messageEvents}
-use Rattle.framing_writer.proofs.Reading.{gives-then, opens-outside}
-use Rattle.framing_writer.proofs.Back.{request-back, message-back}
+use Rattle.framing_writer.specs.Read.{Bytes, packetEvents, messageEvents}
+use Rattle.framing_writer.proofs.Reading.{opens-outside}
+use Rattle.framing_writer.proofs.Back.{message-back}
 use Rattle.sheets.specs.Sheet.{glyphOf, hexText, lineOf, packetLines, messageLines}
-use Rattle.sheets.specs.Lines.{digitOf, Stream, bad, stream, push, Come, fresh, pairs, half, linesFrom, linesIn}
-use Rattle.sheets.specs.Reading.{Sheet, finished, somethingOpen, firstFault, ofMessage, ofEvents, heldIn, ofHeld}
+use Rattle.sheets.specs.Lines.{digitOf, Stream, bad, stream, push, fresh, pairs, half, linesFrom, linesIn}
+use Rattle.sheets.specs.KeepAlives.{Digits, nothing, pair, Lines, over, line, last, packetFrames}
+use Rattle.sheets.specs.Reading.{finished, somethingOpen, firstFault, ofMessage, ofEvents, heldIn, ofHeld}
 
 -- ---- digits
 
@@ -46,62 +48,66 @@ glyph-read d h =
     rw (e, le-ltb _ _ a, le-ltb _ _ b, le-ltb _ _ c, lt-ltb _ _ f) (omega arith))
     (lt-or-le d 10)
 
-digit-not : (d : ℕ) → d < 16 → eqb d 16 ≡ false
-digit-not d h = ne-eqb d 16 (λ q. omega arith)
-
-glyph-line : (d : ℕ) → d < 16 → eqb (glyphOf d) 10 ≡ false
-glyph-line d h =
-    ⊎-elim
-    (λ (k : d < 10). let e : glyphOf d ≡ 48 + d = simp (lt-ltb _ _ k) in rw e (ne-eqb (48 + d) 10 (λ q. omega arith)))
-    (λ (k : 10 ≤ d). let e : glyphOf d ≡ 55 + d = simp (le-ltb _ _ k) in rw e (ne-eqb (55 + d) 10 (λ q. omega arith)))
-    (lt-or-le d 10)
-
--- ---- a pair of digits, and a line
-
-module _ (b : ℕ) (h : b < 256) (rest : List ℕ) where
-  low : linesFrom (half (b / 16)) (glyphOf (b % 16) ∷ rest) ≡ push b (linesFrom pairs rest)
-  unfolding linesFrom
-  low =
-      let e = glyph-read (b % 16) (omega arith) in
-      let n : eqb (digitOf (glyphOf (b % 16))) 16 ≡ false = rw e (digit-not (b % 16) (omega arith)) in
-      let i : b / 16 * 16 + b % 16 ≡ b = omega arith in
-      rw (n, e, i) refl
-
-  pub pair-fresh : linesFrom fresh (glyphOf (b / 16) ∷ glyphOf (b % 16) ∷ rest) ≡ push b (linesFrom pairs rest)
-  unfolding linesFrom
-  pair-fresh =
-      let e = glyph-read (b / 16) (omega arith) in
-      let n : eqb (digitOf (glyphOf (b / 16))) 16 ≡ false = rw e (digit-not (b / 16) (omega arith)) in
-      rw (n, e) low
-
-  pub pair-more : linesFrom pairs (glyphOf (b / 16) ∷ glyphOf (b % 16) ∷ rest) ≡ push b (linesFrom pairs rest)
-  unfolding linesFrom
-  pair-more =
-      let e = glyph-read (b / 16) (omega arith) in
-      let n : eqb (digitOf (glyphOf (b / 16))) 16 ≡ false = rw e (digit-not (b / 16) (omega arith)) in
-      rw (glyph-line (b / 16) (omega arith), n, e) low
-
 abbrev pushes : List ℕ → Stream → Stream
 pushes [] x = x
 pushes (b ∷ bs) x = push b (pushes bs x)
 
--- the rest of a line and 0A
-line-end : (bs : List ℕ) → Bytes bs → (rest : List ℕ) → linesFrom pairs (hexText bs ++ (10 ∷ rest)) ≡ pushes bs (linesFrom fresh rest)
-unfolding hexText linesFrom
-line-end [] h rest = refl
-line-end (b ∷ bs) h rest =
-    pair-more b (h .0) (hexText bs ++ (10 ∷ rest)) ∙ ap (push b) (line-end bs (h .1) rest)
-
-pub line-read : (b : ℕ) (bs : List ℕ) → Bytes (b ∷ bs) → (rest : List ℕ) → linesFrom fresh (lineOf (b ∷ bs) ++ rest) ≡ pushes (b ∷ bs) (linesFrom fresh rest)
-unfolding hexText
-line-read b bs h rest =
-    let t = hexText bs in
-    ap (linesFrom fresh) (append-assoc (hexText (b ∷ bs)) (10 ∷ []) rest)
-    ∙ pair-fresh b (h .0) (t ++ (10 ∷ rest)) ∙ ap (push b) (line-end bs (h .1) rest)
-
 pushes-stream : (bs cs : List ℕ) → pushes bs (stream cs) ≡ stream (bs ++ cs)
 pushes-stream [] cs = refl
 pushes-stream (b ∷ bs) cs = ap (push b) (pushes-stream bs cs)
+
+-- ---- lines of either case
+
+module _ (high low : ℕ) (h : digitOf high < 16) (l : digitOf low < 16) (rest : List ℕ) where
+  abbrev said : ℕ
+  said = digitOf high * 16 + digitOf low
+
+  half-read : linesFrom (half (digitOf high)) (low ∷ rest) ≡ push said (linesFrom pairs rest)
+  unfolding linesFrom
+  half-read = rw (ne-eqb (digitOf low) 16 (λ q. omega arith)) refl
+
+  digit-read : pick (eqb (digitOf high) 16) bad (linesFrom (half (digitOf high)) (low ∷ rest)) ≡ push said (linesFrom pairs rest)
+  digit-read = rw (ne-eqb (digitOf high) 16 (λ q. omega arith)) half-read
+
+  fresh-read : linesFrom fresh (high ∷ low ∷ rest) ≡ push said (linesFrom pairs rest)
+  unfolding linesFrom
+  fresh-read = digit-read
+
+  -- 0A is no digit
+  no-line : high ≡ 10 → ⊥
+  unfolding digitOf
+  no-line q = let e : digitOf high ≡ 16 = ap digitOf q in omega arith
+
+  pairs-read : linesFrom pairs (high ∷ low ∷ rest) ≡ push said (linesFrom pairs rest)
+  unfolding linesFrom
+  pairs-read = rw (ne-eqb high 10 no-line) digit-read
+
+digits-read : {bs text : List ℕ} → Digits bs text → (rest : List ℕ) → linesFrom pairs (text ++ rest) ≡ pushes bs (linesFrom pairs rest)
+digits-read nothing rest = refl
+digits-read (pair {b} {bs} {text} high low h l e d) rest =
+    pairs-read high low h l (text ++ rest) ∙ ap (λ (n : ℕ). push n (linesFrom pairs (text ++ rest))) e ∙ ap (push b) (digits-read d rest)
+
+-- a line that holds something
+abbrev pub Some : List ℕ → Type 0
+Some [] = ⊥
+Some (b ∷ bs) = Unit {0}
+
+line-digits : {f digits : List ℕ} → Some f → Digits f digits → (rest : List ℕ) → linesFrom fresh (digits ++ rest) ≡ pushes f (linesFrom pairs rest)
+line-digits s nothing rest = absurd s
+line-digits s (pair {b} {bs} {text} high low h l e d) rest =
+    fresh-read high low h l (text ++ rest) ∙ ap (λ (n : ℕ). push n (linesFrom pairs (text ++ rest))) e ∙ ap (push b) (digits-read d rest)
+
+abbrev pub AllSome : List (List ℕ) → Type 0
+AllSome [] = Unit {0}
+AllSome (f ∷ fs) = Some f × AllSome fs
+
+pub lines-read : {fs : List (List ℕ)} {text : List ℕ} → AllSome fs → Lines fs text → linesIn text ≡ stream (joined fs)
+unfolding linesFrom
+lines-read s over = refl
+lines-read s (line {f} {fs} {digits} {text} d l) =
+    line-digits (s .0) d (10 ∷ text) ∙ ap (pushes f) (lines-read (s .1) l) ∙ pushes-stream f (joined fs)
+lines-read s (last {f} {digits} d) =
+    ap (linesFrom fresh) (sym (append-nil digits)) ∙ line-digits (s .0) d [] ∙ pushes-stream f []
 
 -- ---- packets are bytes
 
@@ -145,9 +151,9 @@ frame-tail xs h =
     bytes-append (escapes (sealed xs)) (255 ∷ [])
     (escapes-bytes (sealed xs) (bytes-append xs (octetsOf (checksum xs)) h (omega arith, (omega arith, tt)))) (omega arith, tt)
 
-frame-line : (xs : List ℕ) → Bytes xs → (rest : List ℕ) → linesFrom fresh (lineOf (frame xs) ++ rest) ≡ pushes (frame xs) (linesFrom fresh rest)
+pub frame-bytes : (xs : List ℕ) → Bytes xs → Bytes (frame xs)
 unfolding frame
-frame-line xs h rest = line-read 254 (escapes (sealed xs) ++ 255 ∷ []) (omega arith, frame-tail xs h) rest
+frame-bytes xs h = (omega arith, frame-tail xs h)
 
 pub flags-small : (a b e : Bool) → framing.pick a 0x80 0 + framing.pick b 0x40 0 + framing.pick e 0x20 0 < 256
 flags-small true true true = omega arith
@@ -159,24 +165,50 @@ flags-small false true false = omega arith
 flags-small false false true = omega arith
 flags-small false false false = omega arith
 
-packet-line : (first last : Bool) (p : List ℕ) → Bytes p → (rest : List ℕ)
-    → linesFrom fresh (lineOf (packet first last p) ++ rest) ≡ pushes (packet first last p) (linesFrom fresh rest)
-unfolding packet
-packet-line first last p h rest =
-    let f = flags-small first last (eqb (length p) 0) in
-    let b : Bytes (header (flags first last (length p))) = omega arith in
-    frame-line (packetBody first last p) (bytes-append (header (flags first last (length p))) p b h) rest
+-- ---- the lines that the writer writes
 
-pub packets-read : (k : ℕ) (first : Bool) (m : List ℕ) → Bytes m → linesFrom fresh (packetLines k first m) ≡ stream (packets k first m)
-unfolding packetLines packets linesFrom
-packets-read zero first m h =
+hex-digits : (bs : List ℕ) → Bytes bs → Digits bs (hexText bs)
+unfolding hexText
+hex-digits [] h = nothing
+hex-digits (b ∷ bs) h =
+    let x = h .0 in
+    let hi = glyph-read (b / 16) (omega arith) in
+    let lo = glyph-read (b % 16) (omega arith) in
+    let e : digitOf (glyphOf (b / 16)) * 16 + digitOf (glyphOf (b % 16)) ≡ b = omega arith in
+    pair (glyphOf (b / 16)) (glyphOf (b % 16)) (omega arith) (omega arith) e (hex-digits bs (h .1))
+
+pub line-of : {f : List ℕ} {fs : List (List ℕ)} {text : List ℕ} → Bytes f → Lines fs text → Lines (f ∷ fs) (lineOf f ++ text)
+line-of {f} {fs} {text} h l = subst (Lines (f ∷ fs)) (sym (append-assoc (hexText f) (10 ∷ []) text)) (line (hex-digits f h) l)
+
+packet-bytes : (first last′ : Bool) (p : List ℕ) → Bytes p → Bytes (packet first last′ p)
+unfolding packet
+packet-bytes first last′ p h =
+    let f = flags-small first last′ (eqb (length p) 0) in
+    let b : Bytes (header (flags first last′ (length p))) = omega arith in
+    frame-bytes (packetBody first last′ p) (bytes-append (header (flags first last′ (length p))) p b h)
+
+pub packets-lines : (k : ℕ) (first : Bool) (m : List ℕ) → Bytes m → Lines (packetFrames k first m) (packetLines k first m)
+unfolding packetFrames packetLines
+packets-lines zero first m h =
     let p = packet first true m in
-    ap (linesFrom fresh) (sym (append-nil (lineOf p))) ∙ packet-line first true m h [] ∙ pushes-stream p [] ∙ ap stream (append-nil p)
-packets-read (suc k) first m h =
-    let p = packet first false (take payloadLimit m) in
-    packet-line first false (take payloadLimit m) (bytes-take payloadLimit m h) (packetLines k false (drop payloadLimit m))
-    ∙ ap (pushes p) (packets-read k false (drop payloadLimit m) (bytes-drop payloadLimit m h))
-    ∙ pushes-stream p (packets k false (drop payloadLimit m))
+    subst (Lines (p ∷ [])) (append-nil (lineOf p)) (line-of (packet-bytes first true m h) over)
+packets-lines (suc k) first m h =
+    line-of (packet-bytes first false (take payloadLimit m) (bytes-take payloadLimit m h))
+    (packets-lines k false (drop payloadLimit m) (bytes-drop payloadLimit m h))
+
+packets-some : (k : ℕ) (first : Bool) (m : List ℕ) → AllSome (packetFrames k first m)
+unfolding packetFrames packet frame
+packets-some zero first m = (tt, tt)
+packets-some (suc k) first m = (tt, packets-some k false (drop payloadLimit m))
+
+packets-joined : (k : ℕ) (first : Bool) (m : List ℕ) → joined (packetFrames k first m) ≡ packets k first m
+unfolding packetFrames packets
+packets-joined zero first m = append-nil (packet first true m)
+packets-joined (suc k) first m =
+    ap (λ (l : List ℕ). packet first false (take payloadLimit m) ++ l) (packets-joined k false (drop payloadLimit m))
+
+packets-read : (k : ℕ) (first : Bool) (m : List ℕ) → Bytes m → linesIn (packetLines k first m) ≡ stream (packets k first m)
+packets-read k first m h = lines-read (packets-some k first m) (packets-lines k first m h) ∙ ap stream (packets-joined k first m)
 
 -- ---- the events of a message: no fault, and that message alone
 
@@ -201,25 +233,3 @@ message-read w m h l =
     ∙ ap (λ (hs : List Happening). ofHeld w (ofEvents hs (after begin (inPackets m)))) (g .events)
     ∙ ap (λ (s : State). ofHeld w (ofEvents (messageEvents false m 0) s)) (g .state)
     ∙ rw (a, b) refl
-
--- "keep-alives are passed over": the sheet of a message after a keep-alive's line.
-module _ (w : ℕ) (m : List ℕ) (h : Bytes m) (l : length m ≤ messageLimit) where
-  abbrev alive : List ℕ
-  alive = frame requestBody
-
-  alive-lines : linesIn (lineOf alive ++ messageLines m) ≡ stream (alive ++ inPackets m)
-  alive-lines =
-      frame-line requestBody (omega arith, (omega arith, (omega arith, (omega arith, tt)))) (messageLines m)
-      ∙ ap (pushes alive) (packets-read (earlier (length m)) true m h) ∙ pushes-stream alive (inPackets m)
-
-  pub alive-passed : ofHeld w (heldIn (linesIn (lineOf alive ++ messageLines m))) ≡ ofMessage w m
-  unfolding ofEvents somethingOpen firstFault finished
-  alive-passed =
-      let n = 0 + length alive in
-      let g = gives-then alive (inPackets m) (request-back begin (opens-outside none) 0) (message-back m h l begin (opens-outside none) n) in
-      let a = events-right (earlier (length m)) true false m m n in
-      let b = events-one (earlier (length m)) true false m m n in
-      ap (λ (x : Stream). ofHeld w (heldIn x)) alive-lines
-      ∙ ap (λ (hs : List Happening). ofHeld w (ofEvents hs (after begin (alive ++ inPackets m)))) (g .events)
-      ∙ ap (λ (s : State). ofHeld w (ofEvents (happening n 4 false [] ∷ messageEvents false m n) s)) (g .state)
-      ∙ rw (a, b) refl

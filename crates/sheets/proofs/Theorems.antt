@@ -1,22 +1,18 @@
 -- The theorem of route sheets (document 01, "Desk"): the sheet of every legal desk is read back as the same desk, with its path, figures, limits as given
 -- and crosspoints.
 -- `sheetOf` (specs/Sheet.antt) is what the writer writes, `readSheet` (specs/Reading.antt) what reading a byte string gives.
-use Prim.Native.Nat.{ℕ, _≤_, _<_}
-use mathlib.Core.Path.{_≡_, refl, sym, ap, _∙_}
+use Prim.Native.Nat.{ℕ, _+_, _*_, _≤_}
+use mathlib.Core.Path.{_≡_, sym, ap, _∙_}
 use mathlib.Core.List.{List, [], _∷_, _++_}
 use mathlib.Core.Bool.{true}
 use native.Mathlib.Omega.{arith}
 use borrow.Author.Tests.{le-ltb}
 use lib.ListN.{length}
-use lib.Dec.{ltb}
 use Rattle.integers.proofs.Radix.{Below}
-use Rattle.entries.specs.Entry.{Entries}
-use Rattle.forest.specs.Content.{Item, itemsOf}
-use Rattle.forest.specs.Trees.{count, flat}
 use Rattle.forest.specs.Written.{writtenReal}
 use Rattle.framing_writer.specs.Read.{Bytes}
-use Rattle.framing_writer.specs.Written.{frame, requestBody}
-use Rattle.walk.specs.Walk.{Walk, walk}
+use Rattle.framing_writer.specs.Written.{frame, requestBody, payloadLimit, earlier}
+use Rattle.walk.specs.Walk.{Walk}
 use Rattle.reading_back.proofs.ReadBack.{reads-back, flat-count, written-spells}
 use Rattle.crosspoints.specs.declared.Figures.{Figures}
 use Rattle.crosspoints.specs.Figures.{side}
@@ -25,8 +21,10 @@ use Rattle.crosspoints.proofs.Laws.{fit-targets-le}
 use Rattle.crosspoints.proofs.Legal.{legal-fit}
 use Rattle.desk_calls.specs.Calls.{deskLegal}
 use Rattle.sheets.specs.Sheet.{Desk, desk, lineOf, sheetTree, sheetMessage, sheetOf}
+use Rattle.sheets.specs.KeepAlives.{AllFramed, Lines, WithAlives, request, sheetFrames}
 use Rattle.sheets.specs.Reading.{Sheet, refused, read, ofEntries, ofAnswer, ofMessage, readSheet}
-use Rattle.sheets.proofs.Stream.{message-read, alive-passed}
+use Rattle.sheets.proofs.Stream.{message-read, frame-bytes, line-of, packets-lines}
+use Rattle.sheets.proofs.Alives.{passed, packets-framed, without}
 use Rattle.sheets.proofs.Asked.{cells-ok, entries-read}
 use Rattle.sheets.proofs.Suited.{sheet-legal, sheet-count}
 use Rattle.sheets.proofs.Reals.{sheet-below}
@@ -67,14 +65,36 @@ module _ (w : ℕ) (few : w ≤ 64) (f : Figures) (path : List ℕ) (cells : Cel
 pub sheet-read : (d : Desk) → deskLegal side (d .figures) (d .path) (d .cells) ≡ true → readSheet side (sheetOf side d) ≡ read d
 sheet-read d ok = rows-read side (omega arith) (d .figures) (d .path) (d .cells) ok
 
--- "keep-alives are passed over": the line of a keep-alive before it changes nothing.
-pub sheet-alive : (d : Desk) → deskLegal side (d .figures) (d .path) (d .cells) ≡ true
-    → readSheet side (lineOf (frame requestBody) ++ sheetOf side d) ≡ read d
-unfolding readSheet sheetOf
-sheet-alive d ok =
+-- "keep-alives are passed over": with keep-alives before, between and after the lines of frames, whatever these hold, and in lines of either case, reading
+-- gives what it gives without.
+pub alives-passed : (w : ℕ) (fs gs : List (List ℕ)) (text text′ : List ℕ) → AllFramed fs → Lines fs text → WithAlives fs gs → Lines gs text′
+    → readSheet w text′ ≡ readSheet w text
+alives-passed w fs gs text text′ r l a l′ = passed w r a l l′
+
+-- So the sheet of every legal desk, with any number of keep-alives anywhere among its lines, is read back as the desk.
+pub sheet-alive : (d : Desk) → deskLegal side (d .figures) (d .path) (d .cells) ≡ true → (gs : List (List ℕ)) (text : List ℕ)
+    → WithAlives (sheetFrames side d) gs → Lines gs text → readSheet side text ≡ read d
+unfolding sheetOf
+sheet-alive d ok gs text a l =
     let few : side ≤ 64 = omega arith in
-    alive-passed side (sheetMessage side d) (bytes side few (d .figures) (d .path) (d .cells) ok) (short side few (d .figures) (d .path) (d .cells) ok)
-    ∙ tree-read side few (d .figures) (d .path) (d .cells) ok
+    let m = sheetMessage side d in
+    let b = bytes side few (d .figures) (d .path) (d .cells) ok in
+    let n : length m ≤ payloadLimit * (earlier (length m) + 1) = omega arith in
+    alives-passed side (sheetFrames side d) gs (sheetOf side d) text (packets-framed (earlier (length m)) true m b n)
+    (packets-lines (earlier (length m)) true m b) a l
+    ∙ sheet-read d ok
+
+-- For one, with a request's line before it, all in the writer's own digits.
+pub sheet-alive-first : (d : Desk) → deskLegal side (d .figures) (d .path) (d .cells) ≡ true
+    → readSheet side (lineOf (frame requestBody) ++ sheetOf side d) ≡ read d
+unfolding sheetOf
+sheet-alive-first d ok =
+    let few : side ≤ 64 = omega arith in
+    let m = sheetMessage side d in
+    let b = bytes side few (d .figures) (d .path) (d .cells) ok in
+    let q : Bytes requestBody = (omega arith, (omega arith, (omega arith, (omega arith, tt)))) in
+    sheet-alive d ok (frame requestBody ∷ sheetFrames side d) (lineOf (frame requestBody) ++ sheetOf side d) (request (without (sheetFrames side d)))
+    (line-of (frame-bytes requestBody q) (packets-lines (earlier (length m)) true m b))
 
 -- Legal desks with one sheet are one desk: a sheet leaves nothing out.
 abbrev deskOr : Desk → Sheet → Desk

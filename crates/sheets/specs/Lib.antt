@@ -1,5 +1,6 @@
 pub mod Sheet
 pub mod Lines
 pub mod Reading
+pub mod KeepAlives
 pub mod Vectors
 pub mod Steps

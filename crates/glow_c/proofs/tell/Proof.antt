@@ -46,7 +46,7 @@ returns-2 c =
     let the-a = c .before .before .before .before .before .before .a in
     let the-put = c .before .before .put in
     let the-word = c .before .before .before .word in
-    tell-refused (the-args .answer .now) (the-a .given .1) (the-put .ensures) (the-word .ensures)
+    tell-refused (the-args .answer .now) (the-a .given .1) (the-put .ensures) (the-word .ensures) refl refl
 
 same-length-2 : tie.Need-same-length-2
 same-length-2 c = search needs
@@ -57,7 +57,7 @@ returns-3 c =
     let the-a2 = c .before .before .before .before .before .before .a2 in
     let the-put2 = c .before .before .put2 in
     let the-word2 = c .before .before .before .word2 in
-    tell-room (the-args .answer .now) (the-a2 .given .1) (the-put2 .ensures) (the-word2 .ensures)
+    tell-room (the-args .answer .now) (the-a2 .given .1) (the-put2 .ensures) refl (the-word2 .ensures) refl
 
 same-length-3 : tie.Need-same-length-3
 same-length-3 c = search needs
@@ -68,7 +68,7 @@ returns-4 c =
     let the-a3 = c .before .before .before .before .before .before .a3 in
     let the-put3 = c .before .before .put3 in
     let the-word3 = c .before .before .before .word3 in
-    tell-read (the-args .answer .now) (the-a3 .given .1) (the-put3 .ensures) (the-word3 .ensures)
+    tell-read (the-args .answer .now) (the-a3 .given .1) (the-put3 .ensures) refl (the-word3 .ensures) refl
 
 pub tell-spec : {M : Type 1} → statement M
 tell-spec =

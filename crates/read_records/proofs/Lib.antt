@@ -1,0 +1,4 @@
+pub mod Cells
+pub mod Records
+pub mod Theorems
+pub mod Vectors
