@@ -716,6 +716,13 @@ fn edges_of_reals(lines: &mut Vec<String>) {
         "83010001",
         "8302000001",
         "8303FFFFFF01",
+        // Four octets of exponent, with and without a count of them.
+        "830000000001",
+        "830400000001",
+        "83040000000001",
+        "8304000000000001",
+        "83FFFFFFFF01",
+        "C30000000001",
         "900001",
         "A00001",
         "B00001",
@@ -1010,6 +1017,20 @@ fn edges_of_oids(lines: &mut Vec<String>) {
         "7F7F7F7F7F7F80",
     ] {
         lines.push(format!("read oid {octets}"));
+    }
+    // The fault last in a long list; long lists that are right.
+    for count in [2, 3, 4, 8, 16, 17, 64, 65, 256, 1_001] {
+        for first in ["01", "00", "7F", "8100", "87FFFFFF7F"] {
+            for last in ["", "00", "87FFFFFF7F", "8880808000", "8001", "80", "81"] {
+                if count <= 65 || first == "01" {
+                    lines.push(format!("read oid {}{last}", first.repeat(count)));
+                }
+            }
+        }
+        let numbers = vec!["1"; count].join(".");
+        for last in ["", ".0", ".128", ".2147483647", ".2147483648", "."] {
+            lines.push(format!("write oid {numbers}{last}"));
+        }
     }
     for word in [
         "-",
