@@ -239,6 +239,11 @@ fn real_octets(random: &mut Random) -> Vec<u8> {
             let mut octets = spelt(random, negative, 0x1234_5678, power);
             match random.below(4) {
                 0 => octets[0] = random.byte(),
+                1 if random.one_in(2) => {
+                    // Form 11, with a count of octets or without.
+                    octets[0] |= 0x03;
+                    octets.splice(1..2, random.pick(&[vec![], vec![0; 4], vec![4, 0, 0, 0, 0], vec![1, 0], vec![3, 0, 0, 0]]));
+                }
                 1 => octets[0] ^= 1 << random.below(8),
                 2 => octets.truncate(random.below(octets.len())),
                 _ => {
@@ -320,6 +325,13 @@ fn tag_octets(random: &mut Random) -> Vec<u8> {
 
 fn oid_octets(random: &mut Random) -> Vec<u8> {
     let mut octets = Vec::new();
+    if random.one_in(12) {
+        // Many numbers; the fault, if there is one, in the last.
+        let count = random.pick(&[8, 15, 16, 17, 63, 64, 65, 200, 1_001]);
+        let one: &[u8] = random.pick(&[&[1][..], &[0], &[0x81, 0x00], &[0x87, 0xFF, 0xFF, 0xFF, 0x7F]]);
+        let last: &[u8] = random.pick(&[&[][..], &[0x7F], &[0x80, 0x01], &[0x81], &[0x88, 0x80, 0x80, 0x80, 0x00]]);
+        return [&one.repeat(count)[..], last].concat();
+    }
     for _ in 0..random.below(7) {
         match random.below(8) {
             0 => octets.extend(write_oid(&[NUMBER_MAX - random.below(3) as u64]).unwrap()),
