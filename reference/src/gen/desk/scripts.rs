@@ -3,7 +3,7 @@
 use super::{ask, asked, figures, requests, Asked};
 use crate::desk::{Figures, SIDE_MAX};
 use crate::desk_text::{Program, Said, LINE_MAX};
-use crate::framing::{packet, write_frame, write_keep_alive, MESSAGE_MAX, PAYLOAD_MAX};
+use crate::framing::{self, packet, write_frame, write_keep_alive, Session, BIG, MESSAGE_MAX, PAYLOAD_MAX, STORE_LENGTH};
 use crate::gen::tree::{self, rules, spell, spell_changed, Style};
 use crate::gen::{bad_hex_line, frames, mutate_bytes, rows, Random};
 use crate::lines::{digits, lines};
@@ -710,7 +710,12 @@ impl Script {
             }
             self.push("show");
         }
-        let big = frames::part(&mut self.random, 13);
+        // One that has 24.
+        let has_24 = |stream: &[u8]| {
+            let events = framing::run(&mut Session::start(), &mut vec![0; STORE_LENGTH], stream, &mut 0);
+            events.iter().any(|(_, event)| event.number == BIG)
+        };
+        let big = std::iter::repeat_with(|| frames::part(&mut self.random, 13)).find(|part| has_24(part)).unwrap();
         self.stream.extend(big);
         self.offer(false);
         for number in 30..=37 {
