@@ -8,3 +8,4 @@ pub mod Setup
 pub mod Claims
 pub mod Paths
 pub mod Vectors
+pub mod Openings
