@@ -51,15 +51,21 @@ fn announced(connections: Vec<Body>) -> Tree {
 pub fn stream() -> Vec<u8> {
     let random = &mut Random::new(8);
     let mut stream = framing::write_keep_alive(false);
-    let first = qualified(&[1, 2], vec![connection(5, &[1, 2], CONNECT), connection(0, &[3], ABSOLUTE), connection(5, &[9], CONNECT)]);
+    let first =
+        qualified(&[1, 2], vec![connection(5, &[1, 2], CONNECT), connection(0, &[3], ABSOLUTE), connection(5, &[9], CONNECT)]);
     stream.extend(frames(&first));
-    stream.extend(frames(&announced(vec![connection(7, &[0, 1, 2, 3, 4, 5, 6, 7, 8, 9], ABSOLUTE), connection(8, &[0], ABSOLUTE)])));
+    stream.extend(frames(&announced(vec![
+        connection(7, &[0, 1, 2, 3, 4, 5, 6, 7, 8, 9], ABSOLUTE),
+        connection(8, &[0], ABSOLUTE),
+    ])));
     stream.extend(frames(&qualified(&[1, 3], vec![connection(1, &[1], CONNECT)])));
     stream.extend(frames(&qualified(&[1, 2], vec![connection(6, &[10], CONNECT), connection(0, &[3], DISCONNECT)])));
     stream.extend(frames(&qualified(&[1, 2], Vec::new())));
     stream.extend(framing::write_keep_alive(true));
     stream.extend([0x00, 0xFE, 0x00, 0xFE]);
-    stream.extend(framing::write_message(&[0x60, 0x0B, 0x6B, 0x09, 0xA0, 0x07, 0x63, 0x05, 0xA0, 0x03, 0x02, 0x01, 0x00]).unwrap().concat());
+    stream.extend(
+        framing::write_message(&[0x60, 0x0B, 0x6B, 0x09, 0xA0, 0x07, 0x63, 0x05, 0xA0, 0x03, 0x02, 0x01, 0x00]).unwrap().concat(),
+    );
     stream.extend(framing::write_keep_alive(false));
     for _ in 0..40 {
         let path = if random.one_in(9) { [1, 1] } else { [1, 2] };
@@ -146,12 +152,17 @@ mod tests {
     #[test]
     fn every_answer_is_there() {
         let (out, text) = router(&stream());
-        for line in ["event 10", "event 11", "event 16", "tree 34 at 10", "connection 1: 40", "connection 1: 42", "connection 2: 41"] {
+        for line in
+            ["event 10", "event 11", "event 16", "tree 34 at 10", "connection 1: 40", "connection 1: 42", "connection 2: 41"]
+        {
             assert!(text.lines().any(|found| found == line), "{line}: {text}");
         }
         // What is answered is read, and says what the desk holds: served to a fresh router it makes the same picture for the targets it names.
         let (_, again) = router(&out);
-        assert!(again.lines().all(|line| !line.starts_with("tree") && !line.starts_with("connection") && !line.starts_with("event")), "{again}");
+        assert!(
+            again.lines().all(|line| !line.starts_with("tree") && !line.starts_with("connection") && !line.starts_with("event")),
+            "{again}"
+        );
         assert_eq!(text.lines().rev().take(8).collect::<Vec<_>>(), again.lines().rev().take(8).collect::<Vec<_>>());
     }
 }

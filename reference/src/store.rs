@@ -42,6 +42,7 @@ fn files(writes: bool) -> Vec<(&'static str, Vec<u8>)> {
         ("crates/desk/stdin", desk),
         ("crates/sheet/stdout", programs::sheets(&sheet).into_bytes()),
         ("crates/sheet/stdin", sheet),
+        ("examples/sheets/ends", gen::desk::sheets::stored_ends()),
         ("crates/watch/stdout", watch::watch(&showings).into_bytes()),
         ("crates/watch/stdin", showings),
     ]

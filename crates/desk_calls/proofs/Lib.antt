@@ -5,3 +5,4 @@ pub mod Setup
 pub mod Claims
 pub mod Numbers
 pub mod Vectors
+pub mod Openings

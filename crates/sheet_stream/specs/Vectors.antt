@@ -4,7 +4,7 @@ use mathlib.Core.Path.{_≡_, refl}
 use mathlib.Core.List.{List, [], _∷_, _++_}
 use Rattle.framing.specs.Checksum.{table, crcStep, crcFrom, checksum}
 use Rattle.framing.specs.Content.{contentOf, bodyOf, commandOf, packetOf}
-use Rattle.framing.specs.Rules.{step, inPlace, adds, cuts, ends, pieces, happens, after}
+use Rattle.framing.specs.Rules.{step, inPlace, adds, cuts, ends, pieces, faulted, happens, after}
 use Rattle.sheets.specs.Lines.{digitOf, linesFrom, linesIn}
 use Rattle.sheets.specs.Reading.{Held, refusal, message, finished, somethingOpen, firstFault, ofEvents, heldIn}
 use Rattle.sheet_stream.specs.Finding.{setup, finds}
@@ -33,6 +33,36 @@ pub v-held :
     (held (48 ∷ 48 ∷ 10 ∷ 10 ∷ sixty) ≡ refusal 12)
 unfolding linesFrom digitOf happens after step inPlace adds cuts ends pieces contentOf bodyOf commandOf packetOf checksum crcFrom crcStep table finished somethingOpen firstFault ofEvents
 v-held = (refl, refl, refl, refl, refl, refl, refl, refl)
+
+-- "nothing is open at the end": a frame with content, after CE, after an escaped byte, past a fault, after it, after CE and a fault
+pub v-open-frame :
+    (held (sixty ++ (70 ∷ 69 ∷ 48 ∷ 49 ∷ 10 ∷ [])) ≡ refusal 33) ×
+    (held (sixty ++ (70 ∷ 69 ∷ 70 ∷ 68 ∷ 10 ∷ [])) ≡ refusal 33) ×
+    (held (sixty ++ (70 ∷ 69 ∷ 48 ∷ 49 ∷ 70 ∷ 68 ∷ 10 ∷ [])) ≡ refusal 33) ×
+    (held (sixty ++ (70 ∷ 69 ∷ 48 ∷ 49 ∷ 70 ∷ 68 ∷ 68 ∷ 56 ∷ 10 ∷ [])) ≡ refusal 33) ×
+    (held (sixty ++ (70 ∷ 69 ∷ 70 ∷ 56 ∷ 10 ∷ [])) ≡ refusal 33) ×
+    (held (sixty ++ (70 ∷ 69 ∷ 48 ∷ 49 ∷ 70 ∷ 56 ∷ 48 ∷ 50 ∷ 10 ∷ [])) ≡ refusal 33) ×
+    (held (sixty ++ (70 ∷ 69 ∷ 70 ∷ 68 ∷ 48 ∷ 48 ∷ 10 ∷ [])) ≡ refusal 33)
+unfolding linesFrom digitOf happens after step inPlace adds cuts ends pieces faulted contentOf bodyOf commandOf packetOf
+    checksum crcFrom crcStep table finished somethingOpen firstFault ofEvents
+v-open-frame = (refl, refl, refl, refl, refl, refl, refl)
+
+-- .. FE 00 0E 00 01 80 01 02 14 02 60 AA A6 FF: a piece that only opens a message, of the one byte 60; FE 00 0E 00 01 A0 01 02 14 02 E5 17 FF: of none
+abbrev piece : List ℕ
+piece =
+    70 ∷ 69 ∷ 48 ∷ 48 ∷ 48 ∷ 69 ∷ 48 ∷ 48 ∷ 48 ∷ 49 ∷ 56 ∷ 48 ∷ 48 ∷ 49 ∷ 48 ∷ 50 ∷ 49 ∷ 52 ∷ 48 ∷ 50 ∷ 54 ∷ 48 ∷ 65 ∷ 65 ∷ 65 ∷ 54 ∷ 70 ∷ 70 ∷ 10 ∷ []
+
+abbrev nothing : List ℕ
+nothing =
+    70 ∷ 69 ∷ 48 ∷ 48 ∷ 48 ∷ 69 ∷ 48 ∷ 48 ∷ 48 ∷ 49 ∷ 65 ∷ 48 ∷ 48 ∷ 49 ∷ 48 ∷ 50 ∷ 49 ∷ 52 ∷ 48 ∷ 50 ∷ 69 ∷ 53 ∷ 49 ∷ 55 ∷ 70 ∷ 70 ∷ 10 ∷ []
+
+pub v-open-message :
+    (held (sixty ++ piece) ≡ refusal 33) ×
+    (held (sixty ++ nothing) ≡ refusal 33) ×
+    (held (sixty ++ (nothing ++ alive)) ≡ refusal 33)
+unfolding linesFrom digitOf happens after step inPlace adds cuts ends pieces contentOf bodyOf commandOf packetOf
+    checksum crcFrom crcStep table finished somethingOpen firstFault ofEvents
+v-open-message = (refl, refl, refl)
 
 -- a store of another length, as it was, before any line is looked at
 pub v-setup : finds (48 ∷ []) (5 ∷ 6 ∷ []) ≡ setup (5 ∷ 6 ∷ [])

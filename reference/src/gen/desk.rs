@@ -99,8 +99,12 @@ pub fn asked(random: &mut Random, desk: &Desk) -> Asked {
     if random.one_in(2) {
         random.shuffle(&mut list);
     }
+    if random.one_in(30) && !list.is_empty() {
+        // Many times the same.
+        list = list.repeat(random.pick(&[8, 33, 129]).min(1_000 / list.len().max(1)).max(1));
+    }
     if random.one_in(14) {
-        let at = random.below(list.len() + 1);
+        let at = if random.one_in(2) { list.len() } else { random.below(list.len() + 1) };
         list.insert(at, desk.sources as u64 + random.pick(&[0, 0, 1, 190, TOP as u64 - desk.sources as u64]));
     }
     let sources = if list.is_empty() && random.one_in(2) { None } else { Some(list) };

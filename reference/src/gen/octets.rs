@@ -239,6 +239,11 @@ fn real_octets(random: &mut Random) -> Vec<u8> {
             let mut octets = spelt(random, negative, 0x1234_5678, power);
             match random.below(4) {
                 0 => octets[0] = random.byte(),
+                1 if random.one_in(2) => {
+                    // Form 11, with a count of octets or without.
+                    octets[0] |= 0x03;
+                    octets.splice(1..2, random.pick(&[vec![], vec![0; 4], vec![4, 0, 0, 0, 0], vec![1, 0], vec![3, 0, 0, 0]]));
+                }
                 1 => octets[0] ^= 1 << random.below(8),
                 2 => octets.truncate(random.below(octets.len())),
                 _ => {
@@ -320,6 +325,13 @@ fn tag_octets(random: &mut Random) -> Vec<u8> {
 
 fn oid_octets(random: &mut Random) -> Vec<u8> {
     let mut octets = Vec::new();
+    if random.one_in(12) {
+        // Many numbers; the fault, if there is one, in the last.
+        let count = random.pick(&[8, 15, 16, 17, 63, 64, 65, 200, 1_001]);
+        let one: &[u8] = random.pick(&[&[1][..], &[0], &[0x81, 0x00], &[0x87, 0xFF, 0xFF, 0xFF, 0x7F]]);
+        let last: &[u8] = random.pick(&[&[][..], &[0x7F], &[0x80, 0x01], &[0x81], &[0x88, 0x80, 0x80, 0x80, 0x00]]);
+        return [&one.repeat(count)[..], last].concat();
+    }
     for _ in 0..random.below(7) {
         match random.below(8) {
             0 => octets.extend(write_oid(&[NUMBER_MAX - random.below(3) as u64]).unwrap()),
@@ -716,6 +728,13 @@ fn edges_of_reals(lines: &mut Vec<String>) {
         "83010001",
         "8302000001",
         "8303FFFFFF01",
+        // Four octets of exponent, with and without a count of them.
+        "830000000001",
+        "830400000001",
+        "83040000000001",
+        "8304000000000001",
+        "83FFFFFFFF01",
+        "C30000000001",
         "900001",
         "A00001",
         "B00001",
@@ -1010,6 +1029,20 @@ fn edges_of_oids(lines: &mut Vec<String>) {
         "7F7F7F7F7F7F80",
     ] {
         lines.push(format!("read oid {octets}"));
+    }
+    // The fault last in a long list; long lists that are right.
+    for count in [2, 3, 4, 8, 16, 17, 64, 65, 256, 1_001] {
+        for first in ["01", "00", "7F", "8100", "87FFFFFF7F"] {
+            for last in ["", "00", "87FFFFFF7F", "8880808000", "8001", "80", "81"] {
+                if count <= 65 || first == "01" {
+                    lines.push(format!("read oid {}{last}", first.repeat(count)));
+                }
+            }
+        }
+        let numbers = vec!["1"; count].join(".");
+        for last in ["", ".0", ".128", ".2147483647", ".2147483648", "."] {
+            lines.push(format!("write oid {numbers}{last}"));
+        }
     }
     for word in [
         "-",

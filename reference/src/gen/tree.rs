@@ -29,14 +29,19 @@ fn number(random: &mut Random, range: (i64, i64)) -> i64 {
 fn text(random: &mut Random) -> Vec<u8> {
     let length = random.pick(&[0, 1, 5, 12, 40]);
     if random.one_in(30) {
-        return random.bytes(150);
+        let length = random.pick(&LONG);
+        return random.bytes(length);
     }
     random.bytes(length)
 }
 
+/// Lengths of long texts, names and lists.
+const LONG: [usize; 12] = [13, 16, 17, 63, 64, 65, 127, 128, 150, 255, 256, 600];
+
 fn identifier(random: &mut Random) -> Vec<u8> {
     let mut name = vec![random.pick(b"AZaz_mQ")];
-    for _ in 0..random.below(10) {
+    let length = if random.one_in(20) { random.pick(&LONG) } else { random.below(10) };
+    for _ in 0..length {
         let byte = random.byte();
         name.push(if byte == b'/' { b'.' } else { byte });
     }
@@ -76,7 +81,11 @@ fn maybe<T>(random: &mut Random, draw: impl Fn(&mut Random) -> T) -> Option<T> {
 }
 
 fn path(random: &mut Random) -> Vec<u64> {
-    let length = random.pick(&[1, 1, 2, 3, 15, 16]);
+    let length = random.pick(&[1, 1, 2, 3, 4, 7, 12, 13, 15, 16]);
+    if random.one_in(6) {
+        // Five octets each.
+        return (0..length).map(|_| NUMBER_MAX - random.below(1_000) as u64).collect();
+    }
     (0..length).map(|_| number(random, FROM_1) as u64).collect()
 }
 
@@ -125,7 +134,10 @@ fn body(random: &mut Random, root_level: bool) -> Body {
 }
 
 pub fn connection(random: &mut Random) -> Body {
-    let count = random.pick(&[0, 1, 1, 2, 5]);
+    let mut count = random.pick(&[0, 1, 1, 2, 5]);
+    if random.one_in(40) {
+        count = random.pick(&LONG).max(random.pick(&[0, 0, 0, 1_001]));
+    }
     Body::Connection {
         target: number(random, FROM_0),
         sources: if random.one_in(4) { None } else { Some((0..count).map(|_| number(random, FROM_0) as u64).collect()) },
@@ -267,6 +279,12 @@ fn anything(random: &mut Random, depth: usize) -> Node {
 
 /// Puts unlisted members among others; in a sequence by their number.
 fn with_unlisted(random: &mut Random, style: Style, mut nodes: Vec<Node>, listed: &[u64], sequence: bool) -> Vec<Node> {
+    if style.unlisted > 0 && random.one_in(60) {
+        // Many of them.
+        let empty =
+            |number| Node { class: CONTEXT, constructed: false, number, content: Content::Octets(Vec::new()), outer: false };
+        nodes.extend((300..300 + random.range(10, 100) as u64).map(empty));
+    }
     while random.below(8) < style.unlisted {
         let number = match random.below(3) {
             0 => random.range(3, 31) as u64,
@@ -537,8 +555,10 @@ fn edge_octets(random: &mut Random, number: u64) -> Vec<u8> {
             write_int(random.pick(&edges))
         }
         REAL_TAG => {
-            let octets: [&[u8]; 8] = [
+            let octets: [&[u8]; 10] = [
                 &[],
+                &[0x83, 0, 0, 0, 0, 1],
+                &[0x83, 4, 0, 0, 0, 0, 1],
                 &[0x40],
                 &[0x42],
                 &[0x80],
@@ -551,6 +571,13 @@ fn edge_octets(random: &mut Random, number: u64) -> Vec<u8> {
         }
         BOOLEAN_TAG => random.pick(&[vec![], vec![0], vec![1], vec![0xFF, 0]]),
         OID_TAG => {
+            if random.one_in(3) {
+                // Its fault, if it has one, is the last of many numbers.
+                let count = if random.one_in(2) { random.range(1, 17) } else { random.pick(&LONG) };
+                let one: &[u8] = random.pick(&[&[1][..], &[1], &[0x87, 0xFF, 0xFF, 0xFF, 0x7F], &[0x81, 0x00]]);
+                let last: &[u8] = random.pick(&[&[][..], &[0], &[0x80, 1], &[0x81], &[0x88, 0x80, 0x80, 0x80, 0], &[0x7F]]);
+                return [&one.repeat(count)[..], last].concat();
+            }
             let octets: [&[u8]; 10] = [
                 &[],
                 &[0],
@@ -566,6 +593,13 @@ fn edge_octets(random: &mut Random, number: u64) -> Vec<u8> {
             random.pick(&octets).to_vec()
         }
         _ => {
+            if random.one_in(3) {
+                let mut name = vec![b'a'; random.pick(&LONG)];
+                let at = random.pick(&[0, 1, 2, 3, 4, 11, 12]);
+                let place = if random.one_in(2) { name.len() - 1 } else { at };
+                name[place] = random.pick(&[b'/', b'/', b'/', b'.', b'0']);
+                return name;
+            }
             let texts: [&[u8]; 8] = [b"", b"_", b"a/b", b"/", b"1a", b"Z", b"\xC3\xA9", b"a\xFF"];
             random.pick(&texts).to_vec()
         }
@@ -615,7 +649,7 @@ fn change_nodes(random: &mut Random, root: &mut Node) {
         13..=19 => change_primitive(random, root),
         7..=9 => {
             if let Content::Nodes(nodes) = &mut node.content {
-                let at = random.below(nodes.len() + 1);
+                let at = if random.one_in(3) { nodes.len() } else { random.below(nodes.len() + 1) };
                 let copy = if nodes.is_empty() || random.one_in(3) { other } else { random.pick(nodes) };
                 nodes.insert(at, copy);
             }
@@ -692,8 +726,17 @@ fn of_kind(random: &mut Random, kind: usize) -> Vec<u8> {
             spelt(random, style, &root, None)
         }
         5 => {
-            let count = random.pick(&[255, 256, 257, 300]);
-            let entries = vec![Entry { parent: None, body: Body::Command { number: 1, mask: None } }; count];
+            let count = random.pick(&[255, 256, 257, 300, 20, 65, 130]);
+            let mut entries = vec![Entry { parent: None, body: Body::Command { number: 1, mask: None } }; count];
+            if count < 255 {
+                // A fault in the last.
+                let body = match random.below(3) {
+                    0 => Body::Command { number: SIGNED_32.1 + 1, mask: None },
+                    1 => Body::Node(Key::Number(0), NodeContents::default()),
+                    _ => Body::Parameter(Key::Path(vec![1; 17]), ParameterContents::default()),
+                };
+                entries.push(Entry { parent: None, body });
+            }
             spell(random, Style { unlisted: 0, ..style }, &Tree { kind: RootKind::Elements, entries })
         }
         _ => {
@@ -775,6 +818,7 @@ pub fn stored_listing() -> Vec<u8> {
         let mut wanted = vec![0, 30, 31, 32, 33, 34, 35, 36, 37];
         if round == 0 {
             wanted.push(38);
+            stream.extend([0xFE, 0x00, 0xFD, 0xFF]); // 14, which is seldom drawn
         }
         while !wanted.is_empty() {
             let (message, _) = message(random);

@@ -3,13 +3,13 @@
 use super::{ask, asked, figures, requests, Asked};
 use crate::desk::{Figures, SIDE_MAX};
 use crate::desk_text::{Program, Said, LINE_MAX};
-use crate::framing::{packet, write_frame, write_keep_alive, MESSAGE_MAX, PAYLOAD_MAX};
+use crate::framing::{self, packet, write_frame, write_keep_alive, Session, BIG, MESSAGE_MAX, PAYLOAD_MAX, STORE_LENGTH};
 use crate::gen::tree::{self, rules, spell, spell_changed, Style};
 use crate::gen::{bad_hex_line, frames, mutate_bytes, rows, Random};
 use crate::lines::{digits, lines};
 use crate::tree::{Body, Entry, Key, MatrixContents, RootKind, Tree};
 use crate::tree_writer;
-use crate::values::least_real;
+use crate::values::{least_real, NUMBER_MAX};
 use std::collections::BTreeMap;
 
 /// How often each kind of line and each number came.
@@ -219,9 +219,11 @@ impl Script {
                 words[at] = self.random.pick(&ODD_NUMBERS).to_string();
             }
         }
-        if self.random.one_in(6) {
-            let count = self.random.pick(&[15, 16, 17, 18, 40]);
-            words[7] = dots(&vec![1; count]);
+        if self.random.one_in(3) {
+            // Its fault, if it has one, is the last number.
+            let count = self.random.pick(&[1, 2, 3, 4, 7, 14, 15, 16, 17, 40]);
+            let last = self.random.pick(&[0, 1, NUMBER_MAX, NUMBER_MAX + 1]);
+            words[7] = dots(&[vec![1; count - 1], vec![last]].concat());
         }
         self.push_words(words);
     }
@@ -708,7 +710,12 @@ impl Script {
             }
             self.push("show");
         }
-        let big = frames::part(&mut self.random, 13);
+        // One that has 24.
+        let has_24 = |stream: &[u8]| {
+            let events = framing::run(&mut Session::start(), &mut vec![0; STORE_LENGTH], stream, &mut 0);
+            events.iter().any(|(_, event)| event.number == BIG)
+        };
+        let big = std::iter::repeat_with(|| frames::part(&mut self.random, 13)).find(|part| has_24(part)).unwrap();
         self.stream.extend(big);
         self.offer(false);
         for number in 30..=37 {
@@ -732,6 +739,91 @@ impl Script {
             self.offer(false);
         }
         self.push("show");
+    }
+
+    /// Where two refusals meet, and every list with its fault last: sources in a request, numbers of a path.
+    fn lists(&mut self) {
+        let path = [3, 1, 2];
+        for kind in 0..=2 {
+            for limits in [(Some(3), Some(2)), (None, None)] {
+                self.push(opened(Some(kind), (4, 5), limits, &path));
+                self.push("request 1 1 0");
+                let mut all = Vec::new();
+                for operation in [0, 1, 2] {
+                    let long: Vec<u64> = (0..if limits.0.is_none() { 1_000 } else { 70 }).map(|index| index % 2).collect();
+                    for last in [vec![], vec![4], vec![5], vec![4_294_967_296], vec![2, 3, 4], vec![2, 3, 5]] {
+                        // 41 before 42 and 43, 42 before 43 and 44, 43 before 44.
+                        for (target, first) in [(0, vec![]), (3, vec![0]), (4, vec![0]), (0, vec![0, 1, 2, 3]), (2, long.clone())]
+                        {
+                            if first.len() > 70 && last != [5] {
+                                continue;
+                            }
+                            let sources = [first, last.clone()].concat();
+                            let asked = ask(target, &sources, operation);
+                            self.push(request_line(&asked));
+                            if sources.iter().all(|&source| source <= NUMBER_MAX) && sources.len() < 20 {
+                                all.push(asked);
+                            }
+                        }
+                        self.push("show");
+                    }
+                }
+                self.stream = Vec::new();
+                self.send(&message_of(&path, &all));
+                self.offer(false);
+                self.push("show");
+                // 40 before all others.
+                self.send(&message_of(&[3, 1, 3], &all));
+                self.offer(false);
+            }
+        }
+        // Every source in one list, once and twice, and one too many.
+        for kind in 0..=2 {
+            self.push(opened(Some(kind), (SIDE_MAX, SIDE_MAX), (None, None), &[1]));
+            let all: Vec<u64> = (0..64).collect();
+            for (target, list) in [(0, all.clone()), (63, [&all[..], &all].concat()), (62, [&all[..], &[64]].concat())] {
+                for operation in [0, 1, 2, 1] {
+                    self.push(request_line(&ask(target, &list, operation)));
+                }
+                self.push("show");
+            }
+            // The last target has what the first takes, and back.
+            self.push(request_line(&ask(63, &[63], 0)));
+            self.push(request_line(&ask(0, &[63], 1)));
+            self.push("show");
+            self.push(request_line(&ask(63, &[63], 1)));
+            self.push("show");
+        }
+        // Paths: another number at each place, one number less, one more.
+        let long: Vec<u64> = (1..=16).map(|number| number * 134_217_727).collect();
+        for length in [1, 2, 3, 15, 16] {
+            let path = &long[..length];
+            self.push(opened(Some(2), (2, 2), (None, None), path));
+            for place in 0..length {
+                let mut other = path.to_vec();
+                other[place] -= 1;
+                self.send(&message_of(&other, &[ask(0, &[0], 0)]));
+            }
+            self.send(&message_of(path, &[ask(0, &[0], 0)]));
+            if length > 1 {
+                self.send(&message_of(&path[..length - 1], &[ask(0, &[1], 0)]));
+                self.send(&message_of(&path[1..], &[ask(0, &[1], 0)]));
+            }
+            if length < 16 {
+                self.send(&message_of(&long[..length + 1], &[ask(0, &[1], 0)]));
+                self.send(&message_of(&[&[1], path].concat(), &[ask(0, &[1], 0)]));
+            }
+            self.offer(false);
+            self.push("show");
+        }
+        for place in 0..16 {
+            for number in [0, 1, NUMBER_MAX, NUMBER_MAX + 1] {
+                let mut path = [2; 16];
+                path[place] = number;
+                self.push(format!("open 2 0 3 3 - - {}", dots(&path)));
+                self.push(format!("open 2 0 3 3 - - {}", dots(&path[..=place])));
+            }
+        }
     }
 
     fn bad_lines(&mut self) {
@@ -770,6 +862,7 @@ pub fn stored() -> Vec<u8> {
     script.corners();
     script.pieces();
     script.faults();
+    script.lists();
     script.bad_lines();
     for seed in 0.. {
         let drawn = input(seed, 1).text;
@@ -785,7 +878,7 @@ pub fn stored() -> Vec<u8> {
     script.text
 }
 
-const STORED_LINES: usize = 2_200;
+const STORED_LINES: usize = 3_400;
 
 #[cfg(test)]
 mod tests {
@@ -795,7 +888,7 @@ mod tests {
     #[test]
     fn stored_script_shows_every_number() {
         let text = stored();
-        assert!(text.len() < 300_000, "{}", text.len());
+        assert!(text.len() < 400_000, "{}", text.len());
         assert!((STORED_LINES..STORED_LINES + 60).contains(&lines(&text).len()));
         let mut script = Script::new(0);
         for line in lines(&text) {

@@ -282,11 +282,11 @@ pub fn of_kind(random: &mut Random, kind: usize) -> Vec<u8> {
         }
     }
     if does("open at the end") {
-        match random.below(5) {
+        match random.below(6) {
             0 => frames.push(vec![0xFE]),
-            1 => frames.push(vec![0xFE, 0x00, 0x0E]),
-            2 => frames.push(vec![0xFE, 0xF8]),
+            1 | 2 => frames.push(open_frame(random)),
             3 => frames.push(write_frame(&packet(0xA0, 0x14, &[])).unwrap()),
+            4 => frames.push(write_frame(&packet(0x80, 0x14, &[0x60])).unwrap()),
             _ => {
                 frames.pop();
             }
@@ -307,6 +307,14 @@ pub fn of_kind(random: &mut Random, kind: usize) -> Vec<u8> {
         frames.insert(at, write_keep_alive(random.one_in(2)));
     }
     lines_of(random, &frames, otherwise, does("bad line"))
+}
+
+/// A frame that is not ended: with content, up to the most and one more, after CE, past a fault.
+fn open_frame(random: &mut Random) -> Vec<u8> {
+    let length = random.pick(&[0, 1, 2, 3, 6, 100, 1_023, 1_024, 1_025]);
+    let mut frame = [vec![0xFE], vec![0x11; length]].concat();
+    frame.extend(random.pick(&[vec![], vec![], vec![0xFD], vec![0xF8], vec![0xFD, 0x00], vec![0xFC, 0x00, 0x11]]));
+    frame
 }
 
 /// The frames as lines.
@@ -448,10 +456,160 @@ pub fn stored() -> Vec<u8> {
     lines.into_bytes()
 }
 
+/// Sheets by name, each refused at its very end, or with its fault last in a long list: examples/sheets/ends.
+pub fn ends() -> Vec<(String, Vec<u8>)> {
+    let figures = Figures {
+        path: vec![1, 5],
+        kind: Some(N_TO_N),
+        mode: None,
+        targets: Some(20),
+        sources: Some(6),
+        total_limit: Some(21),
+        target_limit: Some(2),
+    };
+    let mut desk = crate::desk::open(&figures).unwrap();
+    for target in 0..20 {
+        desk.request(&figures.path, target, &[target as u64 % 6], 0);
+    }
+    let tree = sheet::tree_of(&desk);
+    let text = |tree: &Tree| -> String {
+        let message = tree_writer::write(tree).unwrap();
+        framing::write_message(&message).unwrap().iter().map(|frame| digits(frame) + "\n").collect()
+    };
+    let right = text(&tree);
+    let piece = |marks: u8, payload: &[u8]| digits(&write_frame(&packet(marks, 0x14, payload)).unwrap()) + "\n";
+    let alive = digits(&write_keep_alive(false)) + "\n";
+    let mut list: Vec<(String, Vec<u8>)> = Vec::new();
+    let mut add = |name: &str, sheet: String| list.push((name.to_string(), sheet.into_bytes()));
+    add("right", right.clone());
+    // "nothing is open at the end"
+    for (name, frame) in [
+        ("bof", "FE".to_string()),
+        ("content-1", "FE00".to_string()),
+        ("content-2", "FE000E".to_string()),
+        ("content-6", "FE000E010194E4".to_string()),
+        ("content-1024", format!("FE{}", "00".repeat(1_024))),
+        ("content-1025", format!("FE{}", "00".repeat(1_025))),
+        ("ce", "FEFD".to_string()),
+        ("ce-after-content", "FE000E010194FD".to_string()),
+        ("escaped", "FE00FDD8".to_string()),
+        ("fault", "FEF8".to_string()),
+        ("fault-after-content", "FE000EFC".to_string()),
+        ("past-a-fault", "FE00FB0E01".to_string()),
+        ("fault-after-ce", "FEFD00".to_string()),
+        ("past-a-fault-after-ce", "FE00FDE00E".to_string()),
+    ] {
+        add(&format!("open-{name}"), format!("{right}{frame}\n"));
+        add(&format!("open-{name}-alone"), format!("{frame}\n"));
+        add(&format!("open-{name}-no-line-end"), format!("{right}{frame}"));
+    }
+    add("open-message", right.clone() + &piece(0x80, &[0x60]));
+    add("open-message-empty", right.clone() + &piece(0xA0, &[]));
+    add("open-message-then-alive", right.clone() + &piece(0xA0, &[]) + &alive);
+    add("open-message-alone", piece(0x80, &[0x60]));
+    // "exactly one message is finished"
+    add("one-after-many-alive", alive.repeat(40) + &right + &alive.repeat(40));
+    add("two", right.repeat(2));
+    add("three", right.repeat(3));
+    add("none-of-many-alive", alive.repeat(40));
+    add("empty-message-last", right.clone() + &piece(0xE0, &[]));
+    add("empty-message-first", piece(0xE0, &[]) + &right);
+    // "12 for any bad line, the first event from 10 up", each after many lines.
+    let many = right.clone() + &alive.repeat(40);
+    for (name, line) in [("empty", ""), ("half", "FEF"), ("space", "FE "), ("letter", "FG"), ("return", "FEFF\r"), ("odd", "0")] {
+        add(&format!("bad-line-last-{name}"), format!("{many}{line}\n"));
+        add(&format!("bad-line-before-an-event-{name}"), format!("00\n{many}{line}\n"));
+    }
+    for (name, frame) in [
+        ("10", "00".to_string()),
+        ("11", "FE00FE".to_string()),
+        ("12", "FEF8FF".to_string()),
+        ("13", format!("FE{}FF", "00".repeat(1_025))),
+        ("14", "FEFDFF".to_string()),
+        ("15", "FEFF".to_string()),
+        ("16", "FE000E010194E5FF".to_string()),
+        ("20", digits(&write_frame(&[0x00, 0x0E, 0x01, 0x02]).unwrap())),
+        ("21", digits(&write_frame(&packet(0xC1, 0x14, &[0x60])).unwrap())),
+        ("22", digits(&write_frame(&[0x00, 0x0E, 0x00, 0x01, 0xC0, 0x02, 0x02, 0x14, 0x02, 0x60]).unwrap())),
+        ("23", digits(&write_frame(&packet(0x40, 0x14, &[0x60])).unwrap())),
+    ] {
+        add(&format!("event-last-{name}"), format!("{many}{frame}\n"));
+        add(&format!("event-then-stray-{name}"), format!("{frame}\n00\n{many}"));
+    }
+    // "one qualified matrix and its connections alone": another element last.
+    for (name, parent, body) in [
+        ("command", None, Body::Command { number: 32, mask: None }),
+        ("node", None, Body::Node(Key::Number(1), NodeContents::default())),
+        ("parameter", None, Body::Parameter(Key::Path(vec![1]), ParameterContents::default())),
+        ("matrix", None, tree.entries[0].body.clone()),
+        ("matrix-by-number", None, Body::Matrix(Key::Number(1), Default::default())),
+    ] {
+        let mut other = tree.clone();
+        other.entries.push(Entry { parent, body });
+        add(&format!("element-last-{name}"), text(&other));
+    }
+    let mut other = tree.clone();
+    other.entries.insert(1, Entry { parent: Some(0), body: Body::Command { number: 32, mask: None } });
+    add("element-first-command", text(&other));
+    let mut other = tree.clone();
+    other.entries.push(Entry { parent: None, body: tree.entries[0].body.clone() });
+    other.entries.push(Entry { parent: Some(21), body: ask(0, &[], 0).body() });
+    add("two-matrices-with-connections", text(&other));
+    // "the desk's": the last connection refused, and which refusal where there are two.
+    for (name, asked) in [
+        ("41", ask(20, &[0], 0)),
+        ("42", ask(0, &[6], 0)),
+        ("43", ask(0, &[0, 1, 2], 0)),
+        ("41-before-42", ask(20, &[6], 0)),
+        ("42-before-43", ask(0, &[0, 1, 2, 6], 0)),
+        ("42-before-43-connect", ask(0, &[1, 2, 3, 6], 1)),
+        ("42-disconnect", ask(0, &[1, 2, 3, 6], 2)),
+        ("disconnect", ask(0, &[1, 2, 3, 5, 0, 1], 2)),
+        ("one-more", ask(0, &[0, 1], 0)),
+    ] {
+        let mut other = tree.clone();
+        connect(&mut other, asked);
+        add(&format!("last-{name}"), text(&other));
+    }
+    for (name, asked) in [("44", ask(1, &[1, 2], 0)), ("44-connect", ask(1, &[2], 1)), ("43-before-44", ask(1, &[1, 2, 3], 0))] {
+        let mut other = tree.clone();
+        connect(&mut other, ask(0, &[0, 1], 0));
+        connect(&mut other, asked);
+        add(&format!("last-{name}"), text(&other));
+    }
+    list
+}
+
+/// NAME INPUT OUTPUT, in hexadecimal digits.
+pub fn stored_ends() -> Vec<u8> {
+    let line = |(name, sheet): (String, Vec<u8>)| {
+        let said = crate::programs::sheets(&sheet);
+        format!("{name} {} {}\n", crate::lines::hex(&sheet).to_lowercase(), digits(said.as_bytes()).to_lowercase())
+    };
+    ends().into_iter().map(line).collect::<String>().into_bytes()
+}
+
 #[cfg(test)]
 mod tests {
     use super::*;
     use crate::programs::sheets;
+
+    /// What each of the ends says, by its name.
+    #[test]
+    fn ends_say_what_they_are_named() {
+        for (name, sheet) in ends() {
+            let said = sheets(&sheet);
+            let number = said.lines().next().unwrap();
+            let wanted = match name.as_str() {
+                "right" | "one-after-many-alive" | "last-disconnect" | "last-one-more" => "0",
+                name if name.starts_with("bad-line") => "12",
+                name if name.starts_with("event-") => name.rsplit('-').next().unwrap(),
+                name if name.starts_with("last-") => &name[5..7],
+                _ => "33",
+            };
+            assert_eq!(number, wanted, "{name}");
+        }
+    }
 
     #[test]
     fn stored_sheet_is_right() {

@@ -203,6 +203,7 @@ pub fn cases() -> Vec<Case> {
     order_of_faults(c);
     entries(c);
     sizes(c);
+    long_lists(c);
     cases.list
 }
 
@@ -1057,6 +1058,163 @@ fn sizes(c: &mut Cases) {
     assert_eq!(rest, 5);
     let items = format!("A0{{2:62{{2:A0{{1:020120}}}}}}{}", command.repeat(most - 1));
     c.add("the most entries that a message can hold", &format!("38 {most}"), &format!("60{{2:6B{{2:{items}}}}}"));
+}
+
+// ---- Every rule over a list, the fault last in a long one; what is long and right ----
+
+fn long_lists(c: &mut Cases) {
+    let kinds = [("61", "parameter"), ("63", "node"), ("6D", "matrix")];
+    // "Identifiers start with a letter or "_" and hold no "/"."
+    let name = |tag: &str, octets: &str| contents(tag, &format!("A0{{^{}}}", primitive("0C", octets)));
+    for (tag, kind) in kinds {
+        for length in [3, 4, 8, 12, 13, 16, 17, 32, 33, 64, 65, 127, 128, 255, 256] {
+            c.add("36: \"/\" last in a longer identifier", "36", &name(tag, &format!("{}2F", "61".repeat(length))));
+            let expected = format!("0 elements 1\n0 - {kind} number=1 identifier=\"{}\"\n", "a".repeat(length));
+            c.add("an identifier of any length", &expected, &name(tag, &"61".repeat(length)));
+        }
+    }
+    for place in 1..=20 {
+        let octets = format!("{}2F{}", "5F".repeat(place), "7A".repeat(20 - place));
+        c.add("36: \"/\" at each place of an identifier", "36", &name("63", &octets));
+    }
+    c.add("36: \"/\" as the 1,001st byte", "36", &name("63", &format!("{}2F", "61".repeat(1_000))));
+    let expected = format!("0 elements 1\n0 - node number=1 identifier=\"{}\"\n", "a".repeat(1_001));
+    c.add("an identifier of 1,001 bytes", &expected, &name("63", &"61".repeat(1_001)));
+    // Texts and octets have no length of their own.
+    for length in [13, 65, 127, 128, 255, 256, 1_025] {
+        let (text, octets) = ("a".repeat(length), "61".repeat(length));
+        for (tag, kind) in kinds {
+            let expected = format!("0 elements 1\n0 - {kind} number=1 description=\"{text}\"\n");
+            c.add("a description of any length", &expected, &contents(tag, &format!("A1{{0C{{{octets}}}}}")));
+        }
+        for (number, member) in [(2, "value"), (3, "minimum"), (4, "maximum")] {
+            let expected = format!("0 elements 1\n0 - parameter number=1 {member}=text:\"{text}\"\n");
+            c.add("a text of any length", &expected, &contents("61", &format!("A{number}{{0C{{{octets}}}}}")));
+            let expected = format!("0 elements 1\n0 - parameter number=1 {member}=octets:{octets}\n");
+            c.add("octets of any length", &expected, &contents("61", &format!("A{number}{{04{{{octets}}}}}")));
+        }
+        let expected = format!("0 streams 1\n0 - stream stream=7 value=text:\"{text}\"\n");
+        c.add("a stream's text of any length", &expected, &stream(&format!("A0{{020107}}A1{{0C{{{octets}}}}}")));
+    }
+    // "A full path has 1 to 16 numbers", each from 1 to 2,147,483,647, of one to five octets.
+    let path = |tag: &str, octets: &str| item(&format!("{tag}{{A0{{^{}}}}}", primitive("0D", octets)));
+    let long = "87FFFFFF7F";
+    for (tag, kind) in [("69", "qualified-parameter"), ("6A", "qualified-node"), ("71", "qualified-matrix")] {
+        for length in [2, 3, 4, 5, 8, 12, 13, 14, 15, 16] {
+            let numbers = |last: &str| format!("{}{last}", long.repeat(length - 1));
+            let shown = vec!["2147483647"; length].join(".");
+            c.add("a path of long numbers", &format!("0 elements 1\n0 - {kind} path={shown}\n"), &path(tag, &numbers(long)));
+            c.add("37: 0 as the last number of a path", "37", &path(tag, &format!("{}00", "01".repeat(length - 1))));
+            c.add("37: 0 after long numbers", "37", &path(tag, &numbers("00")));
+            c.add("37: over the range as the last number", "37", &path(tag, &numbers("8880808000")));
+            c.add("30: a number that starts with 80 as the last", "30", &path(tag, &numbers("8001")));
+            c.add("30: the last number cut off", "30", &path(tag, &numbers("87FFFFFF")));
+        }
+        c.add("37: 17 long numbers", "37", &path(tag, &long.repeat(17)));
+        c.add("30 before 37: 17 long numbers, the last cut off", "30", &path(tag, &format!("{}87", long.repeat(17))));
+        for place in 0..16 {
+            let octets = format!("{}00{}", "02".repeat(place), "01".repeat(15 - place));
+            c.add("37: 0 at each place of a path", "37", &path(tag, &octets));
+        }
+    }
+    // Sources: any count.
+    let sources = |octets: &str| connection(&format!("A0{{020100}}A1{{^{}}}", primitive("0D", octets)));
+    for length in [65, 129, 257, 1_001, 2_000] {
+        let shown = vec!["1"; length].join(".");
+        let expected = format!("0 elements 2\n0 - matrix number=1\n1 0 connection target=0 sources={shown}\n");
+        c.add("sources of any count", &expected, &sources(&"01".repeat(length)));
+        let last = |octets: &str| format!("{}{octets}", "01".repeat(length));
+        c.add("34: the last source over its range", "34", &sources(&last("8880808000")));
+        c.add("30: the last source starts with 80", "30", &sources(&last("8001")));
+        c.add("30: the last source cut off", "30", &sources(&last("81")));
+    }
+    c.add("34: the last of long sources", "34", &sources(&format!("{}8880808000", long.repeat(400))));
+    // "no listed one twice", with all the others between, in either order.
+    for (tag, numbers) in
+        [("61", vec![0u8, 1, 2, 3, 4, 5, 8, 9, 11, 14]), ("63", vec![0, 1, 2, 3]), ("6D", vec![0, 1, 2, 3, 4, 5, 6, 7])]
+    {
+        let one = |number: u8| {
+            let rule = contents_rule(tag, number).unwrap();
+            let value = ["0C{41}", "010100", "020100"].into_iter().find(|value| rule == "any" || value.starts_with(rule));
+            format!("A{number:X}{{{}}}", value.unwrap())
+        };
+        let all: String = numbers.iter().map(|&number| one(number)).collect();
+        let back: String = numbers.iter().rev().map(|&number| one(number)).collect();
+        for &number in &numbers {
+            c.add("a listed one repeated after all of them", "33", &contents(tag, &format!("{all}^{}", one(number))));
+            c.add("and after all in descending order", "33", &contents(tag, &format!("{back}^{}", one(number))));
+            let rest: String = numbers.iter().filter(|&&other| other != number).map(|&other| one(other)).collect();
+            let between = format!("{}{rest}{}^{}", one(number), "AF{}9F20{05}".repeat(20), one(number));
+            c.add("and after the others and forty unlisted ones", "33", &contents(tag, &between));
+            let last = format!("{rest}{}", one(number));
+            c.add("each of them last", "0 elements 1", &contents(tag, &last));
+            c.add("a listed one without the constructed bit, last", "33", &contents(tag, &format!("{rest}^8{number:X}{{}}")));
+        }
+        c.add("another class, last in a set", "33", &contents(tag, &format!("{all}^E9{{}}")));
+        c.add("a bad tag, last in a set", "30", &contents(tag, &format!("{all}^BF8001{{}}")));
+        c.add("unlisted ones after all", "0 elements 1", &contents(tag, &format!("{all}{}", "AF{}AF{}8F00".repeat(20))));
+    }
+    // "strictly ascending tag order", after many.
+    let many: String = (32..=120).map(|number| format!("9F{number:02X}00")).collect();
+    let keyed: [(&str, &dyn Fn(&str) -> String); 4] = [
+        ("elements", &|rest| element("63", rest)),
+        ("elements", &|rest| item(&format!("62{{A0{{020120}}{rest}}}"))),
+        ("elements", &|rest| connection(&format!("A0{{020100}}{rest}"))),
+        ("streams", &|rest| stream(&format!("A0{{020100}}A1{{020100}}{rest}"))),
+    ];
+    for (at, (root, built)) in keyed.iter().enumerate() {
+        let count = if at == 2 { 2 } else { 1 };
+        c.add("many unlisted members", &format!("0 {root} {count}"), &built(&many));
+        c.add("the last of many repeated", "33", &built(&format!("{many}^9F7800")));
+        c.add("the last of many lower than the one before", "33", &built(&format!("{many}^9F7700")));
+        c.add("a listed one after many", "33", &built(&format!("{many}^A0{{020101}}")));
+        c.add("another class after many", "33", &built(&format!("{many}^C900")));
+        c.add("a bad length after many", "30", &built(&format!("{many}^9F7985")));
+    }
+    // Items, the last of many.
+    let lists: [(&str, &str, &str, usize, &dyn Fn(&str) -> String); 4] = [
+        ("A0{62{A0{020120}}}", "A0{62{A0{^0205 0100000000}}}", "elements", 0, &|items| format!("60{{6B{{{items}}}}}")),
+        ("A0{62{A0{020120}}}", "A0{61{A0{^020100}}}", "elements", 1, &children),
+        ("A0{70{A0{020100}}}", "A0{70{A0{^0201FF}}}", "elements", 1, &connections),
+        ("A0{66{A0{020100}A1{020100}}}", "A0{66{A0{^0201FF}A1{020100}}}", "streams", 0, &|items| format!("60{{65{{{items}}}}}")),
+    ];
+    for (right, number, root, more, built) in lists {
+        for count in [17, 65, 200] {
+            let all = right.repeat(count);
+            c.add("many items", &format!("0 {root} {}", count + more), &built(&all));
+            c.add("34 in the last of many items", "34", &built(&format!("{all}{number}")));
+            c.add("no item's tag after many", "33", &built(&format!("{all}^A1{{}}")));
+            c.add("an item without a value after many", "33", &built(&format!("{all}A0{{^}}")));
+            c.add("another form after many", "31", &built(&format!("{all}A0[^{}]", &right[3..right.len() - 1])));
+            c.add("an unexpected kind after many", "33", &built(&format!("{all}A0{{^64{{}}}}")));
+            c.add("00 after many", "30", &built(&format!("{all}^0000")));
+            c.add("a member missing in the last of many", "33", &built(&format!("{all}A0{{{}{{^}}}}", &right[3..5])));
+        }
+    }
+    // Passed over, after many.
+    for count in [17, 65, 300] {
+        let many = "30{}0500".repeat(count);
+        c.add("many passed over", "0 elements 1", &element("63", &format!("A9{{{many}}}")));
+        c.add("a bad tag after many passed over", "30", &element("63", &format!("A9{{{many}^1F80}}")));
+        c.add("a bad length after many passed over", "30", &element("63", &format!("A9{{{many}^3085}}")));
+        c.add("a length past the end after many", "30", &element("63", &format!("A9{{{many}^0501}}")));
+        c.add("a tag 00 after many", "30", &element("63", &format!("A9{{{many}^0000}}")));
+        c.add("the 65th container after many", "32", &element("63", &unlisted(60, &format!("{}^30{{}}", "0500".repeat(count)))));
+        c.add("not the 65th, after many", "0 elements 1", &element("63", &unlisted(59, &many)));
+    }
+    // An exponent of four octets, with or without a count of them: form 11 (35).
+    for octets in [
+        "830000000001",
+        "830100000001",
+        "8304 0000000001",
+        "8303 00000001",
+        "8302 000001",
+        "8301 0001",
+        "8300 01",
+        "C30000000001",
+    ] {
+        c.add("35: form 11", "35", &contents("61", &format!("A2{{^{}}}", primitive("09", &octets.replace(' ', "")))));
+    }
 }
 
 #[cfg(test)]

@@ -209,6 +209,27 @@ fn lengths(c: &mut Cases) {
     for count in [100, 110, 119, 120, 121, 122, 123, 124, 125, 126, 127, 128, 250, 255, 256, 300] {
         c.same("sources of each length", &connection(&format!("A0{{020100}}A1{{{}}}", primitive("0D", &"05".repeat(count)))));
     }
+    for count in [400, 1_001] {
+        c.same("long sources", &connection(&format!("A0{{020100}}A1{{{}}}", primitive("0D", &"87FFFFFF7F".repeat(count)))));
+    }
+    // Identifiers, texts and octets of any length, in each kind; paths of long numbers.
+    for length in [12, 13, 64, 65, 127, 128, 256, 1_025] {
+        let octets = "61".repeat(length);
+        for tag in ["61", "63", "6D"] {
+            c.same("an identifier of any length", &contents(tag, &format!("A0{{0C{{{octets}}}}}")));
+            c.same("a description of any length", &contents(tag, &format!("A1{{0C{{{octets}}}}}")));
+        }
+        for number in 2..=4 {
+            c.same("a text of any length", &contents("61", &format!("A{number}{{0C{{{octets}}}}}")));
+            c.same("octets of any length", &contents("61", &format!("A{number}{{04{{{octets}}}}}")));
+        }
+        c.same("a stream's text of any length", &stream(&format!("A0{{020107}}A1{{0C{{{octets}}}}}")));
+    }
+    for count in 1..=16 {
+        for tag in ["69", "6A", "71"] {
+            c.same("a path of long numbers", &item(&format!("{tag}{{A0{{{}}}}}", primitive("0D", &"87FFFFFF7F".repeat(count)))));
+        }
+    }
 }
 
 /// 16,384 bytes, 256 entries, and the deepest.
