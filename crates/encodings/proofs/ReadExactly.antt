@@ -7,6 +7,7 @@ use mathlib.Core.Bool.{Bool}
 use mathlib.Core.Logic.{⊎-elim}
 use native.Mathlib.Omega.{arith}
 use borrow.Author.Tests.{le-ltb, lt-ltb}
+use types.Run.{OneOf, miss}
 use contract.Lifetimes.{Lfts}
 use denote.Ref.{RefT, now}
 use denote.Triple.Clauses as Clauses
@@ -23,8 +24,8 @@ use Rattle.entries.specs.Entry.{Entries, Rows, overlay}
 use Rattle.walk.specs.Walk.{walk}
 use Rattle.glow.specs.declared.Answer.{Answer}
 use Rattle.glow.specs.declared.Answer.the-variants.{Room, Read}
-use Rattle.glow.specs.Message.{Said, saidBy, Result, result, setup, readOf, readAt}
-use Rattle.glow.proofs.Answers.{past-untouched}
+use Rattle.glow.specs.Message.{Said, saidBy, refusals, Result, result, setup, readOf, readAt}
+use Rattle.glow.proofs.Answers.{past-untouched, refusal-numbers}
 use Rattle.glow.proofs.read
 use Rattle.glow.proofs.read.Kinds as read-kinds
 use Rattle.glow.proofs.read.Reads as read-reads
@@ -38,7 +39,6 @@ use Rattle.tree_round_trip.proofs.Rows.{rows-items, tree-sixteen}
 use Rattle.encodings.specs.Encodes.{Encodes}
 use Rattle.encodings.specs.Reading.{ReadAs, LacksRoom, Refuses, AnswersExactly}
 use Rattle.encodings.proofs.Exactly.{accepted, items-stood}
-use Rattle.encodings.proofs.Numbers.{refused-number}
 use Rattle.encodings.proofs.Reader.{encoded-legal, encoding-answered, refused-by}
 
 module _ (s : List ℕ) (below : Below 256 s) (few : length s ≤ 16384) (rows : Rows) (most : length rows ≤ 256) where
@@ -85,10 +85,8 @@ module _ (s : List ℕ) (below : Below 256 s) (few : length s ≤ 16384) (rows :
       by (Stopped e) q =
           let r = refused-by s below few rows most e q in
           let n : saidBy (x .answer) .number ≡ e .0 = ap (λ (y : Result). saidBy (y .answer) .number) r in
-          let f = refused-number s q in
-          let f0 = f .0 in
-          let f1 = f .1 in
-          refused (record { low = omega arith; high = omega arith; same = ap (λ (y : Result). y .rows) r })
+          let f = refusal-numbers s rows (ap (λ (y : Result). y .answer) r) in
+          refused (record { number = subst (OneOf refusals) (sym n) f; same = ap (λ (y : Result). y .rows) r })
 
   read-encodes : (root : ℕ) (t : Trees) → ReadAs s rows root t (x .answer) (x .rows) → Encodes s root t × (count t ≤ length rows)
   read-encodes root t r =
@@ -102,7 +100,7 @@ module _ (s : List ℕ) (below : Below 256 s) (few : length s ≤ 16384) (rows :
       let q : t′ ≡ t = stood-once root t′ t (subst (λ (i : ℕ). Stood i t′) w (r′ .stands)) (r .stands) f in
       (subst (Encodes s root) q (subst (λ (i : ℕ). Encodes s i t′) w e), omega arith))
       (λ root′ t′ e l. let y : saidBy (x .answer) .number ≡ 38 = ap (λ (y : Said). y .number) (lacks-it root′ t′ e l .says) in absurd (omega arith))
-      (λ n. let y = n .low in absurd (omega arith))
+      (λ n. absurd (miss refusals 0 tt (subst (OneOf refusals) zero (n .number))))
 
   room-encodes : (n : ℕ) → LacksRoom rows n (x .answer) (x .rows) → (root : ℕ) × ((t : Trees) × (Encodes s root t × ((count t ≡ n) × (length rows < n))))
   room-encodes n r =
@@ -112,15 +110,15 @@ module _ (s : List ℕ) (below : Below 256 s) (few : length s ≤ 16384) (rows :
       (λ root t e l.
       let q : count t ≡ n = sym (ap (λ (y : Said). y .count) (lacks-it root t e l .says)) ∙ ap (λ (y : Said). y .count) (r .says) in
       (root, (t, (e, (q, omega arith)))))
-      (λ n. let y = n .high in absurd (omega arith))
+      (λ n. absurd (miss refusals 38 tt (subst (OneOf refusals) room (n .number))))
 
   refused-none : Refuses rows (x .answer) (x .rows) → (root : ℕ) (t : Trees) → Encodes s root t → ⊥
   refused-none r root t e =
-      let low = r .low in
-      let high = r .high in
       ⊎-elim
-      (λ (l : length rows < count t). let y : saidBy (x .answer) .number ≡ 38 = ap (λ (y : Said). y .number) (lacks-it root t e l .says) in omega arith)
-      (λ (l : count t ≤ length rows). let y : saidBy (x .answer) .number ≡ 0 = ap (λ (y : Said). y .number) (reads-it root t e l .says) in omega arith)
+      (λ (l : length rows < count t).
+      miss refusals 38 tt (subst (OneOf refusals) (ap (λ (y : Said). y .number) (lacks-it root t e l .says)) (r .number)))
+      (λ (l : count t ≤ length rows).
+      miss refusals 0 tt (subst (OneOf refusals) (ap (λ (y : Said). y .number) (reads-it root t e l .says)) (r .number)))
       (lt-or-le (length rows) (count t))
 
   none-refused : ((root : ℕ) (t : Trees) → Encodes s root t → ⊥) → Refuses rows (x .answer) (x .rows)

@@ -3,10 +3,11 @@ use Prim.Native.Nat.{ℕ, _≤_, _<_}
 use mathlib.Core.Path.{_≡_}
 use mathlib.Core.List.{List}
 use mathlib.Core.Logic.{_↔_}
+use types.Run.{OneOf}
 use lib.ListN.{length, drop}
 use Rattle.entries.specs.Entry.{Rows}
 use Rattle.glow.specs.declared.Answer.{Answer}
-use Rattle.glow.specs.Message.{saidBy}
+use Rattle.glow.specs.Message.{saidBy, refusals}
 use Rattle.forest.specs.Rows.{itemsIn}
 use Rattle.forest.specs.Trees.{Trees, count, flat}
 use Rattle.read_trees.specs.Stood.{Stood}
@@ -25,10 +26,9 @@ pub record LacksRoom (rows : Rows) (n : ℕ) (a : Answer) (rows′ : Rows) : Typ
   pub says : saidBy a ≡ record { number = 38; place = 0; count = n; root = 0 }
   pub same : rows′ ≡ rows
 
--- 30 to 37; the table as it was
+-- 30 to 37, the rows of "Numbers answered" (`refusals`); the table as it was
 pub record Refuses (rows : Rows) (a : Answer) (rows′ : Rows) : Type 0 where
-  pub low : 30 ≤ saidBy a .number
-  pub high : saidBy a .number ≤ 37
+  pub number : OneOf refusals (saidBy a .number)
   pub same : rows′ ≡ rows
 
 -- The answer a to the message s, and the table after it:
