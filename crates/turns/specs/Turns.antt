@@ -11,7 +11,6 @@ use Rattle.framing.specs.declared.Event.the-variants as ev
 use Rattle.framing.specs.declared.Fed.{Fed}
 use Rattle.framing.specs.declared.Session.{Session}
 use Rattle.framing.specs.Rules.{State}
-use Rattle.framing.specs.Rules as stream
 use Rattle.framing.specs.Session.{saidBy, stateOf, Legal, answers, feeds}
 use Rattle.framing.specs.Offers as offers
 use Rattle.entries.specs.Entry.{Rows}
@@ -100,15 +99,6 @@ told (x ∷ xs) n =
     let e = saidBy (x .fed .event) (x .store) in
     noted e (thenOf (x .later) (e .message)) (n + x .fed .consumed) (told xs (n + x .fed .consumed))
 
--- "A call consumes bytes up to and including the one that makes an event, or all of them": from the state s, n bytes having come before, the rules make of the
--- bytes that a call consumed its event and no other, at the last of them, or none.
-abbrev pub Stops : State → ℕ → List offers.Turn → Type 0
-Stops s n [] = Unit {0}
-Stops s n (x ∷ xs) =
-    let bytes = take (x .fed .consumed) (x .offered) in
-    let m = n + x .fed .consumed in
-    (stream.happens s n bytes ≡ stream.noted (saidBy (x .fed .event) (x .store)) m []) × Stops (stream.after s bytes) m xs
-
 -- What holds of a list of turns from a state of the stream and a desk.
 pub record AsRules (rows : ℕ) (s : State) (d : Desk) (n : ℕ) (ts : List Turn) (s″ : Session) (t″ : List ℕ) (d″ : Desk) (bytes rest : List ℕ) : Type 0 where
   -- what the turns told is what the rules tell for the bytes consumed
@@ -120,7 +110,7 @@ pub record AsRules (rows : ℕ) (s : State) (d : Desk) (n : ℕ) (ts : List Turn
   -- a session call that gave no event consumed all it was offered
   pub counted : offers.Counted (calls ts)
   -- one that gave an event consumed the bytes up to and including that event's
-  pub stops : Stops s n (calls ts)
+  pub stops : offers.Stops s (calls ts)
   -- what the turns leave is fit for others
   pub legal : isLegal d″ ≡ true
   pub session-legal : Legal s″ t″
