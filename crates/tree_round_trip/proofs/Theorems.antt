@@ -20,7 +20,7 @@ use Rattle.forest.specs.Rows.{itemsIn}
 use Rattle.forest.specs.Written.{writtenReal}
 use Rattle.reading_back.proofs.ReadBack.{written-spells}
 use Rattle.member_sizes.specs.Spelling.{leastReal}
-use Rattle.tree_sizes.specs.Accepted.{octetsOf, accepted, lengthOf}
+use Rattle.tree_sizes.specs.Accepted.{octetsOf, accepted, fits, lengthOf}
 use Rattle.glow_writer.specs.Writes.{writes}
 use Rattle.tree_round_trip.proofs.Reals.{least-spells}
 use Rattle.tree_round_trip.proofs.Rows.{items-count}
@@ -165,4 +165,17 @@ accepted-measured s rows count root =
           let c = items-count s rows count (f .within) in
           let m = f .most in
           (f .within, accepted-by root es (record { most = omega arith; whole = f .whole; few = f .few })),
+    )
+
+-- What `is_tree` answers (tree_sizes: `fits leastReal`): yes exactly if the rows are there, and some message of at most 16,384 bytes is read as exactly
+-- their entries.
+pub is-tree-exactly : (s : List ℕ) → Below 256 s → (rows : Rows) (count root : ℕ)
+    → (fits leastReal root (length rows) count (itemsIn s rows count) ≡ true → (count ≤ length rows) × Message root (itemsIn s rows count))
+    × ((count ≤ length rows) × Message root (itemsIn s rows count) → fits leastReal root (length rows) count (itemsIn s rows count) ≡ true)
+is-tree-exactly s octets rows count root =
+    let es = itemsIn s rows count in
+    let x = accepted-rows s octets rows count root in
+    let m = accepted-measured s rows count root in (
+      λ h. let y = m .1 (length-fits leastReal root (length rows) count es h) in (y .0, x .0 (y .1)),
+      λ h. fits-length leastReal root (length rows) count es (m .0 (h .0, x .1 (h .1))),
     )
