@@ -13,8 +13,8 @@ use Rattle.forest.specs.Trees.{Trees, count, flat}
 use Rattle.read_trees.specs.Stood.{Stood}
 use Rattle.encodings.specs.Encodes.{Encodes}
 
--- 0, as the tree t: "The answer names Root's kind" and how many entries there are; the table's first rows hold the tree's entries, "in message order",
--- texts, octets, paths and sources as parts of the message; "entries past the answer's count are untouched".
+-- 0, as the tree t, whose kinds stand where the grammar has them: "The answer names Root's kind" and how many entries there are; the table's first rows hold
+-- the tree's, "in message order, with its parent's place", by content, with the message beside them; "entries past the answer's count are untouched".
 pub record ReadAs (s : List ℕ) (rows : Rows) (root : ℕ) (t : Trees) (a : Answer) (rows′ : Rows) : Type 0 where
   pub says : saidBy a ≡ record { number = 0; place = 0; count = count t; root = root }
   pub stands : Stood root t
