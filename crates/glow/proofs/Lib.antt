@@ -1,5 +1,5 @@
--- For what stands above: Answers (`answer-by-bytes`, `refused-as-was`, `past-untouched`, `rows-kept`, `count-bounded`, `place-within`, `parts-within`), over
--- Places and Within. Samples: Vectors. The rest is what the proof of the code needs.
+-- For what stands above: Answers (`answer-by-bytes`, `refused-as-was`, `past-untouched`, `rows-kept`, `count-bounded`, `place-within`, `parts-within`,
+-- `refusal-numbers`, `read-numbers`, `read-setup`), over Places and Within (`fuel-enough`). Samples: Vectors. The rest is what the proof of the code needs.
 pub mod Laws
 pub mod Vectors
 pub mod Places
