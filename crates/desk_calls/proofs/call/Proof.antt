@@ -44,7 +44,8 @@ returns-3 c =
     let the-is-legal = c .before .before .is-legal in
     let the-if3 = c .before .if3 in
     let the-unready3 = c .unready3 in
-    setup-desk 64 _ _ _ _ _ _ _ (omega (arith, the-if1 .left)) (omega (arith, the-if2 .left)) (the-is-legal .ensures ∙ not-true _ (the-if3 .taken)) ∙ unready-told _ _ (the-unready3 .ensures)
+    setup-desk 64 _ _ _ _ _ _ _ (omega (arith, the-if1 .left)) (omega (arith, the-if2 .left))
+    (the-is-legal .ensures ∙ not-true _ (the-if3 .taken)) ∙ unready-told _ _ (the-unready3 .ensures)
 
 measure-requires : tie.Need-measure-requires
 measure-requires c κs = search needs
@@ -64,7 +65,8 @@ returns-4 c =
     let the-measure = c .before .before .measure in
     let the-if4 = c .before .if4 in
     let the-unready4 = c .unready4 in
-    setup-entries 64 _ _ _ _ _ _ _ (omega (arith, the-if1 .left)) (omega (arith, the-if2 .left)) (the-is-legal .ensures ∙ not-false _ (the-if3 .left)) _ (the-measure .ensures) (omega (arith, the-if4 .taken))
+    setup-entries 64 _ _ _ _ _ _ _ (omega (arith, the-if1 .left)) (omega (arith, the-if2 .left))
+    (the-is-legal .ensures ∙ not-false _ (the-if3 .left)) _ (the-measure .ensures) (omega (arith, the-if4 .taken))
     ∙ unready-told _ _ (the-unready4 .ensures)
 
 slice-aggregate-serve : tie.Need-slice-aggregate-serve
@@ -99,7 +101,8 @@ returns-5 c =
     let the-measure = c .before .before .before .before .before .before .before .measure in
     let the-if4 = c .before .before .before .before .before .before .if4 in
     let the-serve = c .before .before .before .serve in
-    not-setup 64 _ _ _ _ _ _ _ (omega (arith, the-if1 .left)) (omega (arith, the-if2 .left)) (the-is-legal .ensures ∙ not-false _ (the-if3 .left)) _ (the-measure .ensures) (omega (arith, the-if4 .left))
+    not-setup 64 _ _ _ _ _ _ _ (omega (arith, the-if1 .left)) (omega (arith, the-if2 .left))
+    (the-is-legal .ensures ∙ not-false _ (the-if3 .left)) _ (the-measure .ensures) (omega (arith, the-if4 .left))
     ∙ laid-zeros _ _ _ refl (the-serve .ensures)
 
 pub call-spec : {M : Type 1} → statement M
