@@ -75,7 +75,8 @@ operations-down (tree kind xs kids links rest) which k n above h =
     let u = tests which k n kind xs kids links rest h in
     let own : List ℕ = ownPath kind xs above in
     let below = held-operations own (eqb (ruleOf kind 2) 14) _ kids (u .below) (λ z. operations-down kids children (k - 4) (pathAfter kind n xs) own z) in
-    let beside = held-operations own (eqb (ruleOf kind 5) 15) _ links (u .beside) (λ z. operations-down links connections (k - 4) (pathAfter kind n xs) own z) in
+    let beside = held-operations own (eqb (ruleOf kind 5) 15) _ links (u .beside)
+    (λ z. operations-down links connections (k - 4) (pathAfter kind n xs) own z) in
     let after = operations-down rest which k n above (u .after) in
     go (eqb kind 8) refl (u .suit) (asksDown own kids ++ (asksDown own links ++ asksDown above rest))
     (operations-append (asksDown own kids) (asksDown own links ++ asksDown above rest) below

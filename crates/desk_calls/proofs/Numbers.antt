@@ -123,7 +123,8 @@ module _ (w : ℕ) (f : Figures) (path : List ℕ) where
   open-numbers mode cells = go (pathFits path) (eqb (length cells) (w * w)) (both (figuresFit w f) (eqb mode 0))
     where
       go : (a b c : Bool)
-          → has openNumbers (pick a (pick b (pick c (answer 0 (clear (w * w))) (answer 45 cells)) (answer 1 cells)) (pick b (answer 45 cells) (answer 1 cells)) .number) ≡ true
+          → has openNumbers
+          (pick a (pick b (pick c (answer 0 (clear (w * w))) (answer 45 cells)) (answer 1 cells)) (pick b (answer 45 cells) (answer 1 cells)) .number) ≡ true
       go true true true = refl
       go true true false = refl
       go true false c = refl

@@ -176,7 +176,8 @@ module _ (w : ℕ) (f : Figures) (path : List ℕ) (root : ℕ) (rows : Rows) (n
         pub not-setup : r ≤ 16384 → called w f path root rows n s cells ≡ laid (handled w f path es cells)
         not-setup m = called-ready (ready ∙ both-yes _ _ k ∙ measure-yes leastReal root (length rows) n es r e m)
 
-  -- what a caller has to show: a table and a message that are not too long, a legal desk, entries that stand in the rows and make a tree that the reader accepts
+  -- what a caller has to show: a table and a message that are not too long, a legal desk, entries that stand in the rows and make a tree that the reader
+  -- accepts
   pub ready-from : length rows ≤ 256 → length s ≤ 16384 → deskLegal w f path cells ≡ true → n ≤ length rows → accepted root es ≡ true
       → isReady w f path root rows n s cells ≡ true
   unfolding isReady

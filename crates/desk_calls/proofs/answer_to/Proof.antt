@@ -54,7 +54,8 @@ returns-2 c =
     let the-number-of = c .before .before .before .before .before .before .before .number-of in
     let the-number-of2 = c .before .before .before .before .before .number-of2 in
     let the-ask = c .before .before .ask-member in
-    own-matrix _ _ _ _ _ (the-Start .pre .1 .1 .0) _ (the-Start .pre .1 .1 .1) _ _ (the-word-at .ensures) (sym (has-is _ _ _ (the-Start .pre .1 .0)) ∙ the-is-path .ensures ∙ not-false _ (the-if1 .left))
+    own-matrix _ _ _ _ _ (the-Start .pre .1 .1 .0) _ (the-Start .pre .1 .1 .1) _ _ (the-word-at .ensures)
+    (sym (has-is _ _ _ (the-Start .pre .1 .0)) ∙ the-is-path .ensures ∙ not-false _ (the-if1 .left))
     _ _ _ _ _ (the-cell-at .ensures) (the-cell-at2 .ensures) (the-cell-at3 .ensures) (the-number-of .ensures _) (the-number-of2 .ensures _) _
     (the-ask .ensures)
 

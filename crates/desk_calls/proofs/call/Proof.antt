@@ -16,7 +16,7 @@ returns : tie.Need-returns
 returns c =
     let the-if1 = c .before .if1 in
     let the-unready = c .unready in
-    setup-rows 64 _ _ _ _ _ _ _ (the-if1 .taken) ∙ unready-told _ _ (the-unready .ensures)
+    setup-rows 64 _ _ _ _ _ _ _ (omega (arith, the-if1 .taken)) ∙ unready-told _ _ (the-unready .ensures)
 
 unready-requires-2 : tie.Need-unready-requires-2
 unready-requires-2 c κs = search needs
@@ -26,7 +26,7 @@ returns-2 c =
     let the-if1 = c .before .before .if1 in
     let the-if2 = c .before .if2 in
     let the-unready2 = c .unready2 in
-    setup-message 64 _ _ _ _ _ _ _ (the-if1 .left) (the-if2 .taken) ∙ unready-told _ _ (the-unready2 .ensures)
+    setup-message 64 _ _ _ _ _ _ _ (omega (arith, the-if1 .left)) (omega (arith, the-if2 .taken)) ∙ unready-told _ _ (the-unready2 .ensures)
 
 is-legal-requires : tie.Need-is-legal-requires
 is-legal-requires c κs = search needs
@@ -44,7 +44,8 @@ returns-3 c =
     let the-is-legal = c .before .before .is-legal in
     let the-if3 = c .before .if3 in
     let the-unready3 = c .unready3 in
-    setup-desk 64 _ _ _ _ _ _ _ (the-if1 .left) (the-if2 .left) (the-is-legal .ensures ∙ not-true _ (the-if3 .taken)) ∙ unready-told _ _ (the-unready3 .ensures)
+    setup-desk 64 _ _ _ _ _ _ _ (omega (arith, the-if1 .left)) (omega (arith, the-if2 .left))
+    (the-is-legal .ensures ∙ not-true _ (the-if3 .taken)) ∙ unready-told _ _ (the-unready3 .ensures)
 
 measure-requires : tie.Need-measure-requires
 measure-requires c κs = search needs
@@ -64,7 +65,8 @@ returns-4 c =
     let the-measure = c .before .before .measure in
     let the-if4 = c .before .if4 in
     let the-unready4 = c .unready4 in
-    setup-entries 64 _ _ _ _ _ _ _ (the-if1 .left) (the-if2 .left) (the-is-legal .ensures ∙ not-false _ (the-if3 .left)) _ (the-measure .ensures) (omega (arith, the-if4 .taken))
+    setup-entries 64 _ _ _ _ _ _ _ (omega (arith, the-if1 .left)) (omega (arith, the-if2 .left))
+    (the-is-legal .ensures ∙ not-false _ (the-if3 .left)) _ (the-measure .ensures) (omega (arith, the-if4 .taken))
     ∙ unready-told _ _ (the-unready4 .ensures)
 
 slice-aggregate-serve : tie.Need-slice-aggregate-serve
@@ -99,7 +101,8 @@ returns-5 c =
     let the-measure = c .before .before .before .before .before .before .before .measure in
     let the-if4 = c .before .before .before .before .before .before .if4 in
     let the-serve = c .before .before .before .serve in
-    not-setup 64 _ _ _ _ _ _ _ (the-if1 .left) (the-if2 .left) (the-is-legal .ensures ∙ not-false _ (the-if3 .left)) _ (the-measure .ensures) (omega (arith, the-if4 .left))
+    not-setup 64 _ _ _ _ _ _ _ (omega (arith, the-if1 .left)) (omega (arith, the-if2 .left))
+    (the-is-legal .ensures ∙ not-false _ (the-if3 .left)) _ (the-measure .ensures) (omega (arith, the-if4 .left))
     ∙ laid-zeros _ _ _ refl (the-serve .ensures)
 
 pub call-spec : {M : Type 1} → statement M
