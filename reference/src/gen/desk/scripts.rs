@@ -755,7 +755,7 @@ impl Script {
                         // 41 before 42 and 43, 42 before 43 and 44, 43 before 44.
                         for (target, first) in [(0, vec![]), (3, vec![0]), (4, vec![0]), (0, vec![0, 1, 2, 3]), (2, long.clone())]
                         {
-                            if first.len() > 70 && last != [5] {
+                            if first.len() > 70 && last != [5] && last != [4] {
                                 continue;
                             }
                             let sources = [first, last.clone()].concat();
