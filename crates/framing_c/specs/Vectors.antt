@@ -31,7 +31,7 @@ abbrev outside : List ℕ
 outside = four 0 0 0 0
 
 pub v-accepts : map (λ (ws : List ℕ). accepts ws 17408 3)
-        (outside ∷ four 2 1024 1 16384 ∷ four 2 1025 1 16384 ∷ four 2 1024 1 16385 ∷ four 6 0 0 0 ∷ four 0 1 0 0 ∷ four 0 0 2 0 ∷ four 0 0 0 1 ∷ [])
+    (outside ∷ four 2 1024 1 16384 ∷ four 2 1025 1 16384 ∷ four 2 1024 1 16385 ∷ four 6 0 0 0 ∷ four 0 1 0 0 ∷ four 0 0 2 0 ∷ four 0 0 0 1 ∷ [])
     ≡ true ∷ true ∷ false ∷ false ∷ false ∷ false ∷ false ∷ false ∷ []
 unfolding isFrame isPending isSession frameAt pendingAt accepts
 v-accepts = refl
@@ -53,25 +53,25 @@ sevens n = replicate n 7
 -- P9
 pub v-keep-alive : calls outside (sevens 17408) (0xfe ∷ 0x00 ∷ 0x0e ∷ 0x01 ∷ 0x01 ∷ 0x94 ∷ 0xe4 ∷ 0xff ∷ 0xfe ∷ []) (9 ∷ 9 ∷ 9 ∷ [])
     ≡ record {
-        number = 4;
-        session = four 0 0 0 0;
-        store = sevens 16384 ++ 0x00 ∷ 0x0e ∷ 0x01 ∷ 0x01 ∷ 0x94 ∷ 0xe4 ∷ sevens 1018;
-        answer = 0 ∷ 8 ∷ 0 ∷ [];
-      }
+      number = 4;
+      session = four 0 0 0 0;
+      store = sevens 16384 ++ 0x00 ∷ 0x0e ∷ 0x01 ∷ 0x01 ∷ 0x94 ∷ 0xe4 ∷ sevens 1018;
+      answer = 0 ∷ 8 ∷ 0 ∷ [];
+    }
 unfolding isFrame isPending isSession frameAt pendingAt accepts told calls feeds run kept
     step inPlace adds ends cuts pieces contentOf bodyOf commandOf packetOf checksum crcFrom crcStep table
 v-keep-alive = refl
 
 -- A message of two bytes, where one of three was open.
 pub v-message : calls (four 0 0 1 3) (sevens 17408)
-        (0xfe ∷ 0x00 ∷ 0x0e ∷ 0x00 ∷ 0x01 ∷ 0xc0 ∷ 0x01 ∷ 0x02 ∷ 0x14 ∷ 0x02 ∷ 0x0a ∷ 0x0b ∷ 0x7e ∷ 0x1b ∷ 0xff ∷ []) (9 ∷ 9 ∷ 9 ∷ [])
+    (0xfe ∷ 0x00 ∷ 0x0e ∷ 0x00 ∷ 0x01 ∷ 0xc0 ∷ 0x01 ∷ 0x02 ∷ 0x14 ∷ 0x02 ∷ 0x0a ∷ 0x0b ∷ 0x7e ∷ 0x1b ∷ 0xff ∷ []) (9 ∷ 9 ∷ 9 ∷ [])
     ≡ record {
-        number = 3;
-        session = four 0 0 0 0;
-        store = 0x0a ∷ 0x0b ∷ (sevens 16382
-            ++ 0x00 ∷ 0x0e ∷ 0x00 ∷ 0x01 ∷ 0xc0 ∷ 0x01 ∷ 0x02 ∷ 0x14 ∷ 0x02 ∷ 0x0a ∷ 0x0b ∷ 0x7e ∷ 0x1b ∷ sevens 1011);
-        answer = 1 ∷ 15 ∷ 2 ∷ [];
-      }
+      number = 3;
+      session = four 0 0 0 0;
+      store = 0x0a ∷ 0x0b ∷ (sevens 16382
+          ++ 0x00 ∷ 0x0e ∷ 0x00 ∷ 0x01 ∷ 0xc0 ∷ 0x01 ∷ 0x02 ∷ 0x14 ∷ 0x02 ∷ 0x0a ∷ 0x0b ∷ 0x7e ∷ 0x1b ∷ sevens 1011);
+      answer = 1 ∷ 15 ∷ 2 ∷ [];
+    }
 unfolding isFrame isPending isSession frameAt pendingAt accepts told calls feeds run kept
     step inPlace adds ends cuts pieces contentOf bodyOf commandOf packetOf checksum crcFrom crcStep table
 v-message = refl

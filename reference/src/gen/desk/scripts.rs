@@ -7,9 +7,9 @@ use crate::framing::{self, packet, write_frame, write_keep_alive, Session, BIG, 
 use crate::gen::tree::{self, rules, spell, spell_changed, Style};
 use crate::gen::{bad_hex_line, frames, mutate_bytes, rows, Random};
 use crate::lines::{digits, lines};
-use crate::tree::{Body, Entry, Key, MatrixContents, RootKind, Tree};
+use crate::tree::{Body, Entry, Key, MatrixContents, ParameterContents, RootKind, Tree};
 use crate::tree_writer;
-use crate::values::{least_real, NUMBER_MAX};
+use crate::values::{least_real, write_real, Value, NUMBER_MAX};
 use std::collections::BTreeMap;
 
 /// How often each kind of line and each number came.
@@ -755,7 +755,7 @@ impl Script {
                         // 41 before 42 and 43, 42 before 43 and 44, 43 before 44.
                         for (target, first) in [(0, vec![]), (3, vec![0]), (4, vec![0]), (0, vec![0, 1, 2, 3]), (2, long.clone())]
                         {
-                            if first.len() > 70 && last != [5] {
+                            if first.len() > 70 && last != [5] && last != [4] {
                                 continue;
                             }
                             let sources = [first, last.clone()].concat();
@@ -826,6 +826,37 @@ impl Script {
         }
     }
 
+    /// A message of 16,384 bytes whose reals are in their least form, shorter than the written one: entries as read are
+    /// always some message's.
+    fn least(&mut self) {
+        self.push(opened(Some(2), (2, 2), (None, None), &[1]));
+        let two = |power: i32| f64::powi(2.0, power);
+        let shorter = |value: &f64| least_real(*value).unwrap().len() < write_real(*value).unwrap().len();
+        let reals: Vec<f64> = (120..150)
+            .flat_map(|power| {
+                [two(power), -two(power), 3.0 * two(power), 255.0 * two(power), -127.0 * two(power), 65_535.0 * two(power)]
+            })
+            .chain((1..=4).map(|octets| (two(8 * octets) - 1.0) * two(130)))
+            .filter(shorter)
+            .collect();
+        let body = |value: f64, description: Option<Vec<u8>>| {
+            let contents = ParameterContents { value: Some(Value::Real(value)), description, ..Default::default() };
+            Body::Parameter(Key::Number(1), contents)
+        };
+        let message = |filling: usize| {
+            let matrix = Body::Matrix(Key::Path(vec![1]), MatrixContents::default());
+            let mut entries = vec![Entry { parent: None, body: matrix }];
+            entries.extend((0..200).map(|at| Entry { parent: Some(0), body: body(reals[at % reals.len()], None) }));
+            entries.push(Entry { parent: Some(0), body: body(1.0, Some(vec![b'a'; filling])) });
+            entries.push(Entry { parent: Some(0), body: ask(1, &[0, 1], 0).body() });
+            tree_writer::spelt(&Tree { kind: RootKind::Elements, entries }, least_real).unwrap()
+        };
+        let filling = (0..MESSAGE_MAX - 3_000).rev().find(|&filling| message(filling).len() <= MESSAGE_MAX).unwrap();
+        self.send(&message(filling));
+        self.offer(false);
+        self.push("show");
+    }
+
     fn bad_lines(&mut self) {
         self.push("open 2 1 2 2 - - 1");
         for line in BAD_LINES.iter().chain(&["show", "grid", "sheet", "bytes FE", "request 0 0 0"]) {
@@ -863,6 +894,7 @@ pub fn stored() -> Vec<u8> {
     script.pieces();
     script.faults();
     script.lists();
+    script.least();
     script.bad_lines();
     for seed in 0.. {
         let drawn = input(seed, 1).text;
@@ -888,7 +920,7 @@ mod tests {
     #[test]
     fn stored_script_shows_every_number() {
         let text = stored();
-        assert!(text.len() < 400_000, "{}", text.len());
+        assert!(text.len() < 450_000, "{}", text.len());
         assert!((STORED_LINES..STORED_LINES + 60).contains(&lines(&text).len()));
         let mut script = Script::new(0);
         for line in lines(&text) {

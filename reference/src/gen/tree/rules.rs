@@ -276,6 +276,8 @@ fn tags_and_lengths(c: &mut Cases) {
     // Ends.
     c.add("R2: one 00 before the end of a definite container around", "30", &element("63", "A9{30 80 ^00}"));
     c.add("R2: no 00 before it", "30", &element("63", "A9{3080^}"));
+    c.add("R2: the 00 00 stands after the definite container's end", "30", "60[6B[A0[63[A0{020101}A9{3080^}]]]]");
+    c.add("R2: one 00 before that end and one after", "30", "60[6B[A0[63[A0{020101}A9{3080^00}00]]]]");
     c.add("R2: the same for an element", "30", "60{6B{A0806380A0{020101}^}}");
     c.add("R3: 00 in a definite container", "30", "60{6B{^0000}}");
     c.add("R3: 00 in a definite container, where the message ends", "30", "60{6B{^00!00}}");
@@ -1115,6 +1117,8 @@ fn long_lists(c: &mut Cases) {
         for place in 0..16 {
             let octets = format!("{}00{}", "02".repeat(place), "01".repeat(15 - place));
             c.add("37: 0 at each place of a path", "37", &path(tag, &octets));
+            c.add("37: over the range at each place", "37", &path(tag, &octets.replace("00", "8880808000")));
+            c.add("30: a number that starts with 80 at each place", "30", &path(tag, &octets.replace("00", "8001")));
         }
     }
     // Sources: any count.
@@ -1128,6 +1132,12 @@ fn long_lists(c: &mut Cases) {
         c.add("30: the last source starts with 80", "30", &sources(&last("8001")));
         c.add("30: the last source cut off", "30", &sources(&last("81")));
     }
+    for place in 0..20 {
+        let octets = |fault: &str| format!("{}{fault}{}", "01".repeat(place), "02".repeat(19 - place));
+        c.add("34: a source over its range at each place", "34", &sources(&octets("8880808000")));
+        c.add("30: a source that starts with 80 at each place", "30", &sources(&octets("8001")));
+    }
+    c.add("34: the first of many sources", "34", &sources(&format!("8880808000{}", "01".repeat(1_001))));
     c.add("34: the last of long sources", "34", &sources(&format!("{}8880808000", long.repeat(400))));
     // "no listed one twice", with all the others between, in either order.
     for (tag, numbers) in
