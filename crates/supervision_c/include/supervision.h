@@ -100,6 +100,12 @@ uint64_t supervision_start(uint64_t *link, size_t link_words, uint32_t tick);
  * Never writes to the link, and never asks twice in one silence. */
 uint64_t supervision_show(uint64_t *link, size_t link_words, uint32_t tick, uint64_t number);
 
+/* For hosts that cannot promise order: of the latest tick shown so far, at first that of supervision_start, and this one, the later, by the
+ * shorter way round. So a tick that is behind by half the range at most, 24 days, counts as no time passed. What is promised of
+ * supervision_show holds then of the latest ticks.
+ * Never goes back. */
+uint32_t supervision_later(uint32_t latest, uint32_t tick);
+
 /* The version of the installed library.
  * Never there in a library that `rt staticlib supervision_c` left: `make install` puts it in. */
 uint64_t supervision_version(void);
@@ -107,16 +113,6 @@ uint64_t supervision_version(void);
 #if defined __GNUC__ && !defined SUPERVISION_VISIBLE
 #pragma GCC visibility pop
 #endif
-
-/* A tick for hosts that cannot promise order: the later of this one and the latest so far, which it keeps; begin with the tick of
- * supervision_start. A tick that is behind by less than half the range, 24 days, counts as no time passed.
- * Never goes back. */
-static inline uint32_t supervision_later(uint32_t *latest, uint32_t tick)
-{
-    if ((uint32_t)(tick - *latest) < 0x80000000u)
-        *latest = tick;
-    return *latest;
-}
 
 /* A link with the latest tick that it was shown, for hosts whose ticks may come out of order. */
 struct supervision_link {
@@ -136,7 +132,8 @@ static inline uint64_t supervision_link_start(struct supervision_link *link, uin
  * Never shows a tick that goes back. */
 static inline uint64_t supervision_link_show(struct supervision_link *link, uint32_t tick, uint64_t number)
 {
-    return supervision_show(link->words, SUPERVISION_LINK_WORDS, supervision_later(&link->latest, tick), number);
+    link->latest = supervision_later(link->latest, tick);
+    return supervision_show(link->words, SUPERVISION_LINK_WORDS, link->latest, number);
 }
 
 #ifdef __cplusplus
