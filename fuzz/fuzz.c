@@ -630,6 +630,14 @@ static void desks(void)
     uint8_t *crosspoints, answers[EMBER_ROWS_MAX];
     const ember_row *table;
     const uint8_t *message;
+    if (count > 0 && root == EMBER_ELEMENTS && below(4) != 0) {
+        /* for its own matrix, with connections that may be possible */
+        ember_qualified(made[0], EMBER_KIND_QUALIFIED_MATRIX, &arena, desk_path, desk_path_words);
+        for (size_t i = 1; i < count; i++) {
+            uint64_t sources[3] = {below(9), below(9), below(9)};
+            ember_connection(made[i], EMBER_IN(0), &arena, below(9), sources, below(4), below(3));
+        }
+    }
     begin();
     figures = lend(sizeof desk_figures, desk_figures);
     path = lend(8 * desk_path_words, desk_path);
