@@ -106,11 +106,10 @@ static void out_of_order(void)
     for (size_t i = 0; i < sizeof starts / sizeof *starts; i++) {
         uint32_t latest = starts[i];
         start(latest);
-        expect("later", supervision_later(&latest, starts[i] + 10), (uint32_t)(starts[i] + 10));
-        expect("a millisecond back", supervision_later(&latest, starts[i] + 9), (uint32_t)(starts[i] + 10));
-        expect("no time passed", show(latest, 0), SUPERVISION_NOTHING);
-        expect("half the range back", supervision_later(&latest, latest - 2147483647u), (uint32_t)(starts[i] + 10));
-        expect("half the range on", supervision_later(&latest, latest + 2147483647u), (uint32_t)(starts[i] + 10 + 2147483647u));
+        expect("later", supervision_later(latest, latest + 10), (uint32_t)(latest + 10));
+        expect("a millisecond back", supervision_later(latest, latest - 1), latest);
+        expect("half the range back", supervision_later(latest, latest - 2147483648u), latest);
+        expect("half the range on, but one", supervision_later(latest, latest + 2147483647u), (uint32_t)(latest + 2147483647u));
         struct supervision_link link;
         expect("a link", supervision_link_start(&link, starts[i]), SUPERVISION_NOTHING);
         expect("a millisecond back", supervision_link_show(&link, starts[i] - 1, 0), SUPERVISION_NOTHING);

@@ -333,7 +333,7 @@ static void write_rows(const ember_row *rows, size_t count, uint64_t root, const
     if (!accepted && cause != EMBER_WHY_COUNT && cause != EMBER_WHY_ROOT)
         must(row < count && ember_accepts(table, count, row, root, bytes, parts_bytes) && !ember_accepts(table, count, row + 1, root, bytes, parts_bytes),
              "the row that ember_why names is the first that is wrong");
-    seen(3, cause, cause == EMBER_WHY_TREE ? 0 : ember_kind(rows[row < count ? row : 0]), member);
+    seen(3, cause, cause == EMBER_WHY_TREE || count == 0 ? 0 : ember_kind(rows[row < count ? row : 0]) % 16, member);
     tally("ember_why", cause);
     number = done("ember_write", ember_write(table, count, count, root, bytes, parts_bytes, out, room, length, EMBER_WRITE_WORDS));
     must(number == (accepted ? number : EMBER_NO_OUT), "only a tree is written");
@@ -374,7 +374,7 @@ static void check_message(size_t rows, const uint8_t *message, size_t bytes);
 static void trees(void)
 {
     static uint8_t message[EMBER_MESSAGE_MAX + 1];
-    size_t rows = below(8) == 0 ? word() % 258 : EMBER_ROWS_MAX, bytes = left < sizeof message ? left : sizeof message;
+    size_t rows = below(8) == 0 ? word() % 258 : 24, bytes = left < sizeof message ? left : sizeof message;
     memcpy(message, next, bytes);
     check_message(rows, message, bytes);
 }
@@ -395,7 +395,7 @@ static void check_message(size_t rows, const uint8_t *message, size_t bytes)
         must(same(table), "a refusal leaves the table as it was");
     if (number == EMBER_SETUP)
         return;
-    seen(4, number, answer[EMBER_PLACE], number == EMBER_DONE ? 0 : message[answer[EMBER_PLACE] < bytes ? answer[EMBER_PLACE] : 0]);
+    seen(4, number, answer[EMBER_PLACE] < 64 ? answer[EMBER_PLACE] : 64, 0);
     if (number >= EMBER_BAD_BER && number <= EMBER_BAD_PATH)
         must(answer[EMBER_PLACE] <= bytes && answer[EMBER_COUNT] == 0, "the place lies in the message");
     if (number == EMBER_NO_ROOM) {
@@ -502,7 +502,7 @@ static void spelled(void)
         return;
     for (uint64_t damage = below(4); damage > 0 && length[0] > 0; damage--)
         message[(byte() << 8 | byte()) % length[0]] ^= (uint8_t)(1u << below(8));
-    check_message(EMBER_ROWS_MAX, message, (size_t)length[0]);
+    check_message(24, message, (size_t)length[0]);
 }
 
 static void rows(void)
@@ -515,15 +515,23 @@ static void rows(void)
     write_rows((const ember_row *)made, count, root, parts, arena.used, 0);
 }
 
-/* ---- the desk. These three functions alone know how answers and tables are lent to the library. */
+/* ---- the desk. These three functions alone know how answers and tables are lent to the library: as 256 bytes and none, or as words and rows. */
 
 static uint64_t call_desk(uint64_t *figures, uint64_t *path, size_t path_words, const ember_row *table, size_t count, uint64_t root, const uint8_t *message,
                           size_t bytes, uint8_t *crosspoints, uint8_t *answers, uint64_t *answer)
 {
+#ifdef EMBER_ANSWERS_MAX
+    uint8_t *lent_answers = lend(EMBER_ANSWERS_MAX, NULL);
+    uint64_t number;
+    remember();
+    number = done("ember_desk_call", ember_desk_call(figures, EMBER_FIGURES_WORDS, path, path_words, table, count, count, root, message, bytes, crosspoints,
+                                                     EMBER_CROSSPOINTS, lent_answers, answer, EMBER_CALL_WORDS));
+#else
     uint64_t *lent_answers = lend(8 * (count > 0 ? count : 1), NULL), number;
     remember();
     number = done("ember_desk_call", ember_desk_call(figures, EMBER_FIGURES_WORDS, path, path_words, table, count, count, root, message, bytes, crosspoints,
                                                      EMBER_CROSSPOINTS, lent_answers, count, answer, EMBER_CALL_WORDS));
+#endif
     for (size_t i = 0; number == EMBER_DONE && i < answer[0]; i++)
         answers[i] = (uint8_t)lent_answers[i];
     return number;
@@ -532,11 +540,19 @@ static uint64_t call_desk(uint64_t *figures, uint64_t *path, size_t path_words, 
 static uint64_t call_turn(uint64_t *session, uint8_t *store, const uint8_t *chunk, size_t chunk_bytes, ember_row *table, size_t rows, uint64_t *figures,
                           uint64_t *path, size_t path_words, uint8_t *crosspoints, uint8_t *answers, uint64_t *answer)
 {
+#ifdef EMBER_ANSWERS_MAX
+    uint8_t *lent_answers = lend(EMBER_ANSWERS_MAX, NULL);
+    uint64_t number;
+    remember();
+    number = done("ember_turn", ember_turn(session, EMBER_SESSION_WORDS, store, EMBER_STORE_BYTES, chunk, chunk_bytes, table, rows, figures,
+                                           EMBER_FIGURES_WORDS, path, path_words, crosspoints, EMBER_CROSSPOINTS, lent_answers, answer, EMBER_TURN_WORDS));
+#else
     uint64_t *lent_answers = lend(8 * EMBER_ROWS_MAX, NULL), number;
     remember();
     number = done("ember_turn", ember_turn(session, EMBER_SESSION_WORDS, store, EMBER_STORE_BYTES, chunk, chunk_bytes, table, rows, figures,
                                            EMBER_FIGURES_WORDS, path, path_words, crosspoints, EMBER_CROSSPOINTS, lent_answers, EMBER_ROWS_MAX, answer,
                                            EMBER_TURN_WORDS));
+#endif
     for (size_t i = 0; number == EMBER_MESSAGE && i < answer[EMBER_TURN_ANSWERS]; i++)
         answers[i] = (uint8_t)lent_answers[i];
     return number;
@@ -544,10 +560,16 @@ static uint64_t call_turn(uint64_t *session, uint8_t *store, const uint8_t *chun
 
 static uint64_t call_sheet(const uint8_t *text, size_t bytes, uint8_t *store, uint64_t *figures, uint64_t *path, uint8_t *crosspoints, uint64_t *answer)
 {
+#ifdef EMBER_ANSWERS_MAX
+    remember();
+    return done("ember_sheet_read", ember_sheet_read(text, bytes, store, EMBER_STORE_BYTES, figures, EMBER_FIGURES_WORDS, path, EMBER_PATH_MAX, crosspoints,
+                                                     EMBER_CROSSPOINTS, answer, EMBER_SHEET_WORDS));
+#else
     ember_row *table = lend(EMBER_ROWS_MAX * sizeof *table, NULL);
     remember();
     return done("ember_sheet_read", ember_sheet_read(text, bytes, store, EMBER_STORE_BYTES, table, EMBER_ROWS_MAX, figures, EMBER_FIGURES_WORDS, path,
                                                      EMBER_PATH_MAX, crosspoints, EMBER_CROSSPOINTS, answer, EMBER_SHEET_WORDS));
+#endif
 }
 
 static uint64_t desk_figures[EMBER_FIGURES_WORDS], desk_path[EMBER_PATH_MAX];
@@ -608,6 +630,14 @@ static void desks(void)
     uint8_t *crosspoints, answers[EMBER_ROWS_MAX];
     const ember_row *table;
     const uint8_t *message;
+    if (count > 0 && root == EMBER_ELEMENTS && below(4) != 0) {
+        /* for its own matrix, with connections that may be possible */
+        ember_qualified(made[0], EMBER_KIND_QUALIFIED_MATRIX, &arena, desk_path, desk_path_words);
+        for (size_t i = 1; i < count; i++) {
+            uint64_t sources[3] = {below(9), below(9), below(9)};
+            ember_connection(made[i], EMBER_IN(0), &arena, below(9), sources, below(4), below(3));
+        }
+    }
     begin();
     figures = lend(sizeof desk_figures, desk_figures);
     path = lend(8 * desk_path_words, desk_path);
@@ -637,7 +667,7 @@ static struct ember_line line;
 static void turns(void)
 {
     uint64_t sums[3] = {0}, legal = make_desk(), other;
-    size_t rows = below(4) == 0 ? word() % 257 : EMBER_ROWS_MAX;
+    size_t rows = below(4) == 0 ? word() % 257 : below(4) == 0 ? EMBER_ROWS_MAX : 16;
     static uint8_t after[3][EMBER_CROSSPOINTS];
     uint8_t cuts = (uint8_t)byte(), answers[EMBER_ROWS_MAX] = {0};
     if (below(2) == 0) {
@@ -856,6 +886,10 @@ static void supervised(void)
         said = done("supervision_show", supervision_show(link, SUPERVISION_LINK_WORDS, (uint32_t)at, number));
         seen(12, said, link[0], number);
         must(said == wanted, "the supervisor is as its rules");
+        {
+            uint32_t latest = (uint32_t)at, tick = (uint32_t)word(), shown = supervision_later(latest, tick);
+            must(shown == ((uint32_t)(tick - latest) < 0x80000000u ? tick : latest) && supervision_later(shown, latest) == shown, "of two ticks the later");
+        }
     }
 }
 

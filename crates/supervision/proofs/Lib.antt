@@ -3,3 +3,5 @@ pub mod Ticks
 pub mod Bounds
 pub mod Promise
 pub mod Claims
+pub mod Order
+pub mod OrderCalls

@@ -3,3 +3,4 @@ pub mod Supervisor
 pub mod Events
 pub mod Promise
 pub mod Vectors
+pub mod Order

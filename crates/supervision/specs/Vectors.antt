@@ -10,6 +10,7 @@ use Rattle.supervision.specs.declared.Link.the-variants.{Silent, Asked, 
 use Rattle.supervision.specs.Events.{happenedBy}
 use Rattle.supervision.specs.Rules.{Showing, begins, answers}
 use Rattle.supervision.specs.Supervisor.{waited, shows}
+use Rattle.supervision.specs.Order.{laterOf}
 
 -- 0 and 1, 4, and all others of document 01's "Numbers answered" that a session call gives
 pub quiet-numbers : map happenedBy (0 ∷ 1 ∷ []) ≡ Nothing ∷ Nothing ∷ []
@@ -48,3 +49,28 @@ wrapped-asks = refl
 pub wrapped-dies : shows (Asked 4294967294) 4998 Nothing ≡ record { answer = say.Dead; link = Dead }
 unfolding shows waited
 wrapped-dies = refl
+
+-- ticks out of order: a millisecond on, a millisecond back, the same over the wrap, half the range on and back
+pub later-on : laterOf 10 11 ≡ 11
+unfolding laterOf
+later-on = refl
+
+pub later-back : laterOf 10 9 ≡ 10
+unfolding laterOf
+later-back = refl
+
+pub later-wraps : laterOf 4294967295 0 ≡ 0
+unfolding laterOf
+later-wraps = refl
+
+pub later-back-wraps : laterOf 0 4294967295 ≡ 0
+unfolding laterOf
+later-back-wraps = refl
+
+pub later-half : laterOf 10 2147483657 ≡ 2147483657
+unfolding laterOf
+later-half = refl
+
+pub later-half-back : laterOf 10 2147483658 ≡ 10
+unfolding laterOf
+later-half-back = refl

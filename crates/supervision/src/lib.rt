@@ -6,6 +6,7 @@ ghost use mathlib.Core.List.{[]};
 ghost use Rattle.framing.specs.Session.{saidBy};
 ghost use Rattle.supervision.specs.Events.{happenedBy};
 ghost use Rattle.supervision.specs.Supervisor.{begun, elapsed, gone, waited, heard, shows};
+ghost use Rattle.supervision.specs.Order.{laterOf};
 
 // A silence is due at this many milliseconds: for a request to be asked for, and after asking for the link to be dead.
 const SILENCE: u32 = 5000;
@@ -134,4 +135,14 @@ pub fn happening(event: Event) -> Happened
             discarded: _,
         } => Happened::Event,
     }
+}
+
+// For hosts that cannot promise order: the tick to show, of the latest so far and one that may be behind it.
+pub fn later(latest: u32, tick: u32) -> u32
+    ensures { λ r. ⌜ r ≡ laterOf latest tick ⌝ }
+{
+    if gap(latest, tick) < 2147483648 {
+        return tick;
+    }
+    latest
 }

@@ -2,8 +2,8 @@
  * be answered, and declares a silent link dead.
  *
  * Link libsupervision_c.a, which `rt staticlib supervision_c` proves and builds (x86-64 Linux), or the installed
- * libsupervision.a (pkg-config: supervision). The library keeps
- * nothing between calls, allocates nothing and calls nothing: all memory is lent by the caller, and it reads no clock.
+ * libsupervision.a (pkg-config: supervision). The library keeps nothing between calls, allocates nothing and calls
+ * nothing: all memory is lent by the caller, and it reads no clock.
  * Each call is proved for every content of what is lent to it; it cannot test a pointer. So a pointer and its count
  * name memory of the caller's that is as long as the count says and aligned for its type; where the count is 0 the
  * pointer may be anything.
@@ -12,9 +12,9 @@
  * framing_write_request and framing_write_response write what it asks for (with ember.h: ember_feed, ember_turn and so on).
  *
  * Three things that a host must see to:
- * - Ticks never go back. They run past their top, so one that is a millisecond behind the last counts as 49 days later, and the
- *   link is dead. Ticks from several threads, or from a clock that is set, may go back: struct supervision_link, below, keeps the
- *   latest and shows that then; by hand, supervision_later does.
+ * - Ticks never go back. They run past their top, so one that is a millisecond behind the last counts as 49 days later: a request is
+ *   asked for, and a link that was asked is dead. Ticks from several threads, or from a clock that is set, may go back: struct
+ *   supervision_link, below, keeps the latest and shows that then; by hand, supervision_later does.
  * - What has come is shown before that nothing has. After a pause of the host (it slept, was stopped, or was busy) bytes may wait
  *   that say the link lives: read and feed them first, and show a bare tick only when none are there.
  * - A bare tick is due also while bytes come that make no event. framing_feed answers 0 then, and 0 is what is shown: bytes alone
@@ -92,13 +92,19 @@ uint64_t supervision_start(uint64_t *link, size_t link_words, uint32_t tick);
 
 /* Shows the tick and the number that framing_feed answered at it, or 0 where nothing happened: 0 and 1 are no events, 4
  * is an incoming request, and every other number is an event. A tick is never behind the one shown before, but for the
- * wrap. An event counts before what is due at its tick. Show each
- * event with its tick, and some tick at least once in every 1,000 ms: then a link is declared dead no later than
- * 12,000 ms after its last event, and one with an event in every 4,000 ms never is. A request is answered in every
- * state, that of a dead link too; at any other showing a dead link answers SUPERVISION_DEAD. SUPERVISION_SETUP, with
- * nothing changed, if link_words is not 2 or the words are no state's.
+ * wrap. An event counts before what is due at its tick. Show each event with its tick, and some tick at least once in
+ * every 1,000 ms: then a link is declared dead no later than 12,000 ms after its last event, and one with an event in
+ * every 4,000 ms never is. A request is answered in every state, that of a dead link too; at any other showing a dead
+ * link answers SUPERVISION_DEAD. SUPERVISION_SETUP, with nothing changed, if link_words is not 2 or the words are no
+ * state's.
  * Never writes to the link, and never asks twice in one silence. */
 uint64_t supervision_show(uint64_t *link, size_t link_words, uint32_t tick, uint64_t number);
+
+/* For hosts that cannot promise order: of the latest tick shown so far, at first that of supervision_start, and this one, the later, by the
+ * shorter way round. So a tick that is behind by half the range at most, 24 days, counts as no time passed. What is promised of
+ * supervision_show holds then of the latest ticks.
+ * Never goes back. */
+uint32_t supervision_later(uint32_t latest, uint32_t tick);
 
 /* The version of the installed library.
  * Never there in a library that `rt staticlib supervision_c` left: `make install` puts it in. */
@@ -107,16 +113,6 @@ uint64_t supervision_version(void);
 #if defined __GNUC__ && !defined SUPERVISION_VISIBLE
 #pragma GCC visibility pop
 #endif
-
-/* A tick for hosts that cannot promise order: the later of this one and the latest so far, which it keeps; begin with the tick of
- * supervision_start. A tick that is behind by less than half the range, 24 days, counts as no time passed.
- * Never goes back. */
-static inline uint32_t supervision_later(uint32_t *latest, uint32_t tick)
-{
-    if ((uint32_t)(tick - *latest) < 0x80000000u)
-        *latest = tick;
-    return *latest;
-}
 
 /* A link with the latest tick that it was shown, for hosts whose ticks may come out of order. */
 struct supervision_link {
@@ -136,7 +132,8 @@ static inline uint64_t supervision_link_start(struct supervision_link *link, uin
  * Never shows a tick that goes back. */
 static inline uint64_t supervision_link_show(struct supervision_link *link, uint32_t tick, uint64_t number)
 {
-    return supervision_show(link->words, SUPERVISION_LINK_WORDS, supervision_later(&link->latest, tick), number);
+    link->latest = supervision_later(link->latest, tick);
+    return supervision_show(link->words, SUPERVISION_LINK_WORDS, link->latest, number);
 }
 
 #ifdef __cplusplus

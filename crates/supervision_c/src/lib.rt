@@ -5,6 +5,7 @@ use supervision::Answer;
 use supervision::Happened;
 ghost use mathlib.Core.Path.{_≡_};
 ghost use Rattle.supervision.specs.Events.{happenedBy};
+ghost use Rattle.supervision.specs.Order.{laterOf};
 ghost use Rattle.supervision_c.specs.Words.{numberOf};
 ghost use Rattle.supervision_c.specs.Calls.{starts, calls};
 
@@ -58,4 +59,12 @@ pub extern "C" fn supervision_show(link: &mut [u64], tick: u32, number: u64) -> 
         return number_of(answer);
     }
     1
+}
+
+// The tick to show, of the latest so far and one that may be behind it.
+#[no_mangle]
+pub extern "C" fn supervision_later(latest: u32, tick: u32) -> u32
+    ensures { λ r. ⌜ r ≡ laterOf latest tick ⌝ }
+{
+    supervision::later(latest, tick)
 }
