@@ -4,55 +4,15 @@ use mathlib.Core.Path.{_≡_, refl, sym, ap, _∙_}
 use mathlib.Core.List.{List, [], _∷_, _++_}
 use mathlib.Core.Bool.{Bool, true, false}
 use native.Mathlib.Omega.{arith}
-use borrow.Author.Tests.{le-leb}
 use lib.ListN.{length, take, drop, length-append, take-append-drop}
 use lib.Seq.{take-at}
-use lib.Dec.{leb}
-use Rattle.framing.specs.Checksum.{checksum, octetsOf}
-use Rattle.framing.specs.Numbers.{pick}
 use Rattle.framing_writer.specs.declared.Written.{Written}
 use Rattle.framing_writer.specs.declared.Written.the-variants.{Done, Out}
-use Rattle.framing_writer.specs.Written.{escape, escapes, sealed, frame, packetBody, packet, packets, payloadLimit, earlier, inPackets}
-use Rattle.framing_writer.specs.Written.{Outcome, outcome, into, messageInto}
+use Rattle.framing_writer.specs.Written.{packet, payloadLimit, earlier, inPackets}
+use Rattle.framing_writer.specs.Written.{Outcome, outcome, messageInto}
 use Rattle.framing_writer.proofs.Laws.{limited-fits}
+use Rattle.framing_writer.proofs.Sizes.{packet-length, packets-length, into-fits}
 use Rattle.sheets.specs.Sheet.{hexText, lineOf, packetLines, messageLines}
-
--- ---- two bytes for each at most, and 24 more a packet
-
-escape-two : (b : ℕ) → length (escape b) ≤ 2
-unfolding escape
-escape-two b = go (leb 0xf8 b)
-  where
-    go : (u : Bool) → length (pick u (0xfd ∷ lib.Bits.bitXor b 0x20 ∷ []) (b ∷ [])) ≤ 2
-    go true = omega arith
-    go false = omega arith
-
-escapes-double : (xs : List ℕ) → length (escapes xs) ≤ 2 * length xs
-unfolding escapes
-escapes-double [] = omega arith
-escapes-double (x ∷ xs) = omega (arith, length-append (escape x) (escapes xs), escape-two x, escapes-double xs)
-
-packet-length : (first last : Bool) (p : List ℕ) → length (packet first last p) ≤ 24 + 2 * length p
-unfolding packet frame
-packet-length first last p =
-    let body = packetBody first last p in
-    let a = escapes-double (sealed body) in
-    let b = length-append body (octetsOf (checksum body)) in
-    let c = length-append (escapes (sealed body)) (255 ∷ []) in
-    omega (arith, a, b, c)
-
-packets-length : (n : ℕ) (first : Bool) (m : List ℕ) → length (packets n first m) ≤ 24 * suc n + 2 * length m
-unfolding packets
-packets-length zero first m = packet-length first true m
-packets-length (suc n) first m =
-    let t = take payloadLimit m in
-    let d = drop payloadLimit m in
-    let a = packet-length first false t in
-    let b = packets-length n false d in
-    let c = length-append (packet first false t) (packets n false d) in
-    let e = length-append t d in
-    let g = ap length (take-append-drop payloadLimit m) in
-    omega (arith, a, b, c, e, g)
 
 pub frames-length : (m : List ℕ) → length m ≤ 6144 → length (inPackets m) ≤ 16384
 frames-length m h =
@@ -61,10 +21,6 @@ frames-length m h =
     omega (arith, a, b, h)
 
 -- ---- the frames of a message
-
-into-fits : (bs o : List ℕ) → length bs ≤ length o → into bs o ≡ outcome (Done (length bs)) (bs ++ drop (length bs) o)
-unfolding into
-into-fits bs o h = simp (le-leb _ _ h)
 
 module _ (m o : List ℕ) (short : length m ≤ 6144) (room : length o ≡ 16384) where
   message-fits : messageInto m o ≡ outcome (Done (length (inPackets m))) (inPackets m ++ drop (length (inPackets m)) o)
