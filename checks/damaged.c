@@ -662,7 +662,7 @@ static void damage_text(uint8_t *text, size_t length)
 
 static void read_sheet(void)
 {
-    size_t n = about(sheet_bytes, EMBER_SHEET_MAX), rows = one_in(40) ? 255 + below(3) : 256, bytes = one_in(60) ? EMBER_STORE_BYTES - 1 + below(3) : EMBER_STORE_BYTES;
+    size_t n = about(sheet_bytes, EMBER_SHEET_MAX), bytes = one_in(60) ? EMBER_STORE_BYTES - 1 + below(3) : EMBER_STORE_BYTES;
     size_t words = about(EMBER_FIGURES_WORDS, 9), numbers = about(EMBER_PATH_MAX, 18), cells = one_in(60) ? EMBER_CROSSPOINTS - 1 + below(3) : EMBER_CROSSPOINTS;
     size_t k = about(EMBER_SHEET_WORDS, 3);
     uint8_t *text = lend(0, n);
@@ -670,20 +670,18 @@ static void read_sheet(void)
     memcpy(text, sheet, n);
     damage_text(text, n);
     lend_bytes(1, bytes);
-    lend_table(2, rows);
-    lend_words(3, words);
-    lend_words(4, numbers);
-    lend_bytes(5, cells);
-    answer = lend_words(6, k);
+    lend_words(2, words);
+    lend_words(3, numbers);
+    lend_bytes(4, cells);
+    answer = lend_words(5, k);
     remember();
-    number = ember_sheet_read(text, n, lent[1].bytes, bytes, (ember_row *)lent[2].bytes, rows, (uint64_t *)lent[3].bytes, words, (uint64_t *)lent[4].bytes, numbers, lent[5].bytes, cells,
-                              answer, k);
+    number = ember_sheet_read(text, n, lent[1].bytes, bytes, (uint64_t *)lent[2].bytes, words, (uint64_t *)lent[3].bytes, numbers, lent[4].bytes, cells, answer, k);
     count("ember_sheet_read", number);
-    if (number != EMBER_DONE && (!same(3) || !same(4) || !same(5)))
+    if (number != EMBER_DONE && (!same(2) || !same(3) || !same(4)))
         wrong("a refusal changed figures, path or crosspoints");
-    if (number == EMBER_DONE && (answer[0] < 1 || answer[0] > EMBER_PATH_MAX || !same_from(4, 8 * answer[0])))
+    if (number == EMBER_DONE && (answer[0] < 1 || answer[0] > EMBER_PATH_MAX || !same_from(3, 8 * answer[0])))
         wrong("another path");
-    if (number == EMBER_DONE && ember_desk_is_legal((uint64_t *)lent[3].bytes, words, (uint64_t *)lent[4].bytes, answer[0], lent[5].bytes, cells) != 1)
+    if (number == EMBER_DONE && ember_desk_is_legal((uint64_t *)lent[2].bytes, words, (uint64_t *)lent[3].bytes, answer[0], lent[4].bytes, cells) != 1)
         wrong("read, and not legal");
 }
 

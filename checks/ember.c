@@ -574,9 +574,9 @@ static void turns(void)
 
 static uint8_t sheet[EMBER_SHEET_MAX];
 
-static uint64_t read_sheet(size_t bytes, size_t rows, size_t words, size_t numbers, size_t cells, size_t told)
+static uint64_t read_sheet(size_t bytes, size_t store_bytes, size_t words, size_t numbers, size_t cells, size_t told)
 {
-    return ember_sheet_read(sheet, bytes, store, EMBER_STORE_BYTES, table, rows, figures, words, path, numbers, crosspoints, cells, answer, told);
+    return ember_sheet_read(sheet, bytes, store, store_bytes, figures, words, path, numbers, crosspoints, cells, answer, told);
 }
 
 static void sheets(void)
@@ -603,18 +603,23 @@ static void sheets(void)
     memset(crosspoints, 0, EMBER_CROSSPOINTS);
     path[0] = 5;
     for (int more = -1; more <= 1; more += 2) {
-        expect("rows", read_sheet(length[0], EMBER_ROWS_MAX + more, EMBER_FIGURES_WORDS, EMBER_PATH_MAX, EMBER_CROSSPOINTS, EMBER_SHEET_WORDS), EMBER_SETUP);
-        expect("words of figures", read_sheet(length[0], EMBER_ROWS_MAX, EMBER_FIGURES_WORDS + more, EMBER_PATH_MAX, EMBER_CROSSPOINTS, EMBER_SHEET_WORDS), EMBER_SETUP);
-        expect("numbers", read_sheet(length[0], EMBER_ROWS_MAX, EMBER_FIGURES_WORDS, EMBER_PATH_MAX + more, EMBER_CROSSPOINTS, EMBER_SHEET_WORDS), EMBER_SETUP);
-        expect("crosspoints", read_sheet(length[0], EMBER_ROWS_MAX, EMBER_FIGURES_WORDS, EMBER_PATH_MAX, EMBER_CROSSPOINTS + more, EMBER_SHEET_WORDS), EMBER_SETUP);
-        expect("words", read_sheet(length[0], EMBER_ROWS_MAX, EMBER_FIGURES_WORDS, EMBER_PATH_MAX, EMBER_CROSSPOINTS, EMBER_SHEET_WORDS + more), EMBER_SETUP);
+        expect("bytes of the store", read_sheet(length[0], EMBER_STORE_BYTES + more, EMBER_FIGURES_WORDS, EMBER_PATH_MAX, EMBER_CROSSPOINTS, EMBER_SHEET_WORDS), EMBER_SETUP);
+        expect("words of figures", read_sheet(length[0], EMBER_STORE_BYTES, EMBER_FIGURES_WORDS + more, EMBER_PATH_MAX, EMBER_CROSSPOINTS, EMBER_SHEET_WORDS), EMBER_SETUP);
+        expect("numbers", read_sheet(length[0], EMBER_STORE_BYTES, EMBER_FIGURES_WORDS, EMBER_PATH_MAX + more, EMBER_CROSSPOINTS, EMBER_SHEET_WORDS), EMBER_SETUP);
+        expect("crosspoints", read_sheet(length[0], EMBER_STORE_BYTES, EMBER_FIGURES_WORDS, EMBER_PATH_MAX, EMBER_CROSSPOINTS + more, EMBER_SHEET_WORDS), EMBER_SETUP);
+        expect("words", read_sheet(length[0], EMBER_STORE_BYTES, EMBER_FIGURES_WORDS, EMBER_PATH_MAX, EMBER_CROSSPOINTS, EMBER_SHEET_WORDS + more), EMBER_SETUP);
     }
-    expect("cut off", read_sheet(length[0] - 2, EMBER_ROWS_MAX, EMBER_FIGURES_WORDS, EMBER_PATH_MAX, EMBER_CROSSPOINTS, EMBER_SHEET_WORDS), EMBER_BYTE);
+    memset(store, 0xaa, EMBER_STORE_BYTES);
+    expect("cut off", read_sheet(length[0] - 2, EMBER_STORE_BYTES, EMBER_FIGURES_WORDS, EMBER_PATH_MAX, EMBER_CROSSPOINTS, EMBER_SHEET_WORDS), EMBER_BYTE);
     expect("as they were", path[0] + figures[1] + crosspoints[0], 5);
-    expect("nothing", read_sheet(0, EMBER_ROWS_MAX, EMBER_FIGURES_WORDS, EMBER_PATH_MAX, EMBER_CROSSPOINTS, EMBER_SHEET_WORDS), EMBER_GLOW);
+    for (size_t i = 0; i < EMBER_STORE_BYTES; i++)
+        expect("the store too", store[i], 0xaa);
+    expect("nothing", read_sheet(0, EMBER_STORE_BYTES, EMBER_FIGURES_WORDS, EMBER_PATH_MAX, EMBER_CROSSPOINTS, EMBER_SHEET_WORDS), EMBER_GLOW);
     expect("no numbers", answer[0], 0);
-    expect("read", read_sheet(length[0], EMBER_ROWS_MAX, EMBER_FIGURES_WORDS, EMBER_PATH_MAX, EMBER_CROSSPOINTS, EMBER_SHEET_WORDS), EMBER_DONE);
+    expect("read", read_sheet(length[0], EMBER_STORE_BYTES, EMBER_FIGURES_WORDS, EMBER_PATH_MAX, EMBER_CROSSPOINTS, EMBER_SHEET_WORDS), EMBER_DONE);
     expect("numbers", answer[0], EMBER_PATH_MAX);
+    expect("the message in the store", store[0], 0x60);
+    expect("bytes that no rule writes", store[16383], 0xaa);
     expect("the first", path[0], 2147483647u);
     expect("figures", (uint64_t)memcmp(figures, was, sizeof was), 0);
     expect("all connected", (uint64_t)memcmp(crosspoints, all, sizeof all), 0);

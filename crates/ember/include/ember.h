@@ -369,13 +369,13 @@ uint64_t ember_sheet_write(const uint64_t *figures, size_t figures_words, const 
 
 /* Reads a sheet of any length: EMBER_DONE, and figures, path and crosspoints are those of its desk, which is legal; or the first refusal:
  * EMBER_BYTE for a bad line, 10 to 24, EMBER_GLOW unless it is one message of one qualified matrix and its connections, 30 to 38,
- * 41 to 45. EMBER_SETUP if store_bytes is not 17,408, table_rows not 256, figures_words not 7, path_words not 16, crosspoint_bytes not
- * 4,096 or answer_words not 1. Store and table are scratch: they may hold anything after it.
+ * 40 to 45. EMBER_SETUP if store_bytes is not 17,408, figures_words not 7, path_words not 16, crosspoint_bytes not 4,096 or
+ * answer_words not 1. The store is as it was after EMBER_SETUP and a bad line; else as ember_feed leaves it that is fed the sheet's
+ * bytes, up to and including that of the first event from 10 up, or all of them. A line's own store is not lent to it, then.
  * Never changes figures, path or crosspoints unless it answers EMBER_DONE. */
-uint64_t ember_sheet_read(const uint8_t *text, size_t text_bytes, uint8_t *store, size_t store_bytes,
-                          uint64_t (*table)[EMBER_ROW_WORDS], size_t table_rows, uint64_t *figures, size_t figures_words,
-                          uint64_t *path, size_t path_words, uint8_t *crosspoints, size_t crosspoint_bytes,
-                          uint64_t *answer, size_t answer_words);
+uint64_t ember_sheet_read(const uint8_t *text, size_t text_bytes, uint8_t *store, size_t store_bytes, uint64_t *figures,
+                          size_t figures_words, uint64_t *path, size_t path_words, uint8_t *crosspoints,
+                          size_t crosspoint_bytes, uint64_t *answer, size_t answer_words);
 
 #ifdef __cplusplus
 }

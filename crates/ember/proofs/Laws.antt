@@ -33,12 +33,13 @@ use Rattle.sheet_writer.specs.declared.Answer.the-variants as writtens
 use Rattle.sheet_writer.specs.Calls.{writesSheet, told as wroteAs}
 use Rattle.sheet_reader.specs.declared.Sheet.{Sheet}
 use Rattle.sheet_reader.specs.declared.Sheet.the-variants as sheets
-use Rattle.sheet_reader.specs.Calls.{sheetRead, kept, told as readAs}
+use Rattle.sheet_reader.specs.Calls as sheet
+use Rattle.sheet_reader.specs.Calls.{sheetRead, told as readAs}
 use Rattle.ember.specs.declared.after.Six.{Six}
 use Rattle.ember.specs.Words.{wordsOf, givenWord, limitWord, limitAt, figuresAt, isLimit, isFigures}
 use Rattle.ember.specs.Calls.{opens, legals, requests, DeskCall, deskCall, counted, deskCalls, lengthsFit, laterWords, treeWords, deskWords, next}
 use Rattle.ember.specs.Calls.{Turn, turned, turns}
-use Rattle.ember.specs.Calls.{SheetPut, sheetPut, measured, sheetWrites, SheetCall, sheetCall, given, sheetReads, sheetLent, Holds}
+use Rattle.ember.specs.Calls.{SheetPut, sheetPut, measured, sheetWrites, SheetCall, sheetCall, given, sheetReads}
 use Rattle.ember.specs.Steps.{wordsIn, Words}
 
 -- ---- figures and words
@@ -344,17 +345,17 @@ module _ (a : List ℕ) {x : written.Answer} (out : List ℕ) where
   unfolding measured
   wrote-done {n} h e p = rw (e, p, set-one a n h) refl
 
-module _ (fs a : List ℕ) {x : Sheet} (store : List ℕ) (table : Rows) (path : List ℕ) (cells : Cells) where
-  pub read-setup : x ≡ sheets.Setup → given (readAs x store table path cells) fs a ≡ sheetCall 1 fs path cells a
+module _ (fs a : List ℕ) {x : Sheet} (store path : List ℕ) (cells : Cells) where
+  pub read-setup : x ≡ sheets.Setup → given (readAs x store path cells) fs a ≡ sheetCall 1 store fs path cells a
   unfolding given
   read-setup e = rw e refl
 
-  pub read-refused : {n : ℕ} → length a ≡ 1 → x ≡ sheets.Refused n → given (readAs x store table path cells) fs a ≡ sheetCall n fs path cells (set a 0 0)
+  pub read-refused : {n : ℕ} → length a ≡ 1 → x ≡ sheets.Refused n → given (readAs x store path cells) fs a ≡ sheetCall n store fs path cells (set a 0 0)
   unfolding given
   read-refused h e = rw (e, set-one a 0 h) refl
 
   pub read-desk : {f : Figures} {n w : ℕ} {fs′ : List ℕ} → length a ≡ 1 → x ≡ sheets.Read f n → fs′ ≡ wordsOf f → w ≡ n
-      → given (readAs x store table path cells) fs a ≡ sheetCall 0 fs′ path cells (set a 0 w)
+      → given (readAs x store path cells) fs a ≡ sheetCall 0 store fs′ path cells (set a 0 w)
   unfolding given
   read-desk {f} {n} h e i p = rw (e, i, p, set-one a n h) refl
 
@@ -372,28 +373,16 @@ module _ (fs path cells out words : List ℕ) where
   unfolding sheetWrites
   sheet-wrote w i y e h g = rw (sym i ∙ y, eq-eqb _ _ w, ← e, h) g
 
-holds-told : (x : Sheet) (store : List ℕ) (table : Rows) (path : List ℕ) (cells : Cells) → Holds (readAs x store table path cells .lent) store table
-holds-told sheets.Setup store table path cells = (refl, refl)
-holds-told (sheets.Refused n) store table path cells = tt
-holds-told (sheets.Read f n) store table path cells = tt
+module _ (text store fs path : List ℕ) (cells : Cells) (words : List ℕ) where
+  pub sheet-no-figures : (length fs ≡ 7 → ⊥) → sheetReads text store fs path cells words ≡ sheetCall 1 store fs path cells words
+  unfolding sheetReads
+  sheet-no-figures h = rw (ne-eqb _ _ h) refl
 
-module _ (text store : List ℕ) (table : Rows) (fs path : List ℕ) (cells : Cells) (words : List ℕ) where
-  abbrev Told : ℕ → List ℕ → List ℕ → Cells → List ℕ → List ℕ → Rows → Type 0
-  Told r fs′ path′ cells′ words′ store′ table′ =
-      (sheetReads text store table fs path cells words ≡ sheetCall r fs′ path′ cells′ words′)
-      × Holds (sheetLent text store table fs path cells words) store′ table′
+  pub sheet-no-words : (length words ≡ 1 → ⊥) → sheetReads text store fs path cells words ≡ sheetCall 1 store fs path cells words
+  unfolding sheetReads
+  sheet-no-words h = rw (ne-eqb _ _ h, both-no (eqb (length fs) 7)) refl
 
-  pub sheet-no-figures : (length fs ≡ 7 → ⊥) → Told 1 fs path cells words store table
-  unfolding sheetReads sheetLent
-  sheet-no-figures h = rw (ne-eqb _ _ h) (refl, (refl, refl))
-
-  pub sheet-no-words : (length words ≡ 1 → ⊥) → Told 1 fs path cells words store table
-  unfolding sheetReads sheetLent
-  sheet-no-words h = rw (ne-eqb _ _ h, both-no (eqb (length fs) 7)) (refl, (refl, refl))
-
-  pub sheet-read : (x : Sheet) (store′ : List ℕ) (table′ : Rows) (path′ : List ℕ) (cells′ : Cells) {r : ℕ} {fs′ words′ : List ℕ} → length fs ≡ 7 → length words ≡ 1
-      → sheetRead side text store table path cells ≡ readAs x store′ table′ path′ cells′
-      → given (readAs x store′ table′ path′ cells′) fs words ≡ sheetCall r fs′ path′ cells′ words′
-      → Told r fs′ path′ cells′ words′ store′ table′
-  unfolding sheetReads sheetLent
-  sheet-read x store′ table′ path′ cells′ h k e g = rw (eq-eqb _ _ h, eq-eqb _ _ k, e) (g, holds-told x store′ table′ path′ cells′)
+  pub sheet-read : {o : sheet.Outcome} {x : SheetCall} → length fs ≡ 7 → length words ≡ 1 → sheetRead side text store path cells ≡ o → given o fs words ≡ x
+      → sheetReads text store fs path cells words ≡ x
+  unfolding sheetReads
+  sheet-read h k e g = rw (eq-eqb _ _ h, eq-eqb _ _ k, e) g

@@ -20,7 +20,7 @@ use Rattle.turns.specs.Whole.{deskAt, Left, left, readTo}
 use Rattle.framing_writer.specs.Written.{Outcome as Wrote}
 use Rattle.sheet_writer.specs.Calls.{writesSheet}
 use Rattle.sheet_reader.specs.Calls as sheet
-use Rattle.sheet_reader.specs.Calls.{sheetRead, scratch, kept}
+use Rattle.sheet_reader.specs.Calls.{sheetRead}
 use Rattle.ember.specs.Words.{wordsOf, figuresAt, isFigures}
 
 -- ---- the desk; words that are no figures are 1, with everything as it was
@@ -146,44 +146,34 @@ unfoldable pub sheetWrites : List ℕ → List ℕ → Cells → List ℕ → Li
 sheetWrites fs path cells out words =
     pick (both (isFigures fs) (eqb (length words) 1)) (measured (writesSheet side (figuresAt fs) path cells out) words) (sheetPut 1 out words)
 
--- Reading: a number, the figures' words, the path, the crosspoints, and one word for how many numbers the path has.
+-- Reading: a number, the store, the figures' words, the path, the crosspoints, and one word for how many numbers the path has.
 pub record SheetCall : Type 0 where
   pub number : ℕ
+  pub store : List ℕ
   pub figures : List ℕ
   pub path : List ℕ
   pub cells : Cells
   pub answer : List ℕ
 
-abbrev pub sheetCall : ℕ → List ℕ → List ℕ → Cells → List ℕ → SheetCall
-sheetCall number fs path cells words = record { number = number; figures = fs; path = path; cells = cells; answer = words }
+abbrev pub sheetCall : ℕ → List ℕ → List ℕ → List ℕ → Cells → List ℕ → SheetCall
+sheetCall number store fs path cells words = record { number = number; store = store; figures = fs; path = path; cells = cells; answer = words }
 
 abbrev pub figuresOf : sheet.Given → List ℕ → List ℕ
+figuresOf sheet.setup fs = fs
 figuresOf sheet.none fs = fs
 figuresOf (sheet.desk f n) fs = wordsOf f
 
-abbrev pub lengthOf : sheet.Given → ℕ
-lengthOf sheet.none = 0
-lengthOf (sheet.desk f n) = n
-
--- after SETUP, which keeps store and table, the answer's word stays too
-abbrev pub answerOf : sheet.Lent → List ℕ → ℕ → List ℕ
-answerOf scratch words n = n ∷ []
-answerOf (kept s t) words n = words
+-- after SETUP, "which leaves everything as it was", the answer's word stays too
+abbrev pub answerOf : sheet.Given → List ℕ → List ℕ
+answerOf sheet.setup words = words
+answerOf sheet.none words = 0 ∷ []
+answerOf (sheet.desk f n) words = n ∷ []
 
 unfoldable pub given : sheet.Outcome → List ℕ → List ℕ → SheetCall
-given o fs words = sheetCall (o .number) (figuresOf (o .given) fs) (o .path) (o .cells) (answerOf (o .lent) words (lengthOf (o .given)))
+given o fs words = sheetCall (o .number) (o .store) (figuresOf (o .given) fs) (o .path) (o .cells) (answerOf (o .given) words)
 
 -- figures that have not seven words are 1, and so is an answer of other than one word
-unfoldable pub sheetReads : List ℕ → List ℕ → Rows → List ℕ → List ℕ → Cells → List ℕ → SheetCall
-sheetReads text store table fs path cells words =
-    pick (both (eqb (length fs) 7) (eqb (length words) 1)) (given (sheetRead side text store table path cells) fs words)
-    (sheetCall 1 fs path cells words)
-
--- What store and table hold after it: after SETUP as they were, else anything.
-unfoldable pub sheetLent : List ℕ → List ℕ → Rows → List ℕ → List ℕ → Cells → List ℕ → sheet.Lent
-sheetLent text store table fs path cells words =
-    pick (both (eqb (length fs) 7) (eqb (length words) 1)) (sheetRead side text store table path cells .lent) (kept store table)
-
-abbrev pub Holds : sheet.Lent → List ℕ → Rows → Type 0
-Holds scratch store table = Unit {0}
-Holds (kept s t) store table = (s ≡ store) × (t ≡ table)
+unfoldable pub sheetReads : List ℕ → List ℕ → List ℕ → List ℕ → Cells → List ℕ → SheetCall
+sheetReads text store fs path cells words =
+    pick (both (eqb (length fs) 7) (eqb (length words) 1)) (given (sheetRead side text store path cells) fs words)
+    (sheetCall 1 store fs path cells words)

@@ -18,7 +18,7 @@ ghost use Rattle.crosspoints.specs.Crosspoints.{Cells, answer as answered};
 ghost use Rattle.desk_calls.specs.Calls.{told};
 ghost use Rattle.turns.specs.Whole.{deskAt, gave};
 ghost use Rattle.ember.specs.Calls.{opens, legals, requests, counted, deskCall, deskCalls, lengthsFit, next, turned, turns};
-ghost use Rattle.ember.specs.Calls.{sheetPut, sheetWrites, sheetCall, sheetReads, sheetLent, Holds};
+ghost use Rattle.ember.specs.Calls.{sheetPut, sheetWrites, sheetCall, sheetReads};
 ghost use Rattle.ember.specs.Steps.{wordsIn};
 
 // ---- the session and the writer of frames
@@ -402,23 +402,19 @@ pub extern "C" fn ember_sheet_write(
 }
 
 // Reads a sheet: 0 and a desk, its figures, path and crosspoints, with the path's length in the answer's one word; or the first refusal, and they stay as
-// they were.
+// they were. The store is what the sheet's bytes leave there (crates/sheet_stream).
 #[no_mangle]
 pub extern "C" fn ember_sheet_read(
     text: &[u8],
     store: &mut [u8],
-    table: &mut [[u64; 50]],
     figures: &mut [u64],
     path: &mut [u64],
     crosspoints: &mut [u8],
     answer: &mut [u64],
 ) -> u64
-    ensures { λ r. ⌜ sheetReads (now (text .entry)) (now (store .entry)) (now (table .entry)) (now (figures .entry)) (now (path .entry))
-        (now (crosspoints .entry)) (now (answer .entry))
-        ≡ sheetCall r (now (figures .exit)) (now (path .exit)) (now (crosspoints .exit)) (now (answer .exit)) ⌝ }
-    ensures { λ _. ⌜ Holds (sheetLent (now (text .entry)) (now (store .entry)) (now (table .entry)) (now (figures .entry)) (now (path .entry))
-        (now (crosspoints .entry)) (now (answer .entry)))
-        (now (store .exit)) (now (table .exit)) ⌝ }
+    ensures { λ r. ⌜ sheetReads (now (text .entry)) (now (store .entry)) (now (figures .entry)) (now (path .entry)) (now (crosspoints .entry))
+        (now (answer .entry))
+        ≡ sheetCall r (now (store .exit)) (now (figures .exit)) (now (path .exit)) (now (crosspoints .exit)) (now (answer .exit)) ⌝ }
 {
     if figures.len() != 7 {
         return 1;
@@ -426,6 +422,6 @@ pub extern "C" fn ember_sheet_read(
     if answer.len() != 1 {
         return 1;
     }
-    let x = sheet_reader::read(text, store, table, path, crosspoints);
+    let x = sheet_reader::read(text, store, path, crosspoints);
     sheet::read(x, figures, answer)
 }

@@ -118,12 +118,12 @@ module _ (w : ℕ) (f : Figures) (path : List ℕ) (mode : ℕ) (cells : Cells) 
 module _ (n : ℕ) (f : Figures) (numbers : List ℕ) (cells path lent : List ℕ) where
   pub hands-refused : (n ≡ 0 → ⊥) → Tells (sheetBy n f numbers cells) path lent (Refused n) path lent
   unfolding sheetBy
-  hands-refused h store table = rw (ne-eqb _ _ h)
+  hands-refused h store = rw (ne-eqb _ _ h)
 
   pub hands-desk : n ≡ 0 → (path′ lent′ : List ℕ) → path′ ≡ numbers ++ drop (length numbers) path → lent′ ≡ cells ++ drop (length cells) lent
       → length cells ≡ length lent → Tells (sheetBy n f numbers cells) path lent (Read f (length numbers)) path′ lent′
   unfolding sheetBy
-  hands-desk h path′ lent′ a b l store table =
+  hands-desk h path′ lent′ a b l store =
       let m : length lent ≤ length cells = omega arith in
       let d : lent′ ≡ cells = b ∙ ap (λ (x : List ℕ). cells ++ x) (drop-of-length-le lent m) ∙ append-nil cells in
       rw (eq-eqb _ _ h, a, d)
@@ -142,7 +142,7 @@ entries-are w [] h = absurd (true≢false (sym h))
 entries-are w (e ∷ es) h = rw h
 
 pub tells-not : (w : ℕ) (es : List Item) (path cells : List ℕ) → isSheet es ≡ false → Tells (ofEntries w es) path cells (Refused 33) path cells
-tells-not w es path cells h store table = ap (λ (x : reading.Sheet). leaves x path cells) (entries-not w es h)
+tells-not w es path cells h store = ap (λ (x : reading.Sheet). leaves x store path cells) (entries-not w es h)
 
 too-long : (path : List ℕ) → 16 < length path → pathFits path ≡ false
 too-long path h = go (pathFits path) refl
@@ -169,11 +169,11 @@ module _ (w : ℕ) (s : List ℕ) (rows : Rows) (n : ℕ) (h : n ≤ length rows
     -- a path of more than sixteen numbers
     pub tells-long : 16 < r → (path cells : List ℕ) → Tells (ofEntries w (itemsIn s rows n)) path cells (Refused 45) path cells
     unfolding opens begun
-    tells-long k path cells store table =
+    tells-long k path cells store =
         let l = t .more k in
         let m : 16 < length (pathIn first) = subst (λ (p : List ℕ). 16 < length p) (sym path-first) l in
         let o = opened-not w (figuresIn first) (pathIn first) (modeIn first) (clear (w * w)) (too-long (pathIn first) m) (clear-length (w * w)) in
-        ap (λ (x : reading.Sheet). leaves x path cells)
+        ap (λ (x : reading.Sheet). leaves x store path cells)
         (opens-first ∙ ap (begun w (figuresIn first) (pathIn first) (itemsIn s rows n)) o)
 
     -- what opening and applying gives is handed over
@@ -182,12 +182,12 @@ module _ (w : ℕ) (s : List ℕ) (rows : Rows) (n : ℕ) (h : n ≤ length rows
         → opens w f (take r list) mode (itemsIn s rows n) ≡ sheetBy number f (take r list) inner
         → (path cells : List ℕ) (x : Sheet) (path′ cells′ : List ℕ) → Tells (sheetBy number f (take r list) inner) path cells x path′ cells′
         → Tells (ofEntries w (itemsIn s rows n)) path cells x path′ cells′
-    tells-opened k f mode number inner a b o path cells x path′ cells′ g store table =
+    tells-opened k f mode number inner a b o path cells x path′ cells′ g store =
         let p : pathIn first ≡ take r list = path-first ∙ sym (t .all k) in
-        ap (λ (y : reading.Sheet). leaves y path cells)
+        ap (λ (y : reading.Sheet). leaves y store path cells)
         (opens-first
         ∙ ap (λ (y : Figures). opens w y (pathIn first) (modeIn first) (itemsIn s rows n)) (a s)
         ∙ ap (λ (y : List ℕ). opens w f y (modeIn first) (itemsIn s rows n)) p
         ∙ ap (λ (y : ℕ). opens w f (take r list) y (itemsIn s rows n)) (b s)
         ∙ o)
-        ∙ g store table
+        ∙ g store

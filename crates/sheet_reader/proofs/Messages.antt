@@ -93,12 +93,12 @@ module _ (w : ℕ) (m : List ℕ) (table : Rows) (few : length m ≤ 16384) (siz
 
   module _ (a : Answer) (after : Rows) (q : readAt m table ≡ result a after) (path cells : List ℕ) where
     pub tells-refused : (number place : ℕ) → a ≡ glow.Refused number place → Tells (ofMessage w m) path cells (Refused number) path cells
-    tells-refused number place h store rows =
-        ap (λ (x : reading.Sheet). leaves x path cells) (by-answer a after q ∙ ap (λ (x : Answer). sheetFor x (walk m .out .entries)) h)
+    tells-refused number place h store =
+        ap (λ (x : reading.Sheet). leaves x store path cells) (by-answer a after q ∙ ap (λ (x : Answer). sheetFor x (walk m .out .entries)) h)
 
     pub tells-room : (count : ℕ) → a ≡ glow.Room count → Tells (ofMessage w m) path cells (Refused 38) path cells
-    tells-room count h store rows =
-        ap (λ (x : reading.Sheet). leaves x path cells) (by-answer a after q ∙ ap (λ (x : Answer). sheetFor x (walk m .out .entries)) h)
+    tells-room count h store =
+        ap (λ (x : reading.Sheet). leaves x store path cells) (by-answer a after q ∙ ap (λ (x : Answer). sheetFor x (walk m .out .entries)) h)
 
     -- after 0 the entries are those in the first rows
     module _ (root count : ℕ) (h : a ≡ glow.Read root count) (octets : Below 256 m) where
@@ -130,7 +130,7 @@ module _ (w : ℕ) (m : List ℕ) (table : Rows) (few : length m ≤ 16384) (siz
 
       pub tells-entries : (x : Sheet) (path′ cells′ : List ℕ) → Tells (ofEntries w (itemsIn m after count)) path cells x path′ cells′
           → Tells (ofMessage w m) path cells x path′ cells′
-      tells-entries x path′ cells′ t store rows =
-          ap (λ (y : reading.Sheet). leaves y path cells)
+      tells-entries x path′ cells′ t store =
+          ap (λ (y : reading.Sheet). leaves y store path cells)
           (by-answer a after q ∙ ap (λ (y : Answer). sheetFor y (walk m .out .entries)) h ∙ ap (ofEntries w) (sym entries-in))
-          ∙ t store rows
+          ∙ t store

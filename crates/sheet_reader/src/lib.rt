@@ -261,8 +261,8 @@ fn of_entries(
     hand_over(number, f, &numbers[..n], &cells, path, crosspoints)
 }
 
-// A message: the tree's refusals, with the largest table, and then its entries.
-fn of_message(m: &[u8], table: &mut [[u64; 50]], path: &mut [u64], crosspoints: &mut [u8]) -> Sheet
+// A message, read into the largest table: the tree's refusals, and then its entries.
+fn of_rows(m: &[u8], table: &mut [[u64; 50]], path: &mut [u64], crosspoints: &mut [u8]) -> Sheet
     requires { ⌜ length (now m) ≤ 16384 ⌝ }
     requires { ⌜ (length (now table) ≡ 256) × ((length (now path) ≡ 16) × (length (now crosspoints) ≡ 4096)) ⌝ }
     ensures { λ r. ⌜ Tells (ofMessage side (now (m .entry))) (now (path .entry)) (now (crosspoints .entry)) r (now (path .exit)) (now (crosspoints .exit)) ⌝ }
@@ -275,22 +275,24 @@ fn of_message(m: &[u8], table: &mut [[u64; 50]], path: &mut [u64], crosspoints: 
     }
 }
 
-// Reads a route sheet: a desk, with its path in the first `length` words of `path` and its crosspoints in `crosspoints`; or the first refusal, with both as
-// they were. `Setup`, with everything as it was, for a store of other than 17,408 bytes, a table of other than 256 rows, a path of other than 16 words or
-// crosspoints of other than 4,096 cells. After any other answer what store and table hold is free.
-pub fn read(
-    text: &[u8],
-    store: &mut [u8],
-    table: &mut [[u64; 50]],
-    path: &mut [u64],
-    crosspoints: &mut [u8],
-) -> Sheet
-    ensures { λ r. ⌜ sheetRead side (now (text .entry)) (now (store .entry)) (now (table .entry)) (now (path .entry)) (now (crosspoints .entry))
-        ≡ told r (now (store .exit)) (now (table .exit)) (now (path .exit)) (now (crosspoints .exit)) ⌝ }
+// A message, with a table of its own: no sheet overwrites a lent one.
+fn of_message(m: &[u8], path: &mut [u64], crosspoints: &mut [u8]) -> Sheet
+    requires { ⌜ length (now m) ≤ 16384 ⌝ }
+    requires { ⌜ (length (now path) ≡ 16) × (length (now crosspoints) ≡ 4096) ⌝ }
+    ensures { λ r. ⌜ Tells (ofMessage side (now (m .entry))) (now (path .entry)) (now (crosspoints .entry)) r (now (path .exit)) (now (crosspoints .exit)) ⌝ }
 {
-    if table.len() != 256 {
-        return Sheet::Setup;
-    }
+    let mut rows = [[0u64; 50]; 256];
+    of_rows(m, &mut rows, path, crosspoints)
+}
+
+// Reads a route sheet: a desk, with its path in the first `length` words of `path` and its crosspoints in `crosspoints`; or the first refusal, with both as
+// they were. `Setup`, with everything as it was, for a store of other than 17,408 bytes, a path of other than 16 words or crosspoints of other than 4,096
+// cells. After 12 for a bad line the store is as it was; after any other answer it is as a session leaves it that is fed the sheet's bytes, up to and including
+// that of the first event from 10 up, or all of them.
+pub fn read(text: &[u8], store: &mut [u8], path: &mut [u64], crosspoints: &mut [u8]) -> Sheet
+    ensures { λ r. ⌜ sheetRead side (now (text .entry)) (now (store .entry)) (now (path .entry)) (now (crosspoints .entry))
+        ≡ told r (now (store .exit)) (now (path .exit)) (now (crosspoints .exit)) ⌝ }
+{
     if path.len() != 16 {
         return Sheet::Setup;
     }
@@ -302,7 +304,7 @@ pub fn read(
         Found::Refused { number } => Sheet::Refused { number },
         Found::Message { length } => {
             let n = turns::front(store, length);
-            of_message(&store[..n], table, path, crosspoints)
+            of_message(&store[..n], path, crosspoints)
         }
     }
 }

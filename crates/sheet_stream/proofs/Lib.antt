@@ -4,3 +4,4 @@ pub mod Ways
 pub mod Steps
 pub mod Messages
 pub mod Answers
+pub mod Stores

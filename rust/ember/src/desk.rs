@@ -185,15 +185,14 @@ impl Desk {
     }
 }
 
-/// What reading a route sheet needs beside it, some 120 KB; put it into a `Box` where the stack is small.
+/// What reading a route sheet needs beside it, some 17 KB; put it into a `Box` where the stack is small.
 pub struct Scratch {
     store: [u8; STORE_BYTES],
-    table: [Row; ROWS_MAX],
 }
 
 impl Default for Scratch {
     fn default() -> Scratch {
-        Scratch { store: [0; STORE_BYTES], table: [Row::default(); ROWS_MAX] }
+        Scratch { store: [0; STORE_BYTES] }
     }
 }
 
@@ -240,8 +239,6 @@ impl Desk {
                 text.len(),
                 scratch.store.as_mut_ptr(),
                 scratch.store.len(),
-                scratch.table.as_mut_ptr(),
-                scratch.table.len(),
                 words.as_mut_ptr(),
                 words.len(),
                 path.as_mut_ptr(),

@@ -121,8 +121,6 @@ extern "C" {
         bytes: usize,
         store: *mut u8,
         store_bytes: usize,
-        table: *mut Row,
-        rows: usize,
         figures: *mut u64,
         figures_words: usize,
         path: *mut u64,

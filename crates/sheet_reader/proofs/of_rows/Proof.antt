@@ -1,8 +1,8 @@
 use native.Mathlib.Omega.{arith}
 use Rattle.sheet_reader.proofs.Messages.{octets-all, never-setup, tells-refused, tells-room, entries-accepted, entries-few, tells-entries}
 use borrow.Author.Needs.{needs}
-use Rattle.sheet_reader.proofs.of_message.Statement.{statement}
-use Rattle.sheet_reader.proofs.of_message.Tie as tie
+use Rattle.sheet_reader.proofs.of_rows.Statement.{statement}
+use Rattle.sheet_reader.proofs.of_rows.Tie as tie
 
 read-requires : tie.Need-read-requires
 read-requires c κs = search needs
@@ -83,8 +83,8 @@ returns-4 c =
     tells-entries 64 _ _ (the-Start .pre .0) (the-Start .pre .1 .0) _ _ (the-read .ensures) _ _ _ _ (the-root .given .1) octets
     (the-of-entries .result) (the-of-entries .last .1 .1 .1 .1 .0) (the-of-entries .last .1 .1 .1 .1 .1 .0) (the-of-entries .ensures)
 
-pub of-message-spec : {M : Type 1} → statement M
-of-message-spec =
+pub of-rows-spec : {M : Type 1} → statement M
+of-rows-spec =
     tie.close
     (tie.spec
     read-requires
