@@ -14,9 +14,9 @@ use Rattle.crosspoints.specs.declared.Figures.{Figures}
 use Rattle.crosspoints.specs.Crosspoints.{Cells, legal, opened, Answer, answer}
 use Rattle.crosspoints.proofs.Opened.{open-legal}
 use Rattle.routing.proofs.Claims.{request-legal, refused-same, request-length}
-use Rattle.desk_calls.specs.Connections.{Ask, askOf, asksIn, asksOf}
-use Rattle.desk_calls.specs.Calls.{Request, requests, pathFits, deskLegal, deskOpened, same, answered, Served, answers, served, handled, Outcome, outcome, laid}
-use Rattle.desk_calls.specs.Calls.{isReady, called}
+use Rattle.connections.specs.Connections.{Ask, askOf, asksIn, asksOf, same}
+use Rattle.desk_calls.specs.Calls.{Request, requests, pathFits, deskLegal, deskOpened, answered, Served, answers, served, handled, Outcome, filled, laid}
+use Rattle.desk_calls.specs.Calls.{unserved, isReady, called}
 use Rattle.desk_calls.proofs.Setup.{desk-fits, desk-legal, desk-rest, called-not, called-ready}
 
 -- Whatever a request keeps of the crosspoints, a message's connections keep.
@@ -109,49 +109,55 @@ module _ (w : ℕ) (f : Figures) (path : List ℕ) where
       go false e true z = absurd (omega (arith, z))
       go false e false z = absurd (omega (arith, z))
 
-  module _ (root : ℕ) (rows : Rows) (n : ℕ) (s lent : List ℕ) (cells : Cells) where
+  module _ (root : ℕ) (rows : Rows) (n : ℕ) (s : List ℕ) (cells : Cells) where
     abbrev es : List Item
     es = itemsIn s rows n
 
     abbrev done : Outcome
-    done = called w f path root rows n s lent cells
+    done = called w f path root rows n s cells
 
-    -- "1 leaves everything as it was", and is for a desk that is not legal, entries that make no tree and too few answers lent, and for nothing else
-    pub setup-stays : done .number ≡ 1 → (done .answers ≡ lent) × (done .cells ≡ cells)
+    abbrev by : Bool → Outcome
+    by u = pick u (laid (handled w f path es cells)) (unserved cells)
+
+    -- "1 leaves everything as it was", no connection is answered, and it is for what `isReady` names, and for nothing else
+    pub setup-stays : done .number ≡ 1 → done ≡ unserved cells
     unfolding called laid
-    setup-stays e = go (isReady w f path root rows n es lent cells) e
+    setup-stays e = go (isReady w f path root rows n s cells) e
       where
-        go : (u : Bool)
-            → pick u (laid (handled w f path es cells) lent) (outcome 1 0 lent cells) .number ≡ 1
-            → (pick u (laid (handled w f path es cells) lent) (outcome 1 0 lent cells) .answers ≡ lent)
-            × (pick u (laid (handled w f path es cells) lent) (outcome 1 0 lent cells) .cells ≡ cells)
+        go : (u : Bool) → by u .number ≡ 1 → by u ≡ unserved cells
         go true z = absurd (omega (arith, z))
-        go false z = (refl, refl)
+        go false z = refl
 
-    pub setup-exactly : isReady w f path root rows n es lent cells ≡ false → done ≡ outcome 1 0 lent cells
-    setup-exactly h = called-not w f path root rows n s lent cells h
+    pub setup-exactly : isReady w f path root rows n s cells ≡ false → done ≡ unserved cells
+    setup-exactly h = called-not w f path root rows n s cells h
 
-    -- else 0, and as many answers as connections
-    pub done-count : isReady w f path root rows n es lent cells ≡ true → (done .number ≡ 0) × (done .count ≡ length (asksOf es))
+    -- else 0, as many answers as connections, and zeros after them
+    pub done-count : isReady w f path root rows n s cells ≡ true
+        → (done .number ≡ 0) × ((done .count ≡ length (asksOf es)) × (done .answers ≡ filled (handled w f path es cells .answers)))
     unfolding laid handled
     done-count h =
-        let e = called-ready w f path root rows n s lent cells h in
-        (ap (λ (z : Outcome). z .number) e, ap (λ (z : Outcome). z .count) e ∙ served-count (requests w f) path (asksOf es) cells)
+        let e = called-ready w f path root rows n s cells h in (
+          ap (λ (z : Outcome). z .number) e,
+          (
+            ap (λ (z : Outcome). z .count) e ∙ served-count (requests w f) path (asksOf es) cells,
+            ap (λ (z : Outcome). z .answers) e,
+          ),
+        )
 
     -- a legal desk stays legal
     pub called-legal : deskLegal w f path cells ≡ true → deskLegal w f path (done .cells) ≡ true
     unfolding called laid
     called-legal h =
-        desk-rest w f path (done .cells) (desk-fits w f path cells h) ∙ go (isReady w f path root rows n es lent cells)
+        desk-rest w f path (done .cells) (desk-fits w f path cells h) ∙ go (isReady w f path root rows n s cells)
       where
-        go : (u : Bool) → legal w f (pick u (laid (handled w f path es cells) lent) (outcome 1 0 lent cells) .cells) ≡ true
+        go : (u : Bool) → legal w f (by u .cells) ≡ true
         go true = handled-legal es cells (desk-legal w f path cells h)
         go false = desk-legal w f path cells h
 
     pub called-length : length (done .cells) ≡ length cells
     unfolding called laid
-    called-length = go (isReady w f path root rows n es lent cells)
+    called-length = go (isReady w f path root rows n s cells)
       where
-        go : (u : Bool) → length (pick u (laid (handled w f path es cells) lent) (outcome 1 0 lent cells) .cells) ≡ length cells
+        go : (u : Bool) → length (by u .cells) ≡ length cells
         go true = handled-length es cells
         go false = refl

@@ -1,10 +1,7 @@
 pub mod Sets
 pub mod Sources
-pub mod Numbers
-pub mod Items
-pub mod Walk
 pub mod Served
 pub mod Setup
 pub mod Claims
-pub mod Paths
+pub mod Numbers
 pub mod Vectors

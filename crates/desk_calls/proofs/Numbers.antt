@@ -1,134 +1,140 @@
--- The numbers of an identifier, one after another, and a path held against them.
-use Prim.Native.Nat.{ℕ, suc, _+_, _-_, _≤_, _<_}
+-- With which numbers each call answers.
+use Prim.Native.Nat.{ℕ, _*_, _≤_}
 use mathlib.Core.Path.{_≡_, refl, sym, ap, subst, _∙_}
 use mathlib.Core.List.{List, [], _∷_}
-use mathlib.Core.Bool.{Bool, true, false}
+use mathlib.Core.Bool.{Bool, true, false, true≢false}
 use native.Mathlib.Omega.{arith}
-use borrow.Author.Tests.{eq-eqb, ne-eqb}
-use lib.ListN.{length, drop, getD, drop-of-length-le}
-use lib.Seq.{drop-cons}
-use lib.Dec.{leb}
-use Rattle.identifiers.specs.declared.Arc.{Arc}
-use Rattle.identifiers.specs.declared.Arc.the-variants.{Number, Range as Over, Refused as NoArc}
-use Rattle.identifiers.specs.declared.Oid.{Oid}
-use Rattle.identifiers.specs.declared.Oid.the-variants.{Numbers, Range, Refused}
-use Rattle.identifiers.specs.Identifier.{Arcs, bad, over, numbers, push, pass, judged, arcAt, arcs, arcsFrom, oidAt}
-use Rattle.identifiers.proofs.Laws.{arcs-done, arcs-number, arcs-over, arcs-bad, oid-within}
-use Rattle.desk_calls.specs.Connections.{listOf, numbersIn, endOf, stepOf, Left, Goes}
-use Rattle.desk_calls.specs.Calls.{same}
+use borrow.Author.Tests.{eqb-true, eqb-false}
+use lib.ListN.{length}
+use lib.Dec.{leb, eqb}
+use Rattle.integers.specs.Digits.{pick}
+use Rattle.entries.specs.Entry.{Rows}
+use Rattle.forest.specs.Rows.{itemsIn}
+use Rattle.crosspoints.specs.declared.Figures.{Figures}
+use Rattle.crosspoints.specs.Figures.{both, figuresFit}
+use Rattle.crosspoints.specs.Crosspoints.{Cells, clear, rowAt, legal, opened, Answer, answer}
+use Rattle.routing.specs.Request.{allBelow, result, many, overTotal, judged, asked, requested}
+use Rattle.routing.proofs.Claims.{request-legal, request-not-setup}
+use Rattle.connections.specs.Connections.{Ask, same}
+use Rattle.connections.proofs.Operations.{Operations}
+use Rattle.desk_calls.specs.Calls.{requests, pathFits, deskOpened, answered, served, handled, laid, unserved, isReady, called}
+use Rattle.desk_calls.specs.Steps.{has}
+use Rattle.desk_calls.specs.Numbers.{openNumbers, requestNumbers, callNumbers, answerNumbers, allHas}
+use Rattle.desk_calls.proofs.Claims.{answered-keeps}
 
--- an answer by cases
-isNumbers : Arcs → ℕ
-isNumbers bad = 0
-isNumbers over = 0
-isNumbers (numbers ns) = 1
-
-pushed : (n : ℕ) (a : Arcs) (xs : List ℕ) → push n a ≡ numbers xs → (ys : List ℕ) × ((xs ≡ n ∷ ys) × (a ≡ numbers ys))
-unfolding isNumbers
-pushed n bad xs e = absurd (omega (arith, ap isNumbers e))
-pushed n over xs e = absurd (omega (arith, ap isNumbers e))
-pushed n (numbers ns) xs e = (ns, (sym (ap listOf e), refl))
-
-passed : (a : Arcs) (xs : List ℕ) → pass a ≡ numbers xs → ⊥
-unfolding isNumbers
-passed bad xs e = omega (arith, ap isNumbers e)
-passed over xs e = omega (arith, ap isNumbers e)
-passed (numbers ns) xs e = omega (arith, ap isNumbers e)
-
-bad-not : (xs : List ℕ) → bad ≡ numbers xs → ⊥
-unfolding isNumbers
-bad-not xs e = omega (arith, ap isNumbers e)
-
-module _ (bs : List ℕ) (p end : ℕ) where
-  pub step-is : (a : Arc) → arcAt bs p end ≡ a → stepOf (arcAt bs p end) end ≡ stepOf a end
-  step-is a e = ap (λ (x : Arc). stepOf x end) e
-
-  pub left-none : (xs : List ℕ) → end ≤ p → Left bs p end xs → xs ≡ []
-  left-none xs h k = sym (ap listOf (sym (arcs-done bs end p (k .0) h) ∙ k .1 .1))
-
-  pub goes-number : (n next : ℕ) → p < end → arcAt bs p end ≡ Number n next → p < next → (xs : List ℕ) → Left bs p end xs → Goes bs end xs n next
-  goes-number n next h e l xs k =
-      let q = arcs-number bs end p (k .0) n next h (k .1 .0) e l in
-      let z = pushed n (arcsFrom bs (q .0) next end) xs (sym (q .1 .1) ∙ k .1 .1) in
-      (z .0, (z .1 .0, (q .0, (q .1 .0, z .1 .1))))
-
-  pub goes-over : (next n after : ℕ) → p < end → arcAt bs p end ≡ Over next → p < next → (xs : List ℕ) → Left bs p end xs → Goes bs end xs n after
-  goes-over next n after h e l xs k =
-      let q = arcs-over bs end p (k .0) next h (k .1 .0) e l in
-      absurd (passed (arcsFrom bs (q .0) next end) xs (sym (q .1 .1) ∙ k .1 .1))
-
-  pub goes-bad : (n after : ℕ) → p < end → arcAt bs p end ≡ NoArc → (xs : List ℕ) → Left bs p end xs → Goes bs end xs n after
-  goes-bad n after h e xs k = absurd (bad-not xs (sym (arcs-bad bs end p (k .0) h (k .1 .0) e) ∙ k .1 .1))
-
--- where they end
-oidCount : Oid → ℕ
-oidCount (Numbers n) = 1
-oidCount Range = 0
-oidCount Refused = 0
-
-listed : (a : Arcs) (n : ℕ) → judged a ≡ Numbers n → a ≡ numbers (listOf a)
-unfolding oidCount
-listed bad n e = absurd (omega (arith, ap oidCount e))
-listed over n e = absurd (omega (arith, ap oidCount e))
-listed (numbers ns) n e = refl
-
-unlisted : (a : Arcs) → oidCount (judged a) ≡ 0 → listOf a ≡ []
-unfolding oidCount
-unlisted bad e = refl
-unlisted over e = refl
-unlisted (numbers ns) e = absurd (omega (arith, e))
-
-module _ (bs : List ℕ) where
-  whole : judged (arcs bs 0 (length bs)) ≡ oidAt bs 0 (length bs)
-  whole = oid-within bs 0 (length bs) (omega arith)
-
-  pub end-is : (a : Oid) → oidAt bs 0 (length bs) ≡ a → endOf (oidAt bs 0 (length bs)) (length bs) ≡ endOf a (length bs)
-  end-is a e = ap (λ (x : Oid). endOf x (length bs)) e
-
-  pub end-list : (n : ℕ) → oidAt bs 0 (length bs) ≡ Numbers n → Left bs 0 (length bs) (numbersIn bs)
-  unfolding numbersIn
-  end-list n e =
-      let d : 0 + length bs ≡ length bs = omega arith in (
-        length bs,
-        (
-          omega arith,
-          subst (λ (i : ℕ). arcsFrom bs (length bs) 0 i ≡ numbers (listOf (arcs bs 0 (length bs)))) d
-              (listed (arcs bs 0 (length bs)) n (whole ∙ e)),
-        ),
-      )
-
-  end-none : numbersIn bs ≡ [] → Left bs 0 0 (numbersIn bs)
-  end-none e = (0, (omega arith, arcs-done bs 0 0 0 (omega arith) ∙ ap numbers (sym e)))
-
-  pub end-range : oidAt bs 0 (length bs) ≡ Range → Left bs 0 0 (numbersIn bs)
-  unfolding numbersIn oidCount
-  end-range e = end-none (unlisted (arcs bs 0 (length bs)) (ap oidCount (whole ∙ e)))
-
-  pub end-refused : oidAt bs 0 (length bs) ≡ Refused → Left bs 0 0 (numbersIn bs)
-  unfolding numbersIn oidCount
-  end-refused e = end-none (unlisted (arcs bs 0 (length bs)) (ap oidCount (whole ∙ e)))
-
--- numbers held against the numbers of a path from j on
-module _ (xs path : List ℕ) (j : ℕ) where
-  pub same-none : xs ≡ [] → same xs (drop j path) ≡ leb (length path) j
-  unfolding same
-  same-none e = rw e (go (leb (length path) j) refl)
+-- "request": 0, 1, 41 to 44
+module _ (w : ℕ) (f : Figures) (target : ℕ) (l : List ℕ) (operation : ℕ) (cells : Cells) where
+  told-numbers : has requestNumbers (judged w f target l operation cells) ≡ true
+  unfolding judged has
+  told-numbers =
+      go (leb (f .targets) target) (allBelow (f .sources) l) (eqb operation 2) (many w f l operation (rowAt w cells target))
+      (overTotal w f target l operation cells)
     where
-      go : (u : Bool) → leb (length path) j ≡ u → same [] (drop j path) ≡ leb (length path) j
-      go true h = rw (h, drop-of-length-le path (borrow.Author.Tests.leb-true (length path) j h))
-      go false h = rw (h, drop-cons path j 0 (borrow.Author.Tests.leb-false (length path) j h))
+      go : (a b c d e : Bool) → has requestNumbers (pick a 41 (pick b (pick c 0 (pick d 43 (pick e 44 0))) 42)) ≡ true
+      go true b c d e = refl
+      go false false c d e = refl
+      go false true true d e = refl
+      go false true false true e = refl
+      go false true false false true = refl
+      go false true false false false = refl
 
-  module _ (x : ℕ) (ys : List ℕ) (e : xs ≡ x ∷ ys) where
-    pub same-short : length path ≤ j → same xs (drop j path) ≡ false
-    unfolding same
-    same-short h = rw (e, drop-of-length-le path h)
+  pub request-numbers : has requestNumbers (requested w f target l operation cells .number) ≡ true
+  unfolding requested asked has
+  request-numbers = go (both (legal w f cells) (leb operation 2)) (eqb (judged w f target l operation cells) 0)
+    where
+      go : (u v : Bool)
+          → has requestNumbers
+          (pick u (pick v (answer 0 (result w f target l operation cells)) (answer (judged w f target l operation cells) cells)) (answer 1 cells) .number)
+          ≡ true
+      go false v = refl
+      go true true = refl
+      go true false = told-numbers
 
-    pub same-other : j < length path → (getD path j 0 ≡ x → ⊥) → same xs (drop j path) ≡ false
-    unfolding same
-    same-other h d = rw (e, drop-cons path j 0 h, ne-eqb x (getD path j 0) (λ z. d (sym z)))
+-- a number of those without 1
+pub few-numbers : (n : ℕ) → has requestNumbers n ≡ true → (n ≡ 1 → ⊥) → has answerNumbers n ≡ true
+unfolding has
+few-numbers n h d =
+    go (eqb 0 n) (eqb 1 n) refl (eqb 40 n) (eqb 41 n) (eqb 42 n) (eqb 43 n) (eqb 44 n) h
+  where
+    go : (a b : Bool) → eqb 1 n ≡ b → (m c e f g : Bool)
+        → pick a true (pick b true (pick c true (pick e true (pick f true (pick g true false))))) ≡ true
+        → pick a true (pick m true (pick c true (pick e true (pick f true (pick g true false))))) ≡ true
+    go true b q m c e f g z = refl
+    go false true q m c e f g z = absurd (d (sym (eqb-true 1 n q)))
+    go false false q true c e f g z = refl
+    go false false q false c e f g z = z
 
-    pub same-more : j < length path → getD path j 0 ≡ x → same xs (drop j path) ≡ same ys (drop (j + 1) path)
-    unfolding same
-    same-more h d =
-        let i : j + 1 ≡ suc j = omega arith in
-        rw (e, drop-cons path j 0 h, eq-eqb x (getD path j 0) (sym d), i)
+pub has-small : (n : ℕ) → has answerNumbers n ≡ true → n ≤ 44
+unfolding has
+has-small n h = go (eqb 0 n) refl (eqb 40 n) refl (eqb 41 n) refl (eqb 42 n) refl (eqb 43 n) refl (eqb 44 n) refl h
+  where
+    go : (a : Bool) → eqb 0 n ≡ a → (b : Bool) → eqb 40 n ≡ b → (c : Bool) → eqb 41 n ≡ c → (d : Bool) → eqb 42 n ≡ d → (e : Bool) → eqb 43 n ≡ e
+        → (f : Bool) → eqb 44 n ≡ f → pick a true (pick b true (pick c true (pick d true (pick e true (pick f true false))))) ≡ true → n ≤ 44
+    go true p b q c r d s e t f u z = omega (arith, eqb-true 0 n p)
+    go false p true q c r d s e t f u z = omega (arith, eqb-true 40 n q)
+    go false p false q true r d s e t f u z = omega (arith, eqb-true 41 n r)
+    go false p false q false r true s e t f u z = omega (arith, eqb-true 42 n s)
+    go false p false q false r false s true t f u z = omega (arith, eqb-true 43 n t)
+    go false p false q false r false s false t true u z = omega (arith, eqb-true 44 n u)
+    go false p false q false r false s false t false u z = absurd (true≢false (sym z))
+
+number-small : (n : ℕ) → has requestNumbers n ≡ true → n ≤ 255
+number-small n h = go (eqb 1 n) refl
+  where
+    go : (u : Bool) → eqb 1 n ≡ u → n ≤ 255
+    go true q = omega (arith, eqb-true 1 n q)
+    go false q = omega (arith, has-small n (few-numbers n h (λ z. eqb-false 1 n q (sym z))))
+
+module _ (w : ℕ) (f : Figures) (path : List ℕ) where
+  -- whatever a connection asks, its answer is a byte
+  pub answered-small : (a : Ask) (cells : Cells) (x : ℕ) (after : Cells) → answered (requests w f) path a cells ≡ answer x after → x ≤ 255
+  unfolding answered
+  answered-small a cells x after e =
+      subst (λ (z : Answer). z .number ≤ 255) e (go (same (a .matrix) path))
+    where
+      go : (u : Bool) → pick u (requests w f (a .target) (a .sources) (a .operation) cells) (answer 40 cells) .number ≤ 255
+      go true = number-small _ (request-numbers w f (a .target) (a .sources) (a .operation) cells)
+      go false = omega arith
+
+  -- the answer to a connection: 0, 40 to 44
+  pub answered-numbers : (a : Ask) (cells : Cells) → legal w f cells ≡ true → a .operation ≤ 2
+      → has answerNumbers (answered (requests w f) path a cells .number) ≡ true
+  unfolding answered has
+  answered-numbers a cells h o = go (same (a .matrix) path)
+    where
+      go : (u : Bool) → has answerNumbers (pick u (requests w f (a .target) (a .sources) (a .operation) cells) (answer 40 cells) .number) ≡ true
+      go true =
+          few-numbers _ (request-numbers w f (a .target) (a .sources) (a .operation) cells)
+          (request-not-setup w f (a .target) (a .sources) (a .operation) cells h o)
+      go false = refl
+
+  -- .. and to each of a message's
+  pub served-numbers : (l : List Ask) (cells : Cells) → legal w f cells ≡ true → Operations l
+      → allHas answerNumbers (served (requests w f) path l cells .answers) ≡ true
+  unfolding allHas served
+  served-numbers [] cells h o = refl
+  served-numbers (a ∷ later) cells h o =
+      let k = answered-keeps (requests w f) path (λ (c : Cells). legal w f c ≡ true) (λ t l o c. request-legal w f t l o c) a cells h in
+      rw (answered-numbers a cells h (o .0)) (served-numbers later (answered (requests w f) path a cells .cells) k (o .1))
+
+  -- "open": 0, 1, 45
+  pub open-numbers : (mode : ℕ) (cells : Cells) → has openNumbers (deskOpened w f path mode cells .number) ≡ true
+  unfolding deskOpened opened has
+  open-numbers mode cells = go (pathFits path) (eqb (length cells) (w * w)) (both (figuresFit w f) (eqb mode 0))
+    where
+      go : (a b c : Bool)
+          → has openNumbers (pick a (pick b (pick c (answer 0 (clear (w * w))) (answer 45 cells)) (answer 1 cells)) (pick b (answer 45 cells) (answer 1 cells)) .number) ≡ true
+      go true true true = refl
+      go true true false = refl
+      go true false c = refl
+      go false true c = refl
+      go false false c = refl
+
+  -- "call": 0 or 1 (the answers: `call-answers`, crates/turns/proofs/Numbers.antt)
+  pub call-numbers : (root : ℕ) (rows : Rows) (n : ℕ) (s : List ℕ) (cells : Cells) → has callNumbers (called w f path root rows n s cells .number) ≡ true
+  unfolding called laid has
+  call-numbers root rows n s cells = go (isReady w f path root rows n s cells)
+    where
+      go : (u : Bool) → has callNumbers (pick u (laid (handled w f path (itemsIn s rows n) cells)) (unserved cells) .number) ≡ true
+      go true = refl
+      go false = refl

@@ -14,16 +14,16 @@ use Rattle.forest.specs.Rows.{itemsIn}
 use Rattle.tree_sizes.specs.Sizes.{rowCell}
 use Rattle.crosspoints.specs.declared.Figures.{Figures}
 use Rattle.crosspoints.specs.Crosspoints.{Cells, Answer, answer}
-use Rattle.desk_calls.specs.Connections.{numberOf, octetsOf, numbersIn, nobody, fullPath, askOf, asksIn, memberOf}
-use Rattle.desk_calls.specs.Calls.{Request, requests, same, answered, Served, answers, served, handled, outcome, laid}
-use Rattle.desk_calls.specs.Steps.{laidAt, answeredAt, servedIn, leftFrom, Takes}
+use Rattle.connections.specs.Connections.{numberOf, octetsOf, numbersIn, nobody, fullPath, askOf, asksIn, memberOf, same}
+use Rattle.desk_calls.specs.Calls.{Request, requests, answered, Served, answers, served, handled, outcome}
+use Rattle.desk_calls.specs.Steps.{laidOver, laidAt, answeredAt, servedIn, leftFrom, Takes}
 use Rattle.crosspoints.specs.Figures.{side}
-use Rattle.desk_calls.proofs.Items.{in-length, in-kind, in-parent, in-first, in-second, in-third}
+use Rattle.connections.proofs.Items.{in-length, in-kind, in-parent, in-first, in-second, in-third}
 use Rattle.desk_calls.proofs.Sources.{append-again}
 
 -- the answers, over those lent
-pub laid-start : (z : Served) (lent : List ℕ) → laid z lent ≡ laidAt 0 z lent
-unfolding laid laidAt
+pub laid-start : (z : Served) (lent : List ℕ) → laidOver z lent ≡ laidAt 0 z lent
+unfolding laidOver laidAt
 laid-start z lent = let d : 0 + length (z .answers) ≡ length (z .answers) = omega arith in rw d
 
 pub laid-more : (n : ℕ) (x : ℕ) (ns : List ℕ) (cells : Cells) (lent : List ℕ) → n < length lent
@@ -121,3 +121,6 @@ module _ (request : Request) (path : List ℕ) (s : List ℕ) (rows : Rows) (cou
         let r : numberOf (memberOf here 2) ≡ operation = ap numberOf (in-third s rows count c i k ∙ ap (contentOf s) (sym y)) ∙ n in
         let l : memberOf here 1 ≡ contentOf s v = in-second s rows count c i k ∙ ap (contentOf s) (sym z) in
         rw (matrix-is, h, q, r, l) b
+
+pub answer-same : (a : Answer) (x y : ℕ) (after : Cells) → a ≡ answer x after → y ≡ x → a ≡ answer y after
+answer-same a x y after e d = e ∙ ap (λ (i : ℕ). answer i after) (sym d)

@@ -1,7 +1,7 @@
 -- What SETUP's tests tell, and what figures that fit tell of a path.
-use Prim.Native.Nat.{ℕ, suc, _+_, _-_, _*_, _≤_, _<_}
+use Prim.Native.Nat.{ℕ, zero, suc, _+_, _-_, _*_, _≤_, _<_}
 use mathlib.Core.Path.{_≡_, refl, sym, ap, _∙_}
-use mathlib.Core.List.{List}
+use mathlib.Core.List.{List, _++_}
 use mathlib.Core.Bool.{Bool, true, false, true≢false}
 use native.Mathlib.Omega.{arith}
 use borrow.Author.Tests.{le-leb, lt-leb, leb-true, eq-eqb, ne-eqb}
@@ -17,10 +17,13 @@ use Rattle.member_sizes.specs.Spelling.{leastReal}
 use Rattle.tree_sizes.specs.Accepted.{accepted, fits, lengthOf, isWhole, octetsOf}
 use Rattle.crosspoints.specs.declared.Figures.{Figures}
 use Rattle.crosspoints.specs.Figures.{both}
-use Rattle.crosspoints.specs.Crosspoints.{Cells, legal, opened, answer}
+use Rattle.crosspoints.specs.Crosspoints.{Cells, clear, legal, opened, answer}
 use Rattle.crosspoints.proofs.Laws.{both-left, both-right, both-no, both-yes}
-use Rattle.desk_calls.specs.Calls.{allNumbers, pathFits, deskLegal, deskOpened, handled, outcome, laid, isReady, called}
-use Rattle.desk_calls.proofs.Items.{in-length}
+use Rattle.desk_calls.specs.Calls.{allNumbers, pathFits, deskLegal, deskOpened, Served, handled, Outcome, outcome, filled}
+use Rattle.desk_calls.specs.Calls.{laid, unserved, isReady, called, told}
+use Rattle.desk_calls.specs.Steps.{laidOver}
+use Rattle.desk_calls.specs.declared.Called.{Called}
+use Rattle.connections.proofs.Items.{in-length}
 
 -- a path's numbers from i on
 module _ (path : List ℕ) (i : ℕ) where
@@ -110,6 +113,16 @@ module _ (real : ℕ → List ℕ) (root rows n : ℕ) (es : List Item) (r : ℕ
       go true z y = leb-true n rows z
       go false z y = absurd (true≢false (sym y))
 
+  pub measure-few : r ≤ 16384 → n ≤ 256
+  unfolding fits
+  measure-few h = go (leb n rows) (leb n 256) refl (measure-yes h)
+    where
+      go : (a b : Bool) → leb n 256 ≡ b
+          → leaf.both a (leaf.both b (leaf.both (isWhole root es) (leb (length (octetsOf real root es)) 16384))) ≡ true → n ≤ 256
+      go true true z y = leb-true n 256 z
+      go true false z y = absurd (true≢false (sym y))
+      go false b z y = absurd (true≢false (sym y))
+
 -- it says whether the entries make a tree that the reader accepts
 pub measure-accepted : (root : ℕ) (s : List ℕ) (rows : Rows) (n : ℕ)
     → both (leb n (length rows)) (accepted root (itemsIn s rows n)) ≡ fits leastReal root (length rows) n (itemsIn s rows n)
@@ -125,45 +138,73 @@ measure-accepted root s rows n = go (leb n (length rows)) refl
         ap (λ (m : ℕ). leaf.both (leb m 256) (leaf.both (isWhole root (itemsIn s rows n)) (leb (length (octetsOf leastReal root (itemsIn s rows n))) 16384)))
         (in-length s rows n (leb-true n (length rows) e))
 
-module _ (w : ℕ) (f : Figures) (path : List ℕ) (root : ℕ) (rows : Rows) (n : ℕ) (s lent : List ℕ) (cells : Cells) where
+module _ (w : ℕ) (f : Figures) (path : List ℕ) (root : ℕ) (rows : Rows) (n : ℕ) (s : List ℕ) (cells : Cells) where
   abbrev es : List Item
   es = itemsIn s rows n
 
-  pub called-not : isReady w f path root rows n es lent cells ≡ false → called w f path root rows n s lent cells ≡ outcome 1 0 lent cells
+  pub called-not : isReady w f path root rows n s cells ≡ false → called w f path root rows n s cells ≡ unserved cells
   unfolding called
   called-not h = rw h
 
-  pub called-ready : isReady w f path root rows n es lent cells ≡ true
-      → called w f path root rows n s lent cells ≡ laid (handled w f path es cells) lent
+  pub called-ready : isReady w f path root rows n s cells ≡ true → called w f path root rows n s cells ≡ laid (handled w f path es cells)
   unfolding called
   called-ready h = rw h
 
-  pub setup-lent : length lent < n → called w f path root rows n s lent cells ≡ outcome 1 0 lent cells
+  pub setup-rows : 256 < length rows → called w f path root rows n s cells ≡ unserved cells
   unfolding isReady
-  setup-lent h = called-not (both-no _ _ (lt-leb _ _ h))
+  setup-rows h = called-not (both-no _ _ (lt-leb _ _ h))
 
-  module _ (h : n ≤ length lent) where
-    ready : isReady w f path root rows n es lent cells ≡ both (deskLegal w f path cells) (fits leastReal root (length rows) n es)
+  module _ (h : length rows ≤ 256) where
+    pub setup-message : 16384 < length s → called w f path root rows n s cells ≡ unserved cells
     unfolding isReady
-    ready =
-        both-yes (leb n (length lent)) (both (deskLegal w f path cells) (both (leb n (length rows)) (accepted root es))) (le-leb _ _ h)
-        ∙ ap (both (deskLegal w f path cells)) (measure-accepted root s rows n)
+    setup-message l = called-not (both-yes _ _ (le-leb _ _ h) ∙ both-no _ _ (lt-leb _ _ l))
 
-    pub setup-desk : deskLegal w f path cells ≡ false → called w f path root rows n s lent cells ≡ outcome 1 0 lent cells
-    setup-desk k = called-not (ready ∙ both-no _ _ k)
+    module _ (l : length s ≤ 16384) where
+      ready : isReady w f path root rows n s cells ≡ both (deskLegal w f path cells) (fits leastReal root (length rows) n es)
+      unfolding isReady
+      ready =
+          both-yes _ _ (le-leb _ _ h) ∙ both-yes _ _ (le-leb _ _ l)
+          ∙ ap (both (deskLegal w f path cells)) (measure-accepted root s rows n)
 
-    module _ (k : deskLegal w f path cells ≡ true) (r : ℕ) (e : lengthOf leastReal root (length rows) n es ≡ r) where
-      pub setup-entries : 16384 < r → called w f path root rows n s lent cells ≡ outcome 1 0 lent cells
-      setup-entries l = called-not (ready ∙ both-yes _ _ k ∙ measure-no leastReal root (length rows) n es r e l)
+      pub setup-desk : deskLegal w f path cells ≡ false → called w f path root rows n s cells ≡ unserved cells
+      setup-desk k = called-not (ready ∙ both-no _ _ k)
 
-      pub not-setup : r ≤ 16384 → called w f path root rows n s lent cells ≡ laid (handled w f path es cells) lent
-      not-setup l = called-ready (ready ∙ both-yes _ _ k ∙ measure-yes leastReal root (length rows) n es r e l)
+      module _ (k : deskLegal w f path cells ≡ true) (r : ℕ) (e : lengthOf leastReal root (length rows) n es ≡ r) where
+        pub setup-entries : 16384 < r → called w f path root rows n s cells ≡ unserved cells
+        setup-entries m = called-not (ready ∙ both-yes _ _ k ∙ measure-no leastReal root (length rows) n es r e m)
 
-  -- what a caller has to show: as many answers lent as entries, a legal desk, entries that stand in the rows and make a tree that the reader accepts
-  pub ready-from : n ≤ length lent → deskLegal w f path cells ≡ true → n ≤ length rows → accepted root es ≡ true
-      → called w f path root rows n s lent cells ≡ laid (handled w f path es cells) lent
+        pub not-setup : r ≤ 16384 → called w f path root rows n s cells ≡ laid (handled w f path es cells)
+        not-setup m = called-ready (ready ∙ both-yes _ _ k ∙ measure-yes leastReal root (length rows) n es r e m)
+
+  -- what a caller has to show: a table and a message that are not too long, a legal desk, entries that stand in the rows and make a tree that the reader accepts
+  pub ready-from : length rows ≤ 256 → length s ≤ 16384 → deskLegal w f path cells ≡ true → n ≤ length rows → accepted root es ≡ true
+      → isReady w f path root rows n s cells ≡ true
   unfolding isReady
-  ready-from h k l a = called-ready (rw (le-leb _ _ h, k, le-leb _ _ l, a))
+  ready-from h m k l a = rw (le-leb _ _ h, le-leb _ _ m, k, le-leb _ _ l, a)
+
+  -- what 0 tells
+  pub ready-tells : isReady w f path root rows n s cells ≡ true → (deskLegal w f path cells ≡ true) × (accepted root es ≡ true)
+  unfolding isReady
+  ready-tells e =
+      let a = both-right (leb (length s) 16384) _ (both-right (leb (length rows) 256) _ e) in
+      (both-left (deskLegal w f path cells) _ a, both-right (leb n (length rows)) _ (both-right (deskLegal w f path cells) _ a))
+
+-- what the call answers for 1
+pub unready-told : (r : Called) (cells : Cells) → r ≡ record { number = 1; count = 0; answers = clear 256 } → unserved cells ≡ told r cells
+unready-told r cells e = ap (λ (x : Called). told x cells) (sym e)
+
+-- answers laid over zeros
+drop-clear : (n m : ℕ) → drop n (clear m) ≡ clear (m - n)
+unfolding clear
+drop-clear zero m = let d : m - 0 ≡ m = omega arith in ap clear (sym d)
+drop-clear (suc n) zero = let d : 0 - suc n ≡ 0 = omega arith in ap clear (sym d)
+drop-clear (suc n) (suc m) = let d : suc m - suc n ≡ m - n = omega arith in drop-clear n m ∙ ap clear (sym d)
+
+pub laid-zeros : (z : Served) (lent : List ℕ) (x : Outcome) → lent ≡ clear 256 → laidOver z lent ≡ x → laid z ≡ x
+unfolding laid laidOver filled
+laid-zeros z lent x e h =
+    ap (λ (ns : List ℕ). outcome 0 (length (z .answers)) (z .answers ++ ns) (z .cells)) (sym (drop-clear (length (z .answers)) 256))
+    ∙ ap (λ (l : List ℕ). laidOver z l) (sym e) ∙ h
 
 -- ---- opening: the path beside the other figures
 

@@ -16,7 +16,7 @@ use Rattle.routing.specs.Request.{marked, named}
 use Rattle.crosspoints.proofs.Laws.{bit-set, bit-clear, count-le}
 use Rattle.crosspoints.proofs.Counts.{clear-cell, clear-count}
 use Rattle.routing.proofs.Rows.{named-length}
-use Rattle.desk_calls.specs.Connections.{numbersIn}
+use Rattle.connections.specs.Connections.{numbersIn}
 use Rattle.desk_calls.specs.Calls.{requests}
 use Rattle.desk_calls.specs.Steps.{has, once, Kept, Handed}
 use Rattle.desk_calls.proofs.Sets.{has-held, has-not, has-out, out-request, set-request}

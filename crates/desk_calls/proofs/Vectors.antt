@@ -1,9 +1,12 @@
 -- The rules at a small message, by computation: rows of three cells, so at most three targets and three sources. The desk's path is 1.5.2.
-use Prim.Native.Nat.{ℕ}
+use Prim.Native.Nat.{ℕ, zero, suc}
 use mathlib.Core.Path.{_≡_, refl}
 use mathlib.Core.List.{List, [], _∷_}
 use mathlib.Core.Bool.{true, false}
-use Rattle.forest.specs.Content.{Content, nothing, word, bytes, Item, item}
+use Rattle.forest.specs.Content.{Content, nothing, word, bytes, Item, item, itemsOf}
+use Rattle.forest.specs.Rows.{entriesOf, itemsIn}
+use Rattle.entries.specs.Entry.{Rows}
+use Rattle.tree_sizes.specs.Accepted.{accepted}
 use Rattle.identifiers.specs.Identifier.{arcIs, arcFrom, arcAt, arcsFrom}
 use Rattle.crosspoints.specs.declared.Limit.the-variants.{Absent}
 use Rattle.crosspoints.specs.declared.Figures.{Figures}
@@ -11,8 +14,8 @@ use Rattle.crosspoints.specs.Figures.{isCount, figuresFit, mostEach, mostTotal}
 use Rattle.crosspoints.specs.Crosspoints.{Cells, bit, count, allBits, clear, rowAt, withRow, holders, takenFrom, mostAt, rowFits, rowsFit, sourcesFit}
 use Rattle.crosspoints.specs.Crosspoints.{kindFits, cellsFit, legal}
 use Rattle.routing.specs.Request.{marked, named, allBelow, replaces, becomes, takes, others, result, many, overTotal, judged, asked, requested}
-use Rattle.desk_calls.specs.Connections.{numbersIn, isQualified, pathUp, fullPath, ask, askOf, asksIn}
-use Rattle.desk_calls.specs.Calls.{same, answered, answers, served, handled, pathFits, allNumbers, deskLegal, outcome, laid, isReady, called}
+use Rattle.connections.specs.Connections.{numbersIn, isQualified, pathUp, fullPath, ask, askOf, asksIn, same}
+use Rattle.desk_calls.specs.Calls.{answered, answers, served, handled, pathFits, allNumbers, deskLegal, outcome, filled, laid, isReady, called}
 
 abbrev desk : ℕ → Figures
 desk kind = record { kind = kind; targets = 3; sources = 3; total = Absent; each = Absent }
@@ -116,14 +119,27 @@ pub v-path :
 unfolding pathFits allNumbers
 v-path = (refl, refl, refl, refl, refl, refl)
 
--- The answers over the first of those lent, the others as they were; 1 leaves all: too few answers lent, a desk that is not legal, entries that no row holds.
+-- The answers in order, then zeros; 1 leaves all: a desk that is not legal, entries that no row holds.
 pub v-left :
-    (laid (answers (0 ∷ 41 ∷ []) (cells9 1 0 0 0 0 0 0 0 0)) (9 ∷ 9 ∷ 9 ∷ []) ≡ outcome 0 2 (0 ∷ 41 ∷ 9 ∷ []) (cells9 1 0 0 0 0 0 0 0 0)) ×
-    (called 3 (desk 0) (1 ∷ []) 0 [] 1 [] [] (cells9 0 0 0 0 0 0 0 0 0) ≡ outcome 1 0 [] (cells9 0 0 0 0 0 0 0 0 0)) ×
-    (called 3 (desk 0) [] 0 [] 0 [] (9 ∷ []) (cells9 0 0 0 0 0 0 0 0 0) ≡ outcome 1 0 (9 ∷ []) (cells9 0 0 0 0 0 0 0 0 0)) ×
-    (called 3 (desk 0) (1 ∷ []) 0 [] 0 [] (9 ∷ []) (cells9 1 1 0 0 0 0 0 0 0) ≡ outcome 1 0 (9 ∷ []) (cells9 1 1 0 0 0 0 0 0 0)) ×
-    (called 3 (desk 0) (1 ∷ []) 0 [] 1 [] (9 ∷ []) (cells9 0 0 0 0 0 0 0 0 0) ≡ outcome 1 0 (9 ∷ []) (cells9 0 0 0 0 0 0 0 0 0))
+    (laid (answers (0 ∷ 41 ∷ []) (cells9 1 0 0 0 0 0 0 0 0)) ≡ outcome 0 2 (0 ∷ 41 ∷ clear 254) (cells9 1 0 0 0 0 0 0 0 0)) ×
+    (called 3 (desk 0) [] 0 [] 0 [] (cells9 0 0 0 0 0 0 0 0 0) ≡ outcome 1 0 (clear 256) (cells9 0 0 0 0 0 0 0 0 0)) ×
+    (called 3 (desk 0) (1 ∷ []) 0 [] 0 [] (cells9 1 1 0 0 0 0 0 0 0) ≡ outcome 1 0 (clear 256) (cells9 1 1 0 0 0 0 0 0 0)) ×
+    (called 3 (desk 0) (1 ∷ []) 0 [] 1 [] (cells9 0 0 0 0 0 0 0 0 0) ≡ outcome 1 0 (clear 256) (cells9 0 0 0 0 0 0 0 0 0))
 unfolding isCount figuresFit mostEach mostTotal
     bit count allBits clear rowAt withRow holders takenFrom mostAt rowFits rowsFit sourcesFit kindFits cellsFit legal
-    pathFits allNumbers deskLegal isReady called laid
-v-left = (refl, refl, refl, refl, refl)
+    pathFits allNumbers deskLegal isReady called laid filled
+v-left = (refl, refl, refl, refl)
+
+-- "table over 256 entries, message over 16,384 bytes": 257 rows, 16,385 bytes; with 256 and 16,384 neither is the reason
+abbrev table : ℕ → Rows
+table zero = []
+table (suc n) = clear 50 ∷ table n
+
+pub v-long :
+    (called 3 (desk 0) (1 ∷ []) 0 (table 257) 0 [] (cells9 0 0 0 0 0 0 0 0 0) ≡ outcome 1 0 (clear 256) (cells9 0 0 0 0 0 0 0 0 0)) ×
+    (called 3 (desk 0) (1 ∷ []) 0 [] 0 (clear 16385) (cells9 0 0 0 0 0 0 0 0 0) ≡ outcome 1 0 (clear 256) (cells9 0 0 0 0 0 0 0 0 0)) ×
+    (isReady 3 (desk 0) (1 ∷ []) 0 (table 256) 0 (clear 16384) (cells9 0 0 0 0 0 0 0 0 0) ≡ accepted 0 [])
+unfolding isCount figuresFit mostEach mostTotal
+    bit count allBits clear rowAt withRow holders takenFrom mostAt rowFits rowsFit sourcesFit kindFits cellsFit legal
+    pathFits allNumbers deskLegal isReady called itemsIn entriesOf itemsOf
+v-long = (refl, refl, refl)

@@ -1,8 +1,8 @@
 -- The desk's call on a message's entries (document 01, "Desk" and "Numbers answered").
-use Prim.Native.Nat.{ℕ, _*_}
+use Prim.Native.Nat.{ℕ, _-_, _*_}
 use mathlib.Core.List.{List, [], _∷_, _++_}
 use mathlib.Core.Bool.{Bool, true, false}
-use lib.ListN.{length, drop}
+use lib.ListN.{length}
 use lib.Dec.{leb, eqb}
 use Rattle.integers.specs.Digits.{pick}
 use Rattle.entries.specs.Entry.{Rows}
@@ -11,11 +11,10 @@ use Rattle.forest.specs.Rows.{itemsIn}
 use Rattle.tree_sizes.specs.Accepted.{accepted}
 use Rattle.crosspoints.specs.declared.Figures.{Figures}
 use Rattle.crosspoints.specs.Figures.{both}
-use Rattle.crosspoints.specs.Crosspoints.{Cells, legal, opened, Answer, answer}
+use Rattle.crosspoints.specs.Crosspoints.{Cells, clear, legal, opened, Answer, answer}
 use Rattle.routing.specs.Request.{requested}
 use Rattle.desk_calls.specs.declared.Called.{Called}
-use Rattle.desk_calls.specs.declared.Called.the-variants.{Setup, Done}
-use Rattle.desk_calls.specs.Connections.{Ask, asksOf}
+use Rattle.connections.specs.Connections.{Ask, asksOf, same}
 
 -- A request on plain numbers: target, sources, operation, and the crosspoints before it. All that the desk holds besides stands in `requests` alone.
 abbrev pub Request : Type 0
@@ -43,14 +42,6 @@ unfoldable pub deskOpened : ℕ → Figures → List ℕ → ℕ → Cells → A
 deskOpened w f path mode cells =
     pick (pathFits path) (opened w f mode cells) (pick (eqb (length cells) (w * w)) (answer 45 cells) (answer 1 cells))
 
-unfoldable pub same : List ℕ → List ℕ → Bool
-same [] [] = true
-same [] (y ∷ ys) = false
-same (x ∷ xs) [] = false
-same (x ∷ xs) (y ∷ ys) =
-    let rest : Bool = same xs ys in
-    pick (eqb x y) rest false
-
 -- "40 MATRIX: other path", before 41; else what the request gives
 unfoldable pub answered : Request → List ℕ → Ask → Cells → Answer
 answered request path a cells =
@@ -76,7 +67,8 @@ served request path (a ∷ later) cells = andThen (answered request path a cells
 unfoldable pub handled : ℕ → Figures → List ℕ → List Item → Cells → Served
 handled w f path es cells = served (requests w f) path (asksOf es) cells
 
--- What a call answers (document 01's number, and how many connections were answered), leaves in the lent answers and leaves of the crosspoints.
+-- What a call answers, and the crosspoints after it: document 01's number, how many connections were answered, and 256 bytes, which hold an answer for each
+-- of the most entries that there can be.
 pub record Outcome : Type 0 where
   pub number : ℕ
   pub count : ℕ
@@ -86,24 +78,29 @@ pub record Outcome : Type 0 where
 abbrev pub outcome : ℕ → ℕ → List ℕ → Cells → Outcome
 outcome number count answers cells = record { number = number; count = count; answers = answers; cells = cells }
 
--- the answers over the first of those lent; the others as they were
-unfoldable pub laid : Served → List ℕ → Outcome
-laid z lent = outcome 0 (length (z .answers)) (z .answers ++ drop (length (z .answers)) lent) (z .cells)
+-- the answers in order, then zeros
+unfoldable pub filled : List ℕ → List ℕ
+filled ns = ns ++ clear (256 - length ns)
 
--- "1 SETUP, first of all: .. desk not legal, entries handed in .. that make no tree the reader accepts": there are no more entries than rows. An answer is
--- lent for each entry handed in.
-unfoldable pub isReady : ℕ → Figures → List ℕ → ℕ → Rows → ℕ → List Item → List ℕ → Cells → Bool
-isReady w f path root rows n es lent cells =
-    both (leb n (length lent)) (both (deskLegal w f path cells) (both (leb n (length rows)) (accepted root es)))
+unfoldable pub laid : Served → Outcome
+laid z = outcome 0 (length (z .answers)) (filled (z .answers)) (z .cells)
+
+-- no connection answered, and the crosspoints as they were
+abbrev pub unserved : Cells → Outcome
+unserved cells = outcome 1 0 (clear 256) cells
+
+-- "1 SETUP, first of all: .. table over 256 entries, message over 16,384 bytes, .. desk not legal, entries handed in .. that make no tree the reader accepts":
+-- there are no more entries than rows
+unfoldable pub isReady : ℕ → Figures → List ℕ → ℕ → Rows → ℕ → List ℕ → Cells → Bool
+isReady w f path root rows n s cells =
+    both (leb (length rows) 256) (both (leb (length s) 16384)
+    (both (deskLegal w f path cells) (both (leb n (length rows)) (accepted root (itemsIn s rows n)))))
 
 -- the call on the first n rows, with the message beside them; "1 leaves everything as it was"
-unfoldable pub called : ℕ → Figures → List ℕ → ℕ → Rows → ℕ → List ℕ → List ℕ → Cells → Outcome
-called w f path root rows n s lent cells =
-    pick (isReady w f path root rows n (itemsIn s rows n) lent cells)
-    (laid (handled w f path (itemsIn s rows n) cells) lent)
-    (outcome 1 0 lent cells)
+unfoldable pub called : ℕ → Figures → List ℕ → ℕ → Rows → ℕ → List ℕ → Cells → Outcome
+called w f path root rows n s cells =
+    pick (isReady w f path root rows n s cells) (laid (handled w f path (itemsIn s rows n) cells)) (unserved cells)
 
--- what each case of the answer says
-abbrev pub told : Called → List ℕ → Cells → Outcome
-told Setup lent cells = outcome 1 0 lent cells
-told (Done n) lent cells = outcome 0 n lent cells
+-- what the answer says, with the crosspoints after it
+abbrev pub told : Called → Cells → Outcome
+told r cells = outcome (r .number) (r .count) (r .answers) cells

@@ -1,3 +1,3 @@
-pub mod Connections
 pub mod Calls
 pub mod Steps
+pub mod Numbers

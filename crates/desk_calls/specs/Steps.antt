@@ -14,8 +14,8 @@ use Rattle.forest.specs.Rows.{itemsIn}
 use Rattle.crosspoints.specs.Figures.{side}
 use Rattle.crosspoints.specs.Crosspoints.{Cells, count, Answer}
 use Rattle.routing.specs.Request.{named}
-use Rattle.desk_calls.specs.Connections.{octetsOf, numbersIn, nobody, askOf, asksIn}
-use Rattle.desk_calls.specs.Calls.{requests, answered, Served, served, handled, Outcome, outcome, laid}
+use Rattle.connections.specs.Connections.{octetsOf, numbersIn, nobody, askOf, asksIn}
+use Rattle.desk_calls.specs.Calls.{requests, answered, Served, served, handled, Outcome, outcome}
 
 unfoldable pub has : List ℕ → ℕ → Bool
 has [] x = false
@@ -50,7 +50,10 @@ answeredAt f path rows n s i cells = answered (requests side f) path (askOf (ite
 abbrev pub leftFrom : Figures → List ℕ → Rows → ℕ → List ℕ → ℕ → Cells → Served
 leftFrom f path rows n s i cells = served (requests side f) path (asksIn (itemsIn s rows n) (drop i (itemsIn s rows n))) cells
 
--- answers from place k on, over those lent
+-- the answers over the first of a list, and from place k on
+unfoldable pub laidOver : Served → List ℕ → Outcome
+laidOver z lent = outcome 0 (length (z .answers)) (z .answers ++ drop (length (z .answers)) lent) (z .cells)
+
 unfoldable pub laidAt : ℕ → Served → List ℕ → Outcome
 laidAt k z lent = outcome 0 (k + length (z .answers)) (take k lent ++ (z .answers ++ drop (k + length (z .answers)) lent)) (z .cells)
 
@@ -61,4 +64,4 @@ Takes f path rows n s i k lent cells m lent′ cells′ =
 
 -- all of them
 abbrev pub servedIn : Figures → List ℕ → Rows → ℕ → List ℕ → List ℕ → Cells → Outcome
-servedIn f path rows n s lent cells = laid (handled side f path (itemsIn s rows n) cells) lent
+servedIn f path rows n s lent cells = laidOver (handled side f path (itemsIn s rows n) cells) lent

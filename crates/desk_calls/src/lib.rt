@@ -1,33 +1,30 @@
-// The desk's call on a message's entries, as the tree reader left them.
+// The desk's calls: opening, one request on plain numbers, and a message's connections.
+use connections::is_path;
+use connections::number_of;
+use connections::part_of;
 use crosspoints::Figures;
+use crosspoints::SIDE;
 use entries::Cell;
-use identifiers::Arc;
-use identifiers::Oid;
 use tree_sizes::cell_at;
 ghost use mathlib.Core.Path.{_≡_};
 ghost use mathlib.Core.List.{List, []};
 ghost use mathlib.Core.Bool.{true};
-ghost use Prim.Native.Nat.{ℕ, _+_, _-_, _≤_, _<_};
-ghost use lib.ListN.{length, getD, take, drop};
-ghost use Rattle.forest.specs.Content.{contentOf};
-ghost use Rattle.forest.specs.Rows.{itemsIn};
-ghost use Rattle.crosspoints.specs.Figures.{side};
-ghost use Rattle.crosspoints.specs.Crosspoints.{clear, legal, answer};
-ghost use Rattle.identifiers.specs.Identifier.{arcAt, oidAt};
-ghost use Rattle.desk_calls.specs.Connections.{numberOf, octetsOf, numbersIn, endOf, stepOf, Left, Goes, isQualified, fullPath};
-ghost use Rattle.desk_calls.specs.Calls.{pathFits, deskLegal, deskOpened, same, called, outcome, told};
+ghost use Prim.Native.Nat.{ℕ, _+_, _-_, _*_, _≤_, _<_};
+ghost use lib.Dec.{ltb, eqb};
+ghost use lib.ListN.{length, getD, set, take};
+ghost use Rattle.integers.specs.Digits.{pick};
+ghost use Rattle.crosspoints.specs.Figures.{side, both, mostEach, mostTotal};
+ghost use Rattle.crosspoints.specs.Crosspoints.{count, clear, takenFrom, answer, rowAt, withRow, legal};
+ghost use Rattle.routing.specs.Request.{marked, named, becomes, allBelow, others, judged, asked, requested};
+ghost use Rattle.connections.specs.Connections.{numbersIn};
+ghost use Rattle.desk_calls.specs.Calls.{pathFits, deskLegal, deskOpened, outcome, called, told};
 ghost use Rattle.desk_calls.specs.Steps.{once, Kept, Handed, askedOf, answeredAt, servedIn, Takes};
 
-// 1 SETUP, or how many connections were answered.
-pub enum Called {
-    Setup,
-    Done(usize),
-}
-
-fn wide(x: usize) -> u64
-    ensures { λ r. ⌜ r ≡ x ⌝ }
-{
-    x as u64
+// What the call answers: 0, or 1 SETUP; how many connections were answered; and their answers in order, then zeros.
+pub struct Called {
+    pub number: u64,
+    pub count: usize,
+    pub answers: [u8; 256],
 }
 
 fn index(x: u64) -> usize
@@ -82,166 +79,296 @@ pub fn open(f: Figures, mode: u64, path: &[u64], crosspoints: &mut [u8]) -> u64
     45
 }
 
+// Whether every source named is one of the desk's.
+fn all_below(n: u64, sources: &[u64]) -> bool
+    ensures { λ r. ⌜ allBelow n (now (sources .entry)) ≡ r ⌝ }
+{
+    let mut i = 0;
+    while i < sources.len() {
+        if n <= sources[i] {
+            return false;
+        }
+        i += 1;
+    }
+    true
+}
+
+// The cells of the sources named set to v; a source past the cells' end does nothing.
+fn mark(cells: &mut [u8], sources: &[u64], v: u8)
+    ensures { λ _. ⌜ now (cells .exit) ≡ marked v (now (cells .entry)) (now (sources .entry)) ⌝ }
+{
+    let mut i = 0;
+    while i < sources.len() {
+        put(cells, sources[i], v);
+        i += 1;
+    }
+}
+
+fn put(cells: &mut [u8], at: u64, v: u8)
+    ensures { λ _. ⌜ now (cells .exit) ≡ set (now (cells .entry)) at v ⌝ }
+{
+    let i = at as usize;
+    if i < cells.len() {
+        cells[i] = v;
+    }
+}
+
+// A source taken from every target.
+fn take_from(cells: &mut [u8], s: u64)
+    requires { ⌜ s + 1 ≤ 64 ⌝ }
+    ensures { λ _. ⌜ now (cells .exit) ≡ takenFrom side (now (cells .entry)) s side ⌝ }
+{
+    let mut t = 64;
+    while 0 < t {
+        t -= 1;
+        put(cells, t * 64 + s, 0);
+    }
+}
+
+// One list of cells over another of the same length.
+fn copy(to: &mut [u8], from: &[u8])
+    requires { ⌜ length (now to) ≡ length (now from) ⌝ }
+    ensures { λ _. ⌜ now (to .exit) ≡ now (from .entry) ⌝ }
+{
+    let mut i = 0;
+    while i < from.len() {
+        to[i] = from[i];
+        i += 1;
+    }
+}
+
+// Whether connect replaces: 1:N or 1:1, and one source named.
+fn replaces(f: Figures, named: u64) -> bool
+    ensures { λ r. ⌜ both (ltb (f .kind) 2) (eqb named 1) ≡ r ⌝ }
+{
+    if 2 <= f.kind {
+        return false;
+    }
+    named == 1
+}
+
+// The list as a target's cells.
+fn list_row(row: &mut [u8], sources: &[u64])
+    requires { ⌜ length (now row) ≡ 64 ⌝ }
+    ensures { λ _. ⌜ now (row .exit) ≡ named side (now (sources .entry)) ⌝ }
+{
+    crosspoints::wipe(row);
+    mark(row, sources, 1);
+}
+
+// A target's cells after a request; `ones` counts the sources named.
+fn become_row(f: Figures, sources: &[u64], operation: u64, ones: u64, row: &mut [u8])
+    requires { ⌜ length (now row) ≡ 64 ⌝ }
+    requires { ⌜ count (named side (now sources)) ≡ ones ⌝ }
+    ensures { λ _. ⌜ now (row .exit) ≡ becomes side f (now (sources .entry)) operation (now (row .entry)) ⌝ }
+{
+    if operation == 2 {
+        mark(row, sources, 0);
+        return;
+    }
+    if operation != 1 {
+        list_row(row, sources);
+        return;
+    }
+    if replaces(f, ones) {
+        list_row(row, sources);
+        return;
+    }
+    mark(row, sources, 1);
+}
+
+// The first source named, 0 if there is none.
+fn first(sources: &[u64]) -> u64
+    ensures { λ r. ⌜ getD (now (sources .entry)) 0 0 ≡ r ⌝ }
+{
+    if 0 < sources.len() {
+        return sources[0];
+    }
+    0
+}
+
+// In 1:1, absolute or connect with one source takes it from every target.
+fn free(f: Figures, sources: &[u64], operation: u64, ones: u64, cells: &mut [u8])
+    requires { ⌜ f .sources ≤ 64 ⌝ }
+    requires { ⌜ allBelow (f .sources) (now sources) ≡ true ⌝ }
+    requires { ⌜ count (named side (now sources)) ≡ ones ⌝ }
+    ensures { λ _. ⌜ now (cells .exit) ≡ others side f (now (sources .entry)) operation (now (cells .entry)) ⌝ }
+{
+    if f.kind != 1 {
+        return;
+    }
+    if 2 <= operation {
+        return;
+    }
+    if ones != 1 {
+        return;
+    }
+    take_from(cells, first(sources));
+}
+
+// Where a target's cells begin.
+fn row_start(t: u64) -> usize
+    requires { ⌜ t + 1 ≤ 64 ⌝ }
+    ensures { λ r. ⌜ r ≡ t * 64 ⌝ }
+{
+    let i = t as usize;
+    i * SIDE
+}
+
+// Other cells for a target.
+fn put_row(cells: &mut [u8], target: u64, row: &[u8])
+    requires { ⌜ length (now cells) ≡ 4096 ⌝ }
+    requires { ⌜ target + 1 ≤ 64 ⌝ }
+    requires { ⌜ length (now row) ≡ 64 ⌝ }
+    ensures { λ _. ⌜ now (cells .exit) ≡ withRow side (now (cells .entry)) target (now (row .entry)) ⌝ }
+{
+    let from = row_start(target);
+    let to = from + SIDE;
+    copy(&mut cells[from..to], row);
+}
+
+// Whether a target has too many: for N:N its cells are over its limit, else the list is over one.
+fn is_many(f: Figures, ones: u64, set: u64) -> bool
+    ensures { λ r. ⌜ pick (eqb (f .kind) 2) (ltb (mostEach f) set) (ltb 1 ones) ≡ r ⌝ }
+{
+    if f.kind == 2 {
+        return crosspoints::most_each(f) < set;
+    }
+    1 < ones
+}
+
+// 44 or 0 for a target that has `before` cells set and will have `after`. Only N:N heeds the total, so that the others need no count.
+fn over_total(f: Figures, cells: &[u8], before: u64, after: u64) -> u64
+    requires { ⌜ length (now cells) ≡ 4096 ⌝ }
+    requires { ⌜ before ≤ count (now cells) ⌝ }
+    requires { ⌜ after ≤ 64 ⌝ }
+    ensures { λ r. ⌜ pick (both (eqb (f .kind) 2) (ltb (mostTotal f) (count (now (cells .entry)) - before + after))) 44 0 ≡ r ⌝ }
+{
+    if f.kind != 2 {
+        return 0;
+    }
+    if crosspoints::in_total(f, crosspoints::count(cells) - before + after) {
+        return 0;
+    }
+    44
+}
+
+// A target's cells.
+fn get_row(row: &mut [u8], cells: &[u8], target: u64)
+    requires { ⌜ length (now cells) ≡ 4096 ⌝ }
+    requires { ⌜ target + 1 ≤ 64 ⌝ }
+    requires { ⌜ length (now row) ≡ 64 ⌝ }
+    ensures { λ _. ⌜ now (row .exit) ≡ rowAt side (now (cells .entry)) target ⌝ }
+{
+    let from = row_start(target);
+    let to = from + SIDE;
+    copy(row, &cells[from..to]);
+}
+
+// 0, 43 or 44 for a target's cells after the request, which `row` then holds; `ones` counts the sources named.
+fn judge(
+    f: Figures,
+    target: u64,
+    sources: &[u64],
+    operation: u64,
+    ones: u64,
+    cells: &[u8],
+    row: &mut [u8],
+) -> u64
+    requires { ⌜ f .targets ≤ 64 ⌝ }
+    requires { ⌜ length (now cells) ≡ 4096 ⌝ }
+    requires { ⌜ length (now row) ≡ 64 ⌝ }
+    requires { ⌜ target + 1 ≤ f .targets ⌝ }
+    requires { ⌜ allBelow (f .sources) (now sources) ≡ true ⌝ }
+    requires { ⌜ count (named side (now sources)) ≡ ones ⌝ }
+    ensures { λ r. ⌜ judged side f target (now (sources .entry)) operation (now (cells .entry)) ≡ r ⌝ }
+    ensures { λ _. ⌜ now (row .exit) ≡ becomes side f (now (sources .entry)) operation (rowAt side (now (cells .entry)) target) ⌝ }
+{
+    get_row(row, cells, target);
+    let before = crosspoints::count(row);
+    become_row(f, sources, operation, ones, row);
+    if 2 == operation {
+        return 0;
+    }
+    let after = crosspoints::count(row);
+    if is_many(f, ones, after) {
+        return 43;
+    }
+    over_total(f, cells, before, after)
+}
+
+// A request on a legal desk; `row` is scratch.
+fn ask(
+    f: Figures,
+    target: u64,
+    sources: &[u64],
+    operation: u64,
+    crosspoints: &mut [u8],
+    row: &mut [u8],
+) -> u64
+    requires { ⌜ f .targets ≤ 64 ⌝ }
+    requires { ⌜ f .sources ≤ 64 ⌝ }
+    requires { ⌜ length (now crosspoints) ≡ 4096 ⌝ }
+    requires { ⌜ length (now row) ≡ 64 ⌝ }
+    ensures { λ r. ⌜ asked side f target (now (sources .entry)) operation (now (crosspoints .entry)) ≡ answer r (now (crosspoints .exit)) ⌝ }
+{
+    if f.targets <= target {
+        return 41;
+    }
+    if !all_below(f.sources, sources) {
+        return 42;
+    }
+    list_row(row, sources);
+    let ones = crosspoints::count(row);
+    let told = judge(f, target, sources, operation, ones, crosspoints, row);
+    if told != 0 {
+        return told;
+    }
+    free(f, sources, operation, ones, crosspoints);
+    put_row(crosspoints, target, row);
+    0
+}
+
+// One request on a legal desk: 41 to 44, or 1 for an operation that is none, leave the crosspoints as they were.
+fn request_legal(
+    f: Figures,
+    target: u64,
+    sources: &[u64],
+    operation: u64,
+    crosspoints: &mut [u8],
+) -> u64
+    requires { ⌜ legal side f (now crosspoints) ≡ true ⌝ }
+    ensures { λ r. ⌜ requested side f target (now (sources .entry)) operation (now (crosspoints .entry)) ≡ answer r (now (crosspoints .exit)) ⌝ }
+{
+    if 2 < operation {
+        return 1;
+    }
+    let mut row = [0u8; 64];
+    ask(f, target, sources, operation, crosspoints, &mut row)
+}
+
+// One request: 0 and the crosspoints as asked for; 41 to 44, or 1 where the desk is not legal or the operation none, and they stay as they were.
+pub fn request(
+    f: Figures,
+    target: u64,
+    sources: &[u64],
+    operation: u64,
+    crosspoints: &mut [u8],
+) -> u64
+    ensures { λ r. ⌜ requested side f target (now (sources .entry)) operation (now (crosspoints .entry)) ≡ answer r (now (crosspoints .exit)) ⌝ }
+{
+    if !crosspoints::is_legal(f, crosspoints) {
+        return 1;
+    }
+    request_legal(f, target, sources, operation, crosspoints)
+}
+
 // The word j of a row.
 fn word_at(rows: &[[u64; 50]], i: usize, j: usize) -> u64
     requires { ⌜ (i < length (now rows)) × (j < 50) ⌝ }
     ensures { λ r. ⌜ r ≡ getD (getD (now (rows .entry)) i []) j 0 ⌝ }
 {
     rows[i][j]
-}
-
-// The number of a member, 0 where it has none.
-pub fn number_of(v: Cell) -> u64
-    ensures { λ r. ⌜ ((s : List ℕ) → numberOf (contentOf s v) ≡ r) ⌝ }
-{
-    if v.kind != 2 {
-        return 0;
-    }
-    if v.second != 0 {
-        return 0;
-    }
-    v.first
-}
-
-// Where the octets of a member begin and end in the message.
-pub struct Part {
-    pub start: usize,
-    pub end: usize,
-}
-
-fn no_part() -> Part
-    ensures { λ r. ⌜ r ≡ record { start = 0; end = 0 } ⌝ }
-{
-    Part { start: 0, end: 0 }
-}
-
-// The octets of a member, none where it has none.
-fn part_of(s: &[u8], v: Cell) -> Part
-    ensures { λ r. ⌜ take (r .end - r .start) (drop (r .start) (now (s .entry))) ≡ octetsOf (contentOf (now (s .entry)) v) ⌝ }
-    ensures { λ r. ⌜ (r .start ≤ r .end) × (r .end ≤ length (now (s .entry))) ⌝ }
-{
-    if v.kind != 13 {
-        return no_part();
-    }
-    let total = wide(s.len());
-    if total < v.second {
-        return no_part();
-    }
-    if total - v.second < v.first {
-        return no_part();
-    }
-    let start = index(v.first);
-    let len = index(v.second);
-    Part {
-        start,
-        end: start + len,
-    }
-}
-
-// The end of an identifier's numbers: that of its octets, or 0 where these are none.
-pub fn list_end(octets: &[u8]) -> usize
-    ensures { λ r. ⌜ endOf (oidAt (now (octets .entry)) 0 (length (now (octets .entry)))) (length (now (octets .entry))) ≡ r ⌝ }
-    ensures { λ r. ⌜ Left (now (octets .entry)) 0 r (numbersIn (now (octets .entry))) ⌝ }
-{
-    match identifiers::read_oid(octets, 0, octets.len()) {
-        Oid::Numbers(_) => octets.len(),
-        Oid::Range => 0,
-        Oid::Refused => 0,
-    }
-}
-
-// A number of an identifier, and where the next one begins.
-pub struct Step {
-    pub number: u64,
-    pub next: usize,
-}
-
-// The number at p, where numbers are left before `end`; 0 and `end` where there is none.
-pub fn next_number(octets: &[u8], p: usize, end: usize) -> Step
-    ensures { λ r. ⌜ stepOf (arcAt (now (octets .entry)) p end) end ≡ r ⌝ }
-    ensures { λ r. ⌜ (p < end → (xs : List ℕ) → Left (now (octets .entry)) p end xs → Goes (now (octets .entry)) end xs (r .number) (r .next)) ⌝ }
-    ensures { λ r. ⌜ (p < end → (p < r .next) × (r .next ≤ end)) ⌝ }
-{
-    match identifiers::read_number(octets, p, end) {
-        Arc::Number { number, next } => Step { number, next },
-        Arc::Range { next: _ } => Step {
-            number: 0,
-            next: end,
-        },
-        Arc::Refused => Step {
-            number: 0,
-            next: end,
-        },
-    }
-}
-
-// Whether the numbers of an identifier are those of a path.
-fn same_numbers(octets: &[u8], path: &[u64]) -> bool
-    ensures { λ r. ⌜ same (numbersIn (now (octets .entry))) (now (path .entry)) ≡ r ⌝ }
-{
-    let end = list_end(octets);
-    let mut p: usize = 0;
-    let mut j: usize = 0;
-    while p < end {
-        let x = next_number(octets, p, end);
-        if path.len() <= j {
-            return false;
-        }
-        if path[j] != x.number {
-            return false;
-        }
-        j += 1;
-        p = x.next;
-    }
-    path.len() <= j
-}
-
-fn is_qualified(kind: u64) -> bool
-    ensures { λ r. ⌜ isQualified kind ≡ r ⌝ }
-{
-    if kind < 5 {
-        return false;
-    }
-    kind <= 7
-}
-
-// Whether the octets of a member are the numbers of a path.
-fn same_part(s: &[u8], v: Cell, path: &[u64]) -> bool
-    ensures { λ r. ⌜ same (numbersIn (octetsOf (contentOf (now (s .entry)) v))) (now (path .entry)) ≡ r ⌝ }
-{
-    let part = part_of(s, v);
-    let start = part.start;
-    let end = part.end;
-    same_numbers(&s[start..end], path)
-}
-
-// Whether the full path of the entry whose place and 1 is p, 0 for Root, is this one: numbers are compared from the last to the first, up to a qualified
-// element or Root.
-fn is_path(path: &[u64], rows: &[[u64; 50]], count: usize, s: &[u8], entry: u64) -> bool
-    requires { ⌜ (length (now path) ≤ 16) × (count ≤ length (now rows)) ⌝ }
-    ensures { λ r. ⌜ same (fullPath (itemsIn (now (s .entry)) (now (rows .entry)) count) entry) (now (path .entry)) ≡ r ⌝ }
-{
-    let mut k = path.len();
-    let mut p = entry;
-    while 0 < p {
-        if wide(count) < p {
-            return k == 0;
-        }
-        let i = index(p - 1);
-        let v = cell_at(rows, i, 0);
-        if is_qualified(word_at(rows, i, 0)) {
-            return same_part(s, v, &path[..k]);
-        }
-        if k == 0 {
-            return false;
-        }
-        if path[k - 1] != number_of(v) {
-            return false;
-        }
-        k = k - 1;
-        p = word_at(rows, i, 1);
-    }
-    k == 0
 }
 
 // One more source: kept if it is not among the first k already; how many there are then.
@@ -268,11 +395,11 @@ fn gather(octets: &[u8], sources: u64, list: &mut [u64], marks: &mut [u8]) -> us
     ensures { λ r. ⌜ Handed sources (numbersIn (now (octets .entry))) (take r (now (list .exit))) ⌝ }
     ensures { λ r. ⌜ r ≤ 64 ⌝ }
 {
-    let end = list_end(octets);
+    let end = connections::list_end(octets);
     let mut p: usize = 0;
     let mut k: usize = 0;
     while p < end {
-        let x = next_number(octets, p, end);
+        let x = connections::next_number(octets, p, end);
         if sources <= x.number {
             list[0] = x.number;
             return 1;
@@ -284,7 +411,7 @@ fn gather(octets: &[u8], sources: u64, list: &mut [u64], marks: &mut [u8]) -> us
 }
 
 // A request with the sources of a member. The desk was judged before the first of them, and each leaves it legal.
-fn ask(f: Figures, target: u64, v: Cell, operation: u64, s: &[u8], cells: &mut [u8]) -> u64
+fn ask_member(f: Figures, target: u64, v: Cell, operation: u64, s: &[u8], cells: &mut [u8]) -> u64
     requires { ⌜ legal side f (now cells) ≡ true ⌝ }
     ensures { λ r. ⌜ askedOf f target (now (s .entry)) v operation (now (cells .entry)) ≡ answer r (now (cells .exit)) ⌝ }
 {
@@ -294,7 +421,7 @@ fn ask(f: Figures, target: u64, v: Cell, operation: u64, s: &[u8], cells: &mut [
     let mut list = [0u64; 64];
     let mut marks = [0u8; 64];
     let n = gather(&s[start..end], f.sources, &mut list, &mut marks);
-    routing::request_unjudged(f, target, &list[..n], operation, cells)
+    request_legal(f, target, &list[..n], operation, cells)
 }
 
 // The answer to the connection at place i.
@@ -315,7 +442,14 @@ fn answer_to(
     }
     let target = number_of(cell_at(rows, i, 0));
     let operation = number_of(cell_at(rows, i, 2));
-    ask(f, target, cell_at(rows, i, 1), operation, s, cells)
+    ask_member(f, target, cell_at(rows, i, 1), operation, s, cells)
+}
+
+fn narrow(x: u64) -> u8
+    requires { ⌜ x ≤ 255 ⌝ }
+    ensures { λ r. ⌜ r ≡ x ⌝ }
+{
+    x as u8
 }
 
 // The entry at place i: a connection is answered at place n of the answers. The place for the next answer.
@@ -327,7 +461,7 @@ fn take_entry(
     i: usize,
     s: &[u8],
     cells: &mut [u8],
-    answers: &mut [u64],
+    answers: &mut [u8],
     n: usize,
 ) -> usize
     requires { ⌜ (legal side f (now cells) ≡ true) × ((length (now path) ≤ 16) × ((count ≤ length (now rows)) × (i < count))) ⌝ }
@@ -339,7 +473,7 @@ fn take_entry(
     if word_at(rows, i, 0) != 8 {
         return n;
     }
-    answers[n] = answer_to(f, path, rows, count, i, s, cells);
+    answers[n] = narrow(answer_to(f, path, rows, count, i, s, cells));
     n + 1
 }
 
@@ -351,7 +485,7 @@ fn serve(
     count: usize,
     s: &[u8],
     cells: &mut [u8],
-    answers: &mut [u64],
+    answers: &mut [u8],
 ) -> usize
     requires { ⌜ (legal side f (now cells) ≡ true) × ((length (now path) ≤ 16) × ((count ≤ length (now rows)) × (count ≤ length (now answers)))) ⌝ }
     ensures { λ r. ⌜ servedIn f (now (path .entry)) (now (rows .entry)) count (now (s .entry)) (now (answers .entry)) (now (cells .entry))
@@ -366,8 +500,19 @@ fn serve(
     n
 }
 
+// 1 SETUP: no connection was answered.
+fn unready() -> Called
+    ensures { λ r. ⌜ r ≡ record { number = 1; count = 0; answers = clear 256 } ⌝ }
+{
+    Called {
+        number: 1,
+        count: 0,
+        answers: [0u8; 256],
+    }
+}
+
 // The desk's call on the first `count` rows, with the message beside them: an answer for each connection, in order, and how many; 1 and everything as it was
-// where the desk is not legal, the entries make no tree that the reader accepts, or fewer answers are lent than entries handed in.
+// where the table has over 256 rows, the message over 16,384 bytes, the desk is not legal, or the entries make no tree that the reader accepts.
 pub fn call(
     f: Figures,
     path: &[u64],
@@ -376,19 +521,27 @@ pub fn call(
     root: u64,
     s: &[u8],
     crosspoints: &mut [u8],
-    answers: &mut [u64],
 ) -> Called
-    ensures { λ r. ⌜ called side f (now (path .entry)) root (now (rows .entry)) count (now (s .entry)) (now (answers .entry)) (now (crosspoints .entry))
-        ≡ told r (now (answers .exit)) (now (crosspoints .exit)) ⌝ }
+    ensures { λ r. ⌜ called side f (now (path .entry)) root (now (rows .entry)) count (now (s .entry)) (now (crosspoints .entry))
+        ≡ told r (now (crosspoints .exit)) ⌝ }
 {
-    if answers.len() < count {
-        return Called::Setup;
+    if 256 < rows.len() {
+        return unready();
+    }
+    if 16384 < s.len() {
+        return unready();
     }
     if !is_legal(f, path, crosspoints) {
-        return Called::Setup;
+        return unready();
     }
     if 16384 < tree_sizes::measure(rows, count, root, s, true) {
-        return Called::Setup;
+        return unready();
     }
-    Called::Done(serve(f, path, rows, count, s, crosspoints, answers))
+    let mut answers = [0u8; 256];
+    let answered = serve(f, path, rows, count, s, crosspoints, &mut answers);
+    Called {
+        number: 0,
+        count: answered,
+        answers,
+    }
 }

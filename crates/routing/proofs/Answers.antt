@@ -1,18 +1,16 @@
 -- One law for each number that a request answers.
-use Prim.Native.Nat.{ℕ, _+_, _-_, _*_, _≤_, _<_}
+use Prim.Native.Nat.{ℕ, _+_, _-_, _≤_, _<_}
 use mathlib.Core.Path.{_≡_, refl, sym, ap, _∙_}
 use mathlib.Core.List.{List}
 use mathlib.Core.Bool.{Bool, true, false, not}
 use native.Mathlib.Omega.{arith}
 use borrow.Author.Tests.{leb-true, leb-false, eqb-true, lt-leb, le-leb, lt-ltb, le-ltb, eq-eqb, ne-eqb}
-use lib.ListN.{length}
 use lib.Dec.{leb, ltb, eqb}
 use Rattle.integers.specs.Digits.{pick}
 use Rattle.crosspoints.specs.declared.Figures.{Figures}
-use Rattle.crosspoints.specs.Figures.{both, figuresFit, mostEach, mostTotal}
+use Rattle.crosspoints.specs.Figures.{both, mostEach, mostTotal}
 use Rattle.crosspoints.specs.Crosspoints.{Cells, count, rowAt, withRow, legal, answer}
-use Rattle.crosspoints.proofs.Legal.{legal-fit, legal-length}
-use Rattle.routing.specs.Request.{named, allBelow, becomes, others, result, many, overTotal, judged, asked, sized, unjudged, requested}
+use Rattle.routing.specs.Request.{named, allBelow, becomes, others, result, many, overTotal, judged, asked, requested}
 use Rattle.routing.proofs.Parts.{others-kind}
 
 pub over-not : (m n : ℕ) (b : Bool) → leb n m ≡ b → ltb m n ≡ not b
@@ -118,24 +116,10 @@ module _ (w : ℕ) (f : Figures) (target : ℕ) (l : List ℕ) (operation : ℕ)
   unfolding requested
   request-asked h o = simp (h, le-leb _ _ o)
 
-  pub unjudged-figures : figuresFit w f ≡ false → unjudged w f target l operation cells ≡ answer 1 cells
-  unfolding unjudged sized
-  unjudged-figures h = simp h
-
-  pub unjudged-count : figuresFit w f ≡ true → (length cells ≡ w * w → ⊥) → unjudged w f target l operation cells ≡ answer 1 cells
-  unfolding unjudged sized
-  unjudged-count h n = simp (h, ne-eqb _ _ n)
-
-  pub unjudged-none : figuresFit w f ≡ true → length cells ≡ w * w → 2 < operation → unjudged w f target l operation cells ≡ answer 1 cells
-  unfolding unjudged sized
-  unjudged-none h n o = simp (h, eq-eqb _ _ n, lt-leb _ _ o)
-
-  pub unjudged-asked : figuresFit w f ≡ true → length cells ≡ w * w → operation ≤ 2 → unjudged w f target l operation cells ≡ asked w f target l operation cells
-  unfolding unjudged sized
-  unjudged-asked h n o = simp (h, eq-eqb _ _ n, le-leb _ _ o)
-
--- on a legal desk a request needs no judging
-module _ (w : ℕ) (f : Figures) (cells : Cells) (h : legal w f cells ≡ true) where
-  pub unjudged-legal : (target : ℕ) (l : List ℕ) (operation : ℕ) → unjudged w f target l operation cells ≡ requested w f target l operation cells
-  unfolding unjudged sized requested
-  unjudged-legal target l operation = rw (legal-fit w f cells h, eq-eqb _ _ (legal-length w f cells h), h)
+  pub request-none : 2 < operation → requested w f target l operation cells ≡ answer 1 cells
+  unfolding requested
+  request-none o = rw (lt-leb _ _ o) (go (legal w f cells))
+    where
+      go : (u : Bool) → pick (both u false) (asked w f target l operation cells) (answer 1 cells) ≡ answer 1 cells
+      go true = refl
+      go false = refl

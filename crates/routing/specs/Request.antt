@@ -1,12 +1,12 @@
 -- One request (document 01, "Desk"): a target, a list of sources, an operation. `w` is the row size.
-use Prim.Native.Nat.{ℕ, _+_, _*_}
+use Prim.Native.Nat.{ℕ}
 use mathlib.Core.List.{List, [], _∷_}
 use mathlib.Core.Bool.{Bool, true, false}
-use lib.ListN.{length, getD, set}
+use lib.ListN.{getD, set}
 use lib.Dec.{leb, ltb, eqb}
 use Rattle.integers.specs.Digits.{pick}
 use Rattle.crosspoints.specs.declared.Figures.{Figures}
-use Rattle.crosspoints.specs.Figures.{oneToOne, nToN, both, figuresFit, mostEach, mostTotal}
+use Rattle.crosspoints.specs.Figures.{oneToOne, nToN, both, mostEach, mostTotal}
 use Rattle.crosspoints.specs.Crosspoints.{Cells, count, clear, rowAt, withRow, takenFrom, legal, Answer, answer}
 
 -- "Operations: absolute (0, default) .., connect (1) .., disconnect (2)"
@@ -90,13 +90,3 @@ asked w f target sources operation cells =
 unfoldable pub requested : ℕ → Figures → ℕ → List ℕ → ℕ → Cells → Answer
 requested w f target sources operation cells =
     pick (both (legal w f cells) (leb operation disconnect)) (asked w f target sources operation cells) (answer 1 cells)
-
--- figures in their ranges, and w rows of w cells: what a desk tells without a look at its crosspoints
-unfoldable pub sized : ℕ → Figures → Cells → Bool
-sized w f cells = both (figuresFit w f) (eqb (length cells) (w * w))
-
--- The request for a caller that knows the desk to be legal, as one that has judged it before: there it is `requested` (`unjudged-legal`,
--- proofs/Answers.antt). Crosspoints that do not fit are no SETUP here, and are taken as they are.
-unfoldable pub unjudged : ℕ → Figures → ℕ → List ℕ → ℕ → Cells → Answer
-unjudged w f target sources operation cells =
-    pick (both (sized w f cells) (leb operation disconnect)) (asked w f target sources operation cells) (answer 1 cells)

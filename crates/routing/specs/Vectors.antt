@@ -7,7 +7,6 @@ use Rattle.crosspoints.specs.Crosspoints.{bit, count, allBits, clear, rowAt, wi
 use Rattle.crosspoints.specs.Crosspoints.{kindFits, cellsFit, legal, answer}
 use Rattle.crosspoints.specs.Vectors.{figures, desk, cells9}
 use Rattle.routing.specs.Request.{marked, named, allBelow, replaces, becomes, takes, others, result, many, overTotal, judged, asked, requested}
-use Rattle.routing.specs.Request.{sized, unjudged}
 
 -- "1 SETUP": a desk that is not legal, then an operation that is none.
 pub v-refused :
@@ -79,16 +78,3 @@ unfolding isCount figuresFit mostEach mostTotal
     bit count allBits clear rowAt withRow holders takenFrom mostAt rowFits rowsFit sourcesFit kindFits cellsFit legal
     marked named allBelow replaces becomes takes others result many overTotal judged asked requested
 v-taken = (refl, refl, refl, refl)
-
--- A desk that is known to be legal is not judged: crosspoints that do not fit are taken as they are.
-pub v-unjudged :
-    (unjudged 3 (desk 0) 2 (1 ∷ []) 0 (cells9 1 1 0 0 0 0 0 0 0) ≡ answer 0 (cells9 1 1 0 0 0 0 0 1 0)) ×
-    (unjudged 3 (desk 0) 9 (1 ∷ []) 0 (cells9 1 1 0 0 0 0 0 0 0) ≡ answer 41 (cells9 1 1 0 0 0 0 0 0 0)) ×
-    -- figures, cells of another count and operations that are none
-    (unjudged 3 (figures 0 4 3 Absent Absent) 2 (1 ∷ []) 0 (cells9 0 0 0 0 0 0 0 0 0) ≡ answer 1 (cells9 0 0 0 0 0 0 0 0 0)) ×
-    (unjudged 3 (desk 0) 0 (1 ∷ []) 0 (0 ∷ 0 ∷ 0 ∷ []) ≡ answer 1 (0 ∷ 0 ∷ 0 ∷ [])) ×
-    (unjudged 3 (desk 0) 2 (1 ∷ []) 3 (cells9 0 0 0 0 0 0 0 0 0) ≡ answer 1 (cells9 0 0 0 0 0 0 0 0 0))
-unfolding isCount figuresFit mostEach mostTotal
-    bit count allBits clear rowAt withRow holders takenFrom mostAt rowFits rowsFit sourcesFit kindFits cellsFit legal
-    marked named allBelow replaces becomes takes others result many overTotal judged asked sized unjudged
-v-unjudged = (refl, refl, refl, refl, refl)

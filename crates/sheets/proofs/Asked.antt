@@ -23,8 +23,8 @@ use Rattle.crosspoints.proofs.Laws.{open-done, both-left, both-right}
 use Rattle.crosspoints.proofs.Legal.{legal-fit}
 use Rattle.crosspoints.proofs.Counts.{clear-length}
 use Rattle.crosspoints.proofs.Under.{take-short}
-use Rattle.desk_calls.specs.Connections.{listOf, numbersIn, octetsOf, isQualified, memberOf, pathUp, fullPath, Ask, ask, askOf, asksIn, asksOf}
-use Rattle.desk_calls.specs.Calls.{allNumbers, pathFits, deskLegal, deskOpened, same, requests, answered, Served, answers, served, handled}
+use Rattle.connections.specs.Connections.{listOf, numbersIn, octetsOf, isQualified, memberOf, pathUp, fullPath, Ask, ask, askOf, asksIn, asksOf, same}
+use Rattle.desk_calls.specs.Calls.{allNumbers, pathFits, deskLegal, deskOpened, requests, answered, Served, answers, served, handled}
 use Rattle.sheets.specs.Sheet.{Desk, desk, sourcesFrom, sourcesAt, number, identifier, list, limit, leftOut, linkMembers, matrixMembers, links, sheetTree}
 use Rattle.sheets.specs.Reading.{Sheet, read, firstRefused, applied, begun, opens, limitIn, figuresIn, modeIn, pathIn, allLinks, ofEntries}
 use Rattle.sheets.proofs.Step.{Front, front-none, front-all, step-done, step-front}

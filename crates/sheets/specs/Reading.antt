@@ -20,7 +20,7 @@ use Rattle.crosspoints.specs.declared.Limit.the-variants.{Absent, Most}
 use Rattle.crosspoints.specs.declared.Figures.{Figures}
 use Rattle.crosspoints.specs.Figures.{both}
 use Rattle.crosspoints.specs.Crosspoints.{Cells, clear, Answer}
-use Rattle.desk_calls.specs.Connections.{numberOf, octetsOf, numbersIn, memberOf}
+use Rattle.connections.specs.Connections.{numberOf, octetsOf, numbersIn, memberOf}
 use Rattle.desk_calls.specs.Calls.{deskOpened, Served, handled}
 use Rattle.sheets.specs.Sheet.{Desk, desk}
 use Rattle.sheets.specs.Lines.{Stream, bad, stream, linesIn}

@@ -25,8 +25,8 @@ use Rattle.crosspoints.specs.Crosspoints as crosspoints
 use Rattle.crosspoints.specs.Crosspoints.{bit, allBits, clear, rowAt, withRow, holders, takenFrom, mostAt, rowFits, rowsFit, sourcesFit}
 use Rattle.crosspoints.specs.Crosspoints.{kindFits, cellsFit, legal, opened}
 use Rattle.routing.specs.Request.{marked, named, allBelow, replaces, becomes, takes, others, result, many, overTotal, judged, asked, requested}
-use Rattle.desk_calls.specs.Connections.{numbersIn, isQualified, pathUp, askOf, asksIn}
-use Rattle.desk_calls.specs.Calls.{same, answered, served, handled, pathFits, allNumbers, deskOpened}
+use Rattle.connections.specs.Connections.{numbersIn, isQualified, pathUp, askOf, asksIn, same}
+use Rattle.desk_calls.specs.Calls.{answered, served, handled, pathFits, allNumbers, deskOpened}
 use Rattle.sheets.specs.Sheet.{Desk, desk, sourcesFrom, leftOut, links, sheetTree, sheetMessage, hexText, packetLines}
 use Rattle.sheets.specs.Lines.{digitOf, bad, stream, linesFrom, linesIn}
 use Rattle.sheets.specs.Reading.{refused, read, firstRefused, applied, begun, opens, allLinks, ofEntries, finished, somethingOpen}

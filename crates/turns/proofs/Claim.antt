@@ -1,9 +1,9 @@
 -- THE CLAIM over every list of turns (document 01, "Contracts", demand 3).
 use Prim.Native.Nat.{ℕ, _+_}
 use mathlib.Core.Bool.{true}
-use mathlib.Core.List.{List, [], _∷_, _++_}
+use mathlib.Core.List.{List, [], _∷_, _++_, append-nil}
 use mathlib.Core.Path.{_≡_, refl, sym, ap, subst, _∙_}
-use lib.ListN.{length}
+use lib.ListN.{length, take}
 use Rattle.integers.proofs.Radix.{Below}
 use Rattle.framing.specs.declared.Session.{Session}
 use Rattle.framing.specs.Numbers.{storeLength}
@@ -13,7 +13,7 @@ use Rattle.framing.specs.Session.{saidBy, stateOf, sessionOf, Legal}
 use Rattle.framing.specs.Offers as offers
 use Rattle.framing.proofs.Chunks.{as-rules, fresh-legal}
 use Rattle.turns.specs.Rules.{Desk, isLegal, keep, Then, Follow, Told, noted, tells, after}
-use Rattle.turns.specs.Turns.{Turn, Turns, none, turn, calls, thenOf, told, AsRules}
+use Rattle.turns.specs.Turns.{Turn, Turns, none, turn, calls, thenOf, told, Stops, AsRules}
 use Rattle.turns.proofs.Octets.{Octets, OctetsIn, happens-octets, begin-octets, octets-here, octets-rest}
 use Rattle.turns.proofs.Events.{toldOf, deskOver, told-noted, desk-noted, tells-are, after-is}
 use Rattle.turns.proofs.Follows.{Agrees, comes-as}
@@ -56,6 +56,18 @@ over {rows} {d = d} {d″ = d″} (turn {t′ = t′} {d′ = d′} {ts = us} c 
     let y = thenOf x (e .message) in
     record { tells = over-told rows d e y d′ a m us d″ f; desk = over-desk rows d e y d′ a m us d″ f; legal = f .legal }
 
+-- each session call stops at its event's byte: it is a list of one call, and what it leaves is legal again
+pub session-stops : {s s″ : Session} {t t″ rest rest″ : List ℕ} {ts : List offers.Turn} → offers.Turns s t rest ts s″ t″ rest″ → (n : ℕ) → Legal s t
+    → Stops (stateOf s t) n ts
+session-stops offers.none n l = tt
+session-stops {s} {t = t} (offers.turn {t′ = t′} {ts = us} c later r call more) n l =
+    let one = as-rules (offers.turn c later r call offers.none) n l in
+    let e : take (r .consumed) c ++ [] ≡ take (r .consumed) c = append-nil (take (r .consumed) c) in (
+      sym (one .events ∙ ap (framing.happens (stateOf s t) n) e),
+      subst (λ (x : State). Stops x (n + r .consumed) us) (one .state ∙ ap (framing.after (stateOf s t)) e)
+          (session-stops more (n + r .consumed) (one .legal)),
+    )
+
 -- of the front of a list
 front : (xs ys : List ℕ) → Below 256 (xs ++ ys) → Below 256 xs
 front [] ys h = tt
@@ -79,12 +91,13 @@ as-rules-from {rows} {s} {s″} {t} {t″} {d} {d″} {bytes} {rest} {ts} n l p 
           ∙ sym (after-is eaten rows (stateOf s t) d n);
       bytes-are = f .bytes-are;
       counted = f .counted;
+      stops = session-stops (session-calls turns) n l;
       legal = v .legal;
       session-legal = f .legal;
     }
 
 -- THE CLAIM. From a fresh session, any store of the right length and a desk in any legal state, for every list of turns over a stream of octets, with a
--- table of any one length, its content any at each turn, and an answer lent for each entry:
+-- table of any one length, its content any at each turn:
 -- the events in order, with all that they say, the bytes of each finished message, the tree reader's answer and entries and the answer to each connection are
 -- what the rules tell for the bytes consumed so far; so are the frame, the message and the whole desk that are kept; and each session call consumed the bytes up
 -- to and including its event's, or all that it was offered. Every front of a list of turns is a list of turns, so this holds after each turn.

@@ -1,12 +1,11 @@
 -- What comes after the session's call in a turn is what the rules have follow its event.
-use Prim.Native.Nat.{ℕ, _≤_}
+use Prim.Native.Nat.{ℕ, _-_}
 use mathlib.Core.Bool.{Bool, true, false}
 use mathlib.Core.List.{List}
 use mathlib.Core.Path.{_≡_, refl, sym, ap, subst, _∙_}
 use native.Mathlib.Omega.{arith}
-use borrow.Author.Tests.{le-leb}
 use lib.Dec.{eqb}
-use lib.ListN.{length, take, drop}
+use lib.ListN.{length, take}
 use lib.Seq.{take-at}
 use Rattle.integers.proofs.Radix.{Below}
 use Rattle.framing.specs.declared.Event.{Event}
@@ -21,13 +20,13 @@ use Rattle.glow.specs.Message.{Result, result, readAt, saidBy as treeSaid}
 use Rattle.forest.specs.Content.{Item}
 use Rattle.forest.specs.Rows.{itemsIn}
 use Rattle.crosspoints.specs.Figures.{side}
-use Rattle.crosspoints.specs.Crosspoints.{Cells}
-use Rattle.desk_calls.specs.declared.Called.{Called}
-use Rattle.desk_calls.specs.declared.Called.the-variants.{Setup, Done}
-use Rattle.desk_calls.specs.Calls.{deskLegal, Served, handled, Outcome, laid, isReady, called, told as answered}
-use Rattle.desk_calls.proofs.Setup.{called-ready}
+use Rattle.crosspoints.specs.Crosspoints.{Cells, clear}
+use Rattle.desk_calls.specs.Calls.{deskLegal, Served, handled, Outcome, filled, laid, isReady, called, told as answered}
+use Rattle.desk_calls.proofs.Setup.{called-ready, ready-from}
 use Rattle.desk_calls.proofs.Claims.{called-legal}
 use Rattle.tree_round_trip.proofs.Theorems.{read-accepted}
+use Rattle.glow.proofs.Answers.{rows-kept}
+use Rattle.tree_round_trip.proofs.Reading.{read-walk}
 use Rattle.tree_round_trip.proofs.Rewriting.{in-rows}
 use Rattle.turns.specs.Rules.{Desk, isLegal, withCells, refusal, treeOf, Then, nothing, served, follow, asked, follows}
 use Rattle.turns.specs.Turns.{Later, read, desk, isMessage, isRead, Comes, ends, reads, serves, thenOf}
@@ -47,21 +46,24 @@ nothing-follows : (rows : ℕ) (d : Desk) (e : framing.Said) → eqb (e .number)
 unfolding follows
 nothing-follows rows d e h = rw h refl
 
--- "1 SETUP" is not for a legal desk and entries as read, with an answer lent for each
-ready : (s : List ℕ) → Below 256 s → (table : Rows) (root count : ℕ) → readAt s table .answer ≡ Read root count → (lent : List ℕ) → count ≤ length lent
-    → (d : Desk) → isLegal d ≡ true
-    → isReady side (d .figures) (d .path) root (readAt s table .rows) count (itemsIn s (readAt s table .rows) count) lent (d .crosspoints) ≡ true
-unfolding isReady
-ready s octets table root count h lent l d g = rw (le-leb _ _ l, g, le-leb _ _ (in-rows s table h .0), read-accepted s octets table root count h) refl
+-- "1 SETUP" is not for a legal desk and entries as read: the reader takes no longer table and no longer message
+ready : (s : List ℕ) → Below 256 s → (table : Rows) (root count : ℕ) → readAt s table .answer ≡ Read root count → (d : Desk) → isLegal d ≡ true
+    → isReady side (d .figures) (d .path) root (readAt s table .rows) count s (d .crosspoints) ≡ true
+ready s octets table root count h d g =
+    let w = read-walk s table root count h in
+    let k = rows-kept s table in
+    let l = w .most in
+    ready-from side (d .figures) (d .path) root (readAt s table .rows) count s (d .crosspoints) (omega arith) (w .few) g (in-rows s table h .0)
+    (read-accepted s octets table root count h)
 
--- what a call that lays z over the answers lent tells
-laid-tells : (z : Served) (lent : List ℕ) → take (laid z lent .count) (laid z lent .answers) ≡ z .answers
-unfolding laid
-laid-tells z lent = take-at (z .answers) (drop (length (z .answers)) lent) (length (z .answers)) refl
+-- what a call that answers z tells
+pub laid-tells : (z : Served) → take (laid z .count) (laid z .answers) ≡ z .answers
+unfolding laid filled
+laid-tells z = take-at (z .answers) (clear (256 - length (z .answers))) (length (z .answers)) refl
 
-laid-is : (z : Served) (lent : List ℕ) → (laid z lent .number ≡ 0) × (laid z lent .cells ≡ z .cells)
+laid-is : (z : Served) → (laid z .number ≡ 0) × (laid z .cells ≡ z .cells)
 unfolding laid
-laid-is z lent = (refl, refl)
+laid-is z = (refl, refl)
 
 -- as the rules: what is told, and the desk
 pub record Agrees (rows : ℕ) (d : Desk) (e : framing.Said) (x : Then) (d′ : Desk) : Type 0 where
@@ -86,7 +88,7 @@ module _ (rows : ℕ) (d : Desk) (g : isLegal d ≡ true) (n : ℕ) (b : Bool) (
         ap (treeOf m) (sym k) ∙ tree-refused m table a (ap (λ (z : Result). z .answer) q) h in
         record { same = sym (on-message ∙ ap (asked d) x); legal = g }
 
-    module _ (root count : ℕ) (h : readAt m table .answer ≡ Read root count) (lent : List ℕ) (l : count ≤ length lent) where
+    module _ (root count : ℕ) (h : readAt m table .answer ≡ Read root count) where
       abbrev table′ : Rows
       table′ = readAt m table .rows
 
@@ -100,50 +102,44 @@ module _ (rows : ℕ) (d : Desk) (g : isLegal d ≡ true) (n : ℕ) (b : Bool) (
       read-follows =
           on-message ∙ ap (λ (i : ℕ). asked d (treeOf m i)) (sym k) ∙ ap (asked d) (tree-read m octets table root count h)
 
-      desk-served : (o : Outcome) → called side (d .figures) (d .path) root table′ count m lent (d .crosspoints) ≡ o
+      desk-served : (o : Outcome) → called side (d .figures) (d .path) root table′ count m (d .crosspoints) ≡ o
           → Agrees rows d e (thenOf (desk root count table′ o) m) (withCells d (o .cells))
       desk-served o q =
-          let y = called-ready side (d .figures) (d .path) root table′ count m lent (d .crosspoints) (ready m octets table root count h lent l d g) in
-          let x : laid z lent ≡ o = sym y ∙ q in
-          let v = called-legal side (d .figures) (d .path) root table′ count m lent (d .crosspoints) g in
+          let y = called-ready side (d .figures) (d .path) root table′ count m (d .crosspoints) (ready m octets table root count h d g) in
+          let x : laid z ≡ o = sym y ∙ q in
+          let v = called-legal side (d .figures) (d .path) root table′ count m (d .crosspoints) g in
           let said = treeSaid (Read root count) in
           record {
             same =
                 ap (λ (w : Outcome). follow (served said es (w .number) (take (w .count) (w .answers))) (withCells d (w .cells))) (sym x)
-                ∙ ap (λ (i : ℕ). follow (served said es i (take (laid z lent .count) (laid z lent .answers))) (withCells d (laid z lent .cells)))
-                (laid-is z lent .0)
-                ∙ ap (λ (ns : List ℕ). follow (served said es 0 ns) (withCells d (laid z lent .cells))) (laid-tells z lent)
-                ∙ ap (λ (c : Cells). follow (served said es 0 (z .answers)) (withCells d c)) (laid-is z lent .1)
+                ∙ ap (λ (i : ℕ). follow (served said es i (take (laid z .count) (laid z .answers))) (withCells d (laid z .cells)))
+                (laid-is z .0)
+                ∙ ap (λ (ns : List ℕ). follow (served said es 0 ns) (withCells d (laid z .cells))) (laid-tells z)
+                ∙ ap (λ (c : Cells). follow (served said es 0 (z .answers)) (withCells d c)) (laid-is z .1)
                 ∙ sym read-follows;
             legal = subst (λ (w : Outcome). deskLegal side (d .figures) (d .path) (w .cells) ≡ true) q v;
           }
 
-    is-read : (root count : ℕ) (table″ : Rows) → readAt m table ≡ result (Read root count) table″ → (lent : List ℕ) → count ≤ length lent
-        → (o : Outcome) → called side (d .figures) (d .path) root table″ count m lent (d .crosspoints) ≡ o
+    is-read : (root count : ℕ) (table″ : Rows) → readAt m table ≡ result (Read root count) table″
+        → (o : Outcome) → called side (d .figures) (d .path) root table″ count m (d .crosspoints) ≡ o
         → Agrees rows d e (thenOf (desk root count table″ o) m) (withCells d (o .cells))
-    is-read root count table″ q lent l o p =
+    is-read root count table″ q o p =
         let h : readAt m table .answer ≡ Read root count = ap (λ (x : Result). x .answer) q in
         let y : readAt m table .rows ≡ table″ = ap (λ (x : Result). x .rows) q in
-        subst (λ (x : Rows). called side (d .figures) (d .path) root x count m lent (d .crosspoints) ≡ o
-        → Agrees rows d e (thenOf (desk root count x o) m) (withCells d (o .cells))) y (desk-served root count h lent l o) p
-
--- the crosspoints after a call, by its answer
-cells-of : (r : Called) (lent : List ℕ) (cells : Cells) → answered r lent cells .cells ≡ cells
-cells-of Setup lent cells = refl
-cells-of (Done n) lent cells = refl
+        subst (λ (x : Rows). called side (d .figures) (d .path) root x count m (d .crosspoints) ≡ o
+        → Agrees rows d e (thenOf (desk root count x o) m) (withCells d (o .cells))) y (desk-served root count h o) p
 
 pub comes-as : {rows : ℕ} {e : Event} {t : List ℕ} {d d′ : Desk} {x : Later} → Comes rows e t d x d′ → isLegal d ≡ true → Below 256 (saidBy e t .message)
     → Agrees rows d (saidBy e t) (thenOf x (saidBy e t .message)) d′
 comes-as {rows} {e} {t} {d} (ends h) g o = record { same = sym (nothing-follows rows d (saidBy e t) (other e t h)); legal = g }
 comes-as {rows} {t = t} {d = d} (reads {n = n} {b = b} table a table′ k q h) g o = not-read rows d g n b t o table k a table′ q h
-comes-as {rows} {t = t} {d = d} (serves {n = n} {b = b} table root count table′ lent r lent′ cells′ k q l p) g o =
-    subst (λ (c : Cells). Agrees rows d (saidBy (ev.Message n b) t) (thenOf (desk root count table′ (answered r lent′ cells′)) (take n t)) (withCells d c))
-    (cells-of r lent′ cells′) (is-read rows d g n b t o table k root count table′ q lent l (answered r lent′ cells′) p)
+comes-as {rows} {t = t} {d = d} (serves {n = n} {b = b} table root count table′ r cells′ k q p) g o =
+    is-read rows d g n b t o table k root count table′ q (answered r cells′) p
 
 -- A legal desk stays legal over a turn, whatever the message holds.
 pub comes-legal : {rows : ℕ} {e : Event} {t : List ℕ} {d d′ : Desk} {x : Later} → Comes rows e t d x d′ → isLegal d ≡ true → isLegal d′ ≡ true
 comes-legal (ends h) g = g
 comes-legal (reads table a table′ k q h) g = g
-comes-legal {d = d} (serves table root count table′ lent r lent′ cells′ k q l p) g =
-    subst (λ (c : Cells). deskLegal side (d .figures) (d .path) c ≡ true) (ap (λ (o : Outcome). o .cells) p ∙ cells-of r lent′ cells′)
-    (called-legal side (d .figures) (d .path) root table′ count _ lent (d .crosspoints) g)
+comes-legal {d = d} (serves table root count table′ r cells′ k q p) g =
+    subst (λ (c : Cells). deskLegal side (d .figures) (d .path) c ≡ true) (ap (λ (o : Outcome). o .cells) p)
+    (called-legal side (d .figures) (d .path) root table′ count _ (d .crosspoints) g)

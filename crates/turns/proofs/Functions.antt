@@ -2,7 +2,7 @@
 use mathlib.Core.Bool.{true}
 use mathlib.Core.List.{List, [], append-nil}
 use mathlib.Core.Path.{_≡_, sym, ap, subst, _∙_}
-use Prim.Native.Nat.{ℕ, _≤_}
+use Prim.Native.Nat.{ℕ}
 use lib.ListN.{length}
 use Rattle.integers.proofs.Radix.{Below}
 use Rattle.framing.specs.declared.Session.{Session}
@@ -28,7 +28,7 @@ pub calls-claim : {rows : ℕ} {s : Session} {t t′ : List ℕ} {d d′ : Desk}
     → isLegal d ≡ true → Below 256 bytes → CallByCall rows (sessionOf begin) t d bytes ts s t′ d′ rest → AsRules rows begin d 0 ts s t′ d′ bytes rest
 calls-claim room g b k = claim room g b (calls-turns k)
 
--- Whatever list of calls of `turn` is made, an answer lent for each row of the table, the same.
+-- Whatever list of calls of `turn` is made, the same.
 pub function-claim : {rows : ℕ} {f : Figures} {path : List ℕ} {s : Session} {t t′ : List ℕ} {cells cells′ : Cells} {bytes rest : List ℕ} {ts : List Turn}
     → length t ≡ storeLength → isLegal (deskAt f path cells) ≡ true → Below 256 bytes
     → Made rows f path (sessionOf begin) t cells bytes ts s t′ cells′ rest
@@ -37,7 +37,7 @@ function-claim room g b k = claim room g b (made-turns k)
 
 -- .. and for every stream of octets, every way to cut it, every store of the right length, every legal desk and every table at each call there is a list
 -- of calls that offers the chunks, each until it is consumed; it tells exactly what the rules tell for the stream, and leaves what they keep.
-module _ (rows : ℕ) (tables : ℕ → Rows) (sized : (i : ℕ) → length (tables i) ≡ rows) (lents : ℕ → List ℕ) (enough : (i : ℕ) → rows ≤ length (lents i))
+module _ (rows : ℕ) (tables : ℕ → Rows) (sized : (i : ℕ) → length (tables i) ≡ rows)
     (f : Figures) (path : List ℕ) where
   pub record Offered (t : List ℕ) (cells : Cells) (bytes : List ℕ) (chunks : List (List ℕ)) : Type 0 where
     pub turns : List Turn
@@ -54,7 +54,7 @@ module _ (rows : ℕ) (tables : ℕ → Rows) (sized : (i : ℕ) → length (tab
   function-every-cut bytes b chunks e t room cells g =
       let d = deskAt f path cells in
       let k = framing.some-turns chunks (sessionOf begin) t (fresh-legal room) in
-      let m = some-made rows tables sized lents enough f path 0 cells (k .made) in
+      let m = some-made rows tables sized f path 0 cells (k .made) in
       let made = subst (λ (bs : List ℕ). Made rows f path (sessionOf begin) t cells bs (m .turns) (k .session) (k .store) (m .cells″) []) e (m .calls-made) in
       let a = function-claim room g b made in
       let x : offers.eaten (calls (m .turns)) ≡ bytes = sym (append-nil (offers.eaten (calls (m .turns)))) ∙ a .bytes-are in

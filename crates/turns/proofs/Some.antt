@@ -1,5 +1,5 @@
 -- The claim speaks of something: for every stream, every way to cut it, every table and every legal desk there is a list of turns.
-use Prim.Native.Nat.{ℕ, suc, _≤_}
+use Prim.Native.Nat.{ℕ, suc}
 use mathlib.Core.List.{List, [], _∷_, append-nil}
 use mathlib.Core.Bool.{true}
 use mathlib.Core.Path.{_≡_, refl, sym, ap, subst, _∙_}
@@ -19,8 +19,8 @@ use Rattle.turns.specs.Whole.{laterAt}
 use Rattle.turns.proofs.Claim.{claim}
 use Rattle.turns.proofs.Comes.{comes-at}
 
--- a table for each turn, and answers lent: as many as the table has entries
-module _ (rows : ℕ) (tables : ℕ → Rows) (sized : (i : ℕ) → length (tables i) ≡ rows) (lents : ℕ → List ℕ) (enough : (i : ℕ) → rows ≤ length (lents i)) where
+-- a table for each turn
+module _ (rows : ℕ) (tables : ℕ → Rows) (sized : (i : ℕ) → length (tables i) ≡ rows) where
   -- session calls, made turns: the i-th uses the i-th table
   record Made (s : Session) (t : List ℕ) (d : Desk) (rest : List ℕ) (cs : List offers.Turn) (s″ : Session) (t″ rest″ : List ℕ) : Type 0 where
     pub turns : List Turn
@@ -32,12 +32,12 @@ module _ (rows : ℕ) (tables : ℕ → Rows) (sized : (i : ℕ) → length (tab
       → Made s t d rest cs s″ t″ rest″
   made i d offers.none = record { turns = []; desk = d; made = none; same = refl }
   made i d (offers.turn {t′ = t′} c later r call more) =
-      let x = laterAt d (r .event) t′ (tables i) (lents i) in
+      let x = laterAt d (r .event) t′ (tables i) in
       let f = made (suc i) (withCells d (x .crosspoints)) more in
       record {
         turns = record { offered = c; fed = r; store = t′; later = x .later } ∷ f .turns;
         desk = f .desk;
-        made = turn c later r (x .later) call (comes-at rows d t′ (tables i) (sized i) (lents i) (enough i) (r .event)) (f .made);
+        made = turn c later r (x .later) call (comes-at rows d t′ (tables i) (sized i) (r .event)) (f .made);
         same = ap (λ (xs : List offers.Turn). record { offered = c; fed = r; store = t′ } ∷ xs) (f .same);
       }
 
@@ -56,7 +56,7 @@ module _ (rows : ℕ) (tables : ℕ → Rows) (sized : (i : ℕ) → length (tab
       }
 
   -- THE CLAIM, with nothing left open. For every stream of octets, every way to cut it, every store of the right length, every legal desk, and whatever tables
-  -- of one length, and an answer for each row, the turns are given, there is a list of turns from a fresh session that offers the chunks, each until it is
+  -- of one length the turns are given, there is a list of turns from a fresh session that offers the chunks, each until it is
   -- consumed; it tells exactly what the rules tell for the stream, and the frame, the message and the desk that it leaves are those that the rules keep.
   pub every-cut : (bytes : List ℕ) → Below 256 bytes → (chunks : List (List ℕ)) → offers.joined chunks ≡ bytes → (t : List ℕ) → length t ≡ storeLength
       → (d : Desk) → isLegal d ≡ true

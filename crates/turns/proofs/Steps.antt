@@ -20,11 +20,10 @@ use Rattle.glow.specs.Message.{Result, result, readAt}
 use Rattle.crosspoints.specs.Figures.{side}
 use Rattle.crosspoints.specs.Crosspoints.{Cells}
 use Rattle.desk_calls.specs.declared.Called.{Called}
-use Rattle.desk_calls.specs.declared.Called.the-variants.{Setup as Unready, Done}
 use Rattle.desk_calls.specs.Calls.{called, told as answered}
 use Rattle.turns.specs.Rules.{Desk}
 use Rattle.turns.specs.Turns.{none, read, desk, isMessage, isRead}
-use Rattle.turns.specs.Whole.{Left, left, deskTo, answerTo, readTo, laterAt}
+use Rattle.turns.specs.Whole.{Left, left, unasked, deskTo, answerTo, readTo, laterAt}
 
 -- a message that is no shorter than the store is all of it
 pub front-all : (t : List ℕ) (n : ℕ) → length t ≤ n → take (length t) t ≡ take n t
@@ -53,49 +52,40 @@ never : {P : Type 0} → true ≡ false → P
 never e = let z : _≡_ {A = ℕ} 0 1 = cc in absurd (omega arith)
 
 -- nothing comes after another event than 3
-pub later-none : (d : Desk) (e : Event) (t : List ℕ) (table : Rows) (lent : List ℕ) → isMessage e ≡ false
-    → laterAt d e t table lent ≡ left none table lent (d .crosspoints)
-later-none d ev.More t table lent h = refl
-later-none d ev.Setup t table lent h = refl
-later-none d (ev.Piece b) t table lent h = refl
-later-none d (ev.Message n b) t table lent h = never h
-later-none d ev.Request t table lent h = refl
-later-none d ev.Response t table lent h = refl
-later-none d (ev.Refused f b) t table lent h = refl
+pub later-none : (d : Desk) (e : Event) (t : List ℕ) (table : Rows) → isMessage e ≡ false → laterAt d e t table ≡ unasked none table (d .crosspoints)
+later-none d ev.More t table h = refl
+later-none d ev.Setup t table h = refl
+later-none d (ev.Piece b) t table h = refl
+later-none d (ev.Message n b) t table h = never h
+later-none d ev.Request t table h = refl
+later-none d ev.Response t table h = refl
+later-none d (ev.Refused f b) t table h = refl
 
-pub later-message : (d : Desk) (e : Event) (t : List ℕ) (table : Rows) (lent : List ℕ) (n n′ : ℕ) {b : Bool} {x : Left} → e ≡ ev.Message n b
-    → take n′ t ≡ take n t → readTo d (take n′ t) table lent ≡ x → laterAt d e t table lent ≡ x
-later-message d e t table lent n n′ q k h =
-    ap (λ (i : Event). laterAt d i t table lent) q ∙ ap (λ (m : List ℕ). readTo d m table lent) (sym k) ∙ h
+pub later-message : (d : Desk) (e : Event) (t : List ℕ) (table : Rows) (n n′ : ℕ) {b : Bool} {x : Left} → e ≡ ev.Message n b
+    → take n′ t ≡ take n t → readTo d (take n′ t) table ≡ x → laterAt d e t table ≡ x
+later-message d e t table n n′ q k h =
+    ap (λ (i : Event). laterAt d i t table) q ∙ ap (λ (m : List ℕ). readTo d m table) (sym k) ∙ h
 
 -- the tree reader's answer
-to-answer : (d : Desk) (m : List ℕ) (table : Rows) (lent : List ℕ) (a : Answer) (table′ : Rows) → readAt m table ≡ result a table′
-    → readTo d m table lent ≡ answerTo d m lent a table′
+to-answer : (d : Desk) (m : List ℕ) (table : Rows) (a : Answer) (table′ : Rows) → readAt m table ≡ result a table′
+    → readTo d m table ≡ answerTo d m a table′
 unfolding readTo
-to-answer d m table lent a table′ q = ap (λ (x : Result). answerTo d m lent (x .answer) (x .rows)) q
+to-answer d m table a table′ q = ap (λ (x : Result). answerTo d m (x .answer) (x .rows)) q
 
-refused-to : (d : Desk) (m lent : List ℕ) (a : Answer) (table : Rows) → isRead a ≡ false
-    → answerTo d m lent a table ≡ left (read a table) table lent (d .crosspoints)
-refused-to d m lent Setup table h = refl
-refused-to d m lent (Refused number place) table h = refl
-refused-to d m lent (Room count) table h = refl
-refused-to d m lent (Read root count) table h = never h
+refused-to : (d : Desk) (m : List ℕ) (a : Answer) (table : Rows) → isRead a ≡ false
+    → answerTo d m a table ≡ unasked (read a table) table (d .crosspoints)
+refused-to d m Setup table h = refl
+refused-to d m (Refused number place) table h = refl
+refused-to d m (Room count) table h = refl
+refused-to d m (Read root count) table h = never h
 
-pub to-refused : (d : Desk) (m : List ℕ) (table : Rows) (lent : List ℕ) (a : Answer) (table′ : Rows) → readAt m table ≡ result a table′ → isRead a ≡ false
-    → readTo d m table lent ≡ left (read a table′) table′ lent (d .crosspoints)
-to-refused d m table lent a table′ q h = to-answer d m table lent a table′ q ∙ refused-to d m lent a table′ h
+pub to-refused : (d : Desk) (m : List ℕ) (table : Rows) (a : Answer) (table′ : Rows) → readAt m table ≡ result a table′ → isRead a ≡ false
+    → readTo d m table ≡ unasked (read a table′) table′ (d .crosspoints)
+to-refused d m table a table′ q h = to-answer d m table a table′ q ∙ refused-to d m a table′ h
 
-desk-to : (root count : ℕ) (table : Rows) (r : Called) (lent : List ℕ) (cells : Cells)
-    → deskTo root count table (answered r lent cells) ≡ left (desk root count table (answered r lent cells)) table lent cells
-desk-to root count table Unready lent cells = refl
-desk-to root count table (Done n) lent cells = refl
-
-pub to-served : (d : Desk) (m : List ℕ) (table : Rows) (lent : List ℕ) (a : Answer) (table′ : Rows) (root count : ℕ) (r : Called) (lent′ : List ℕ)
-    (cells′ : Cells) → readAt m table ≡ result a table′ → a ≡ Read root count
-    → called side (d .figures) (d .path) root table′ count m lent (d .crosspoints) ≡ answered r lent′ cells′
-    → readTo d m table lent ≡ left (desk root count table′ (answered r lent′ cells′)) table′ lent′ cells′
-to-served d m table lent a table′ root count r lent′ cells′ q h k =
-    to-answer d m table lent a table′ q
-    ∙ ap (λ (x : Answer). answerTo d m lent x table′) h
-    ∙ ap (deskTo root count table′) k
-    ∙ desk-to root count table′ r lent′ cells′
+pub to-served : (d : Desk) (m : List ℕ) (table : Rows) (a : Answer) (table′ : Rows) (root count : ℕ) (r : Called) (cells′ : Cells)
+    → readAt m table ≡ result a table′ → a ≡ Read root count
+    → called side (d .figures) (d .path) root table′ count m (d .crosspoints) ≡ answered r cells′
+    → readTo d m table ≡ left (desk root count table′ (answered r cells′)) (r .answers) table′ cells′
+to-served d m table a table′ root count r cells′ q h k =
+    to-answer d m table a table′ q ∙ ap (λ (x : Answer). answerTo d m x table′) h ∙ ap (deskTo root count table′) k

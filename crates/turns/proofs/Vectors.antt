@@ -28,8 +28,8 @@ use Rattle.forest.specs.Content.{Content, nothing as absent, word, bytes, Item,
 use Rattle.crosspoints.specs.declared.Figures.{Figures}
 use Rattle.crosspoints.specs.Figures.{side}
 use Rattle.crosspoints.specs.Crosspoints.{Cells}
-use Rattle.desk_calls.specs.Connections.{numbersIn, isQualified, pathUp, askOf, asksIn}
-use Rattle.desk_calls.specs.Calls.{same, answered, Served, served as servedIn, handled}
+use Rattle.connections.specs.Connections.{numbersIn, isQualified, pathUp, askOf, asksIn, same}
+use Rattle.desk_calls.specs.Calls.{answered, Served, served as servedIn, handled}
 use Rattle.turns.specs.Rules.{Desk, keep, treeOf, Then, nothing, refused, served, follows, Told, tells, after}
 
 abbrev desk : Figures → Cells → Desk

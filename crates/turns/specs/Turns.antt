@@ -11,6 +11,7 @@ use Rattle.framing.specs.declared.Event.the-variants as ev
 use Rattle.framing.specs.declared.Fed.{Fed}
 use Rattle.framing.specs.declared.Session.{Session}
 use Rattle.framing.specs.Rules.{State}
+use Rattle.framing.specs.Rules as stream
 use Rattle.framing.specs.Session.{saidBy, stateOf, Legal, answers, feeds}
 use Rattle.framing.specs.Offers as offers
 use Rattle.entries.specs.Entry.{Rows}
@@ -25,7 +26,7 @@ use Rattle.desk_calls.specs.Calls.{Outcome, called, told as answered}
 use Rattle.turns.specs.Rules.{Desk, isLegal, withCells, keep, Then, nothing, refused, served, Told, noted, tells, after}
 
 -- What came after the session's call: nothing; the tree reader's answer, other than 0, and the table after it; its answer 0 (Root's kind and how many
--- entries), the table after it, and the desk's answer with the lent answers and the crosspoints after it.
+-- entries), the table after it, and the desk's answer with the crosspoints after it.
 pub data Later : Type 0 where
   none : Later
   read : Answer → Rows → Later
@@ -62,11 +63,11 @@ pub data Comes (rows : ℕ) : Event → List ℕ → Desk → Later → Desk →
   -- the tree reader's call on the message, which is the store's first bytes; it gives another number than 0
   reads : {t : List ℕ} {d : Desk} {n : ℕ} {b : Bool} (table : Rows) (a : Answer) (table′ : Rows) → length table ≡ rows
       → readAt (take n t) table ≡ result a table′ → isRead a ≡ false → Comes rows (ev.Message n b) t d (read a table′) d
-  -- it gives 0, and then the desk's call on those entries, as read, the message beside them; an answer is lent for each entry
-  serves : {t : List ℕ} {d : Desk} {n : ℕ} {b : Bool} (table : Rows) (root count : ℕ) (table′ : Rows) (lent : List ℕ) (r : Called) (lent′ : List ℕ)
-      (cells′ : Cells) → length table ≡ rows → readAt (take n t) table ≡ result (Read root count) table′ → count ≤ length lent
-      → called side (d .figures) (d .path) root table′ count (take n t) lent (d .crosspoints) ≡ answered r lent′ cells′
-      → Comes rows (ev.Message n b) t d (desk root count table′ (answered r lent′ cells′)) (withCells d cells′)
+  -- it gives 0, and then the desk's call on those entries, as read, the message beside them
+  serves : {t : List ℕ} {d : Desk} {n : ℕ} {b : Bool} (table : Rows) (root count : ℕ) (table′ : Rows) (r : Called) (cells′ : Cells)
+      → length table ≡ rows → readAt (take n t) table ≡ result (Read root count) table′
+      → called side (d .figures) (d .path) root table′ count (take n t) (d .crosspoints) ≡ answered r cells′
+      → Comes rows (ev.Message n b) t d (desk root count table′ (answered r cells′)) (withCells d cells′)
 
 -- A list of turns from the session s, the store t and the desk d, with the bytes rest yet to come. Each turn takes the session, the store and the desk that
 -- the turn before it left; the table's content may be any at each.
@@ -86,7 +87,7 @@ calls [] = []
 calls (x ∷ xs) = callOf x ∷ calls xs
 
 -- What came after, told as the rules tell it. The message m is the store's first bytes; the entries are those that stand in the table's first rows; the
--- desk's number is 0 or 1, and its answers are the first of those lent.
+-- desk's number is 0 or 1, and its answers are the first bytes of those that it gave.
 abbrev pub thenOf : Later → List ℕ → Then
 thenOf none m = nothing
 thenOf (read a table′) m = refused (treeSaid a)
@@ -99,6 +100,15 @@ told (x ∷ xs) n =
     let e = saidBy (x .fed .event) (x .store) in
     noted e (thenOf (x .later) (e .message)) (n + x .fed .consumed) (told xs (n + x .fed .consumed))
 
+-- "A call consumes bytes up to and including the one that makes an event, or all of them": from the state s, n bytes having come before, the rules make of the
+-- bytes that a call consumed its event and no other, at the last of them, or none.
+abbrev pub Stops : State → ℕ → List offers.Turn → Type 0
+Stops s n [] = Unit {0}
+Stops s n (x ∷ xs) =
+    let bytes = take (x .fed .consumed) (x .offered) in
+    let m = n + x .fed .consumed in
+    (stream.happens s n bytes ≡ stream.noted (saidBy (x .fed .event) (x .store)) m []) × Stops (stream.after s bytes) m xs
+
 -- What holds of a list of turns from a state of the stream and a desk.
 pub record AsRules (rows : ℕ) (s : State) (d : Desk) (n : ℕ) (ts : List Turn) (s″ : Session) (t″ : List ℕ) (d″ : Desk) (bytes rest : List ℕ) : Type 0 where
   -- what the turns told is what the rules tell for the bytes consumed
@@ -107,8 +117,10 @@ pub record AsRules (rows : ℕ) (s : State) (d : Desk) (n : ℕ) (ts : List Turn
   pub keeps : keep (stateOf s″ t″) d″ ≡ after rows (keep s d) (offers.eaten (calls ts))
   -- the bytes consumed are the first of those to come
   pub bytes-are : offers.eaten (calls ts) ++ rest ≡ bytes
-  -- a session call that gave no event consumed all it was offered; one that gave an event stopped at its byte: `tells` has the offset
+  -- a session call that gave no event consumed all it was offered
   pub counted : offers.Counted (calls ts)
+  -- one that gave an event consumed the bytes up to and including that event's
+  pub stops : Stops s n (calls ts)
   -- what the turns leave is fit for others
   pub legal : isLegal d″ ≡ true
   pub session-legal : Legal s″ t″

@@ -10,8 +10,8 @@ use Rattle.glow.specs.declared.Answer.the-variants.{Setup, Refused, Room, Read}
 use Rattle.glow.specs.Message.{Result, readAt}
 use Rattle.crosspoints.specs.declared.Figures.{Figures}
 use Rattle.crosspoints.specs.Figures.{side}
-use Rattle.crosspoints.specs.Crosspoints.{Cells}
-use Rattle.desk_calls.specs.Calls.{Outcome, called, told as answered}
+use Rattle.crosspoints.specs.Crosspoints.{Cells, clear}
+use Rattle.desk_calls.specs.Calls.{Outcome, outcome, called}
 use Rattle.turns.specs.declared.After.{After}
 use Rattle.turns.specs.declared.After.the-variants as after
 use Rattle.turns.specs.Rules.{Desk}
@@ -20,48 +20,51 @@ use Rattle.turns.specs.Turns.{Later, none, read, desk}
 abbrev pub deskAt : Figures → List ℕ → Cells → Desk
 deskAt f path cells = record { figures = f; path = path; crosspoints = cells }
 
--- What came after the session's call, and the table, the lent answers and the crosspoints after it.
+-- What came after the session's call, the answers, and the table and the crosspoints after it.
 pub record Left : Type 0 where
   pub later : Later
+  pub answers : List ℕ
   pub table : Rows
-  pub lent : List ℕ
   pub crosspoints : Cells
 
-abbrev pub left : Later → Rows → List ℕ → Cells → Left
-left x table lent cells = record { later = x; table = table; lent = lent; crosspoints = cells }
+abbrev pub left : Later → List ℕ → Rows → Cells → Left
+left x answers table cells = record { later = x; answers = answers; table = table; crosspoints = cells }
+
+-- where the desk was not called there are no answers
+abbrev pub unasked : Later → Rows → Cells → Left
+unasked x table cells = left x (clear 256) table cells
 
 -- For each case of the function's answer what came after.
-abbrev pub laterOf : After → Rows → List ℕ → Cells → Later
-laterOf after.Nothing table lent cells = none
-laterOf (after.Refused a) table lent cells = read a table
-laterOf (after.Served root count r) table lent cells = desk root count table (answered r lent cells)
+abbrev pub laterOf : After → List ℕ → Rows → Cells → Later
+laterOf after.Nothing answers table cells = none
+laterOf (after.Refused a) answers table cells = read a table
+laterOf (after.Served root count number answered) answers table cells = desk root count table (outcome number answered answers cells)
 
 -- The function's answer, with what it leaves.
-abbrev pub gave : After → Rows → List ℕ → Cells → Left
-gave x table lent cells = left (laterOf x table lent cells) table lent cells
+abbrev pub gave : After → List ℕ → Rows → Cells → Left
+gave x answers table cells = left (laterOf x answers table cells) answers table cells
 
 -- the desk's call on the entries
 abbrev pub deskTo : ℕ → ℕ → Rows → Outcome → Left
-deskTo root count table o = left (desk root count table o) table (o .answers) (o .cells)
+deskTo root count table o = left (desk root count table o) (o .answers) table (o .cells)
 
 -- .. if the tree reader gave 0
-abbrev pub answerTo : Desk → List ℕ → List ℕ → Answer → Rows → Left
-answerTo d m lent Setup table = left (read Setup table) table lent (d .crosspoints)
-answerTo d m lent (Refused number place) table = left (read (Refused number place) table) table lent (d .crosspoints)
-answerTo d m lent (Room count) table = left (read (Room count) table) table lent (d .crosspoints)
-answerTo d m lent (Read root count) table =
-    deskTo root count table (called side (d .figures) (d .path) root table count m lent (d .crosspoints))
+abbrev pub answerTo : Desk → List ℕ → Answer → Rows → Left
+answerTo d m Setup table = unasked (read Setup table) table (d .crosspoints)
+answerTo d m (Refused number place) table = unasked (read (Refused number place) table) table (d .crosspoints)
+answerTo d m (Room count) table = unasked (read (Room count) table) table (d .crosspoints)
+answerTo d m (Read root count) table = deskTo root count table (called side (d .figures) (d .path) root table count m (d .crosspoints))
 
 -- the tree reader's call on a message
-unfoldable pub readTo : Desk → List ℕ → Rows → List ℕ → Left
-readTo d m table lent = let x : Result = readAt m table in answerTo d m lent (x .answer) (x .rows)
+unfoldable pub readTo : Desk → List ℕ → Rows → Left
+readTo d m table = let x : Result = readAt m table in answerTo d m (x .answer) (x .rows)
 
 -- .. if the session gave 3; the message is the store's first bytes
-abbrev pub laterAt : Desk → Event → List ℕ → Rows → List ℕ → Left
-laterAt d ev.More t table lent = left none table lent (d .crosspoints)
-laterAt d ev.Setup t table lent = left none table lent (d .crosspoints)
-laterAt d (ev.Piece b) t table lent = left none table lent (d .crosspoints)
-laterAt d (ev.Message n b) t table lent = readTo d (take n t) table lent
-laterAt d ev.Request t table lent = left none table lent (d .crosspoints)
-laterAt d ev.Response t table lent = left none table lent (d .crosspoints)
-laterAt d (ev.Refused f b) t table lent = left none table lent (d .crosspoints)
+abbrev pub laterAt : Desk → Event → List ℕ → Rows → Left
+laterAt d ev.More t table = unasked none table (d .crosspoints)
+laterAt d ev.Setup t table = unasked none table (d .crosspoints)
+laterAt d (ev.Piece b) t table = unasked none table (d .crosspoints)
+laterAt d (ev.Message n b) t table = readTo d (take n t) table
+laterAt d ev.Request t table = unasked none table (d .crosspoints)
+laterAt d ev.Response t table = unasked none table (d .crosspoints)
+laterAt d (ev.Refused f b) t table = unasked none table (d .crosspoints)

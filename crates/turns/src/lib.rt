@@ -1,6 +1,5 @@
 // A whole turn: session, tree reader and desk. The claim over every list of turns is proofs/Claim.antt.
 use crosspoints::Figures;
-use desk_calls::Called;
 use framing::Event;
 use framing::Fed;
 use framing::Session;
@@ -11,7 +10,7 @@ ghost use lib.ListN.{length, take};
 ghost use Rattle.framing.specs.Session.{feeds, answers};
 ghost use Rattle.turns.specs.Whole.{deskAt, gave, readTo, laterAt};
 
-// What came after the session's call: nothing; the tree reader's answer, other than 0; its answer 0 and the desk's.
+// What came after the session's call: nothing; the tree reader's answer, other than 0; its answer 0, the desk's number and how many connections it answered.
 pub enum After {
     Nothing,
     Refused {
@@ -20,13 +19,22 @@ pub enum After {
     Served {
         root: u64,
         count: usize,
-        called: Called,
+        number: u64,
+        answered: usize,
     },
 }
 
+// What came after a finished message, and the answers in order, then zeros.
+pub struct Handled {
+    pub after: After,
+    pub answers: [u8; 256],
+}
+
+// What the session's call gave, what came after it, and the answers in order, then zeros.
 pub struct Turned {
     pub fed: Fed,
     pub after: After,
+    pub answers: [u8; 256],
 }
 
 // How many of its first n bytes a store has: n, or its length where that is less.
@@ -47,21 +55,26 @@ pub fn message(
     figures: Figures,
     path: &[u64],
     crosspoints: &mut [u8],
-    lent: &mut [u64],
-) -> After
-    ensures { λ r. ⌜ readTo (deskAt figures (now (path .entry)) (now (crosspoints .entry))) (now (m .entry)) (now (table .entry)) (now (lent .entry))
-        ≡ gave r (now (table .exit)) (now (lent .exit)) (now (crosspoints .exit)) ⌝ }
+) -> Handled
+    ensures { λ r. ⌜ readTo (deskAt figures (now (path .entry)) (now (crosspoints .entry))) (now (m .entry)) (now (table .entry))
+        ≡ gave (r .after) (r .answers) (now (table .exit)) (now (crosspoints .exit)) ⌝ }
 {
     let answer = glow::read(m, table);
     let Answer::Read { root, count } = answer else {
-        return After::Refused { answer };
+        return Handled {
+            after: After::Refused { answer },
+            answers: [0u8; 256],
+        };
     };
-    let called = desk_calls::call(figures, path, table, count, root, m, crosspoints, lent);
-    After::Served {
+    let called = desk_calls::call(figures, path, table, count, root, m, crosspoints);
+    let answers = called.answers;
+    let after = After::Served {
         root,
         count,
-        called,
-    }
+        number: called.number,
+        answered: called.count,
+    };
+    Handled { after, answers }
 }
 
 // A turn: the session's call on a chunk; if it gives 3, the tree reader's call on that message; if that gives 0, the desk's call on those entries.
@@ -73,12 +86,10 @@ pub fn turn(
     figures: Figures,
     path: &[u64],
     crosspoints: &mut [u8],
-    lent: &mut [u64],
 ) -> Turned
     ensures { λ r. ⌜ feeds session (now (store .entry)) (now (chunk .entry)) ≡ answers (r .fed) (now (store .exit)) ⌝ }
-    ensures { λ r. ⌜ laterAt (deskAt figures (now (path .entry)) (now (crosspoints .entry))) (r .fed .event) (now (store .exit))
-        (now (table .entry)) (now (lent .entry))
-        ≡ gave (r .after) (now (table .exit)) (now (lent .exit)) (now (crosspoints .exit)) ⌝ }
+    ensures { λ r. ⌜ laterAt (deskAt figures (now (path .entry)) (now (crosspoints .entry))) (r .fed .event) (now (store .exit)) (now (table .entry))
+        ≡ gave (r .after) (r .answers) (now (table .exit)) (now (crosspoints .exit)) ⌝ }
 {
     let fed = framing::feed(session, store, chunk);
     let event = fed.event;
@@ -86,9 +97,16 @@ pub fn turn(
         return Turned {
             fed,
             after: After::Nothing,
+            answers: [0u8; 256],
         };
     };
     let n = front(store, length);
-    let after = message(&store[..n], table, figures, path, crosspoints, lent);
-    Turned { fed, after }
+    let handled = message(&store[..n], table, figures, path, crosspoints);
+    let after = handled.after;
+    let answers = handled.answers;
+    Turned {
+        fed,
+        after,
+        answers,
+    }
 }

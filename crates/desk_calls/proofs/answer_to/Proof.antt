@@ -1,4 +1,5 @@
-use mathlib.Core.Path.{_∙_}
+use mathlib.Core.Path.{sym, _∙_}
+use Rattle.connections.proofs.Walk.{has-is}
 use borrow.Author.Tests.{not-true, not-false}
 use Rattle.desk_calls.proofs.Served.{other-matrix, own-matrix}
 use borrow.Author.Needs.{needs}
@@ -18,7 +19,7 @@ returns c =
     let the-is-path = c .before .is-path in
     let the-if1 = c .if1 in
     other-matrix _ _ _ _ _ (the-Start .pre .1 .1 .0) _ (the-Start .pre .1 .1 .1) _ _ (the-word-at .ensures)
-    (the-is-path .ensures ∙ not-true _ (the-if1 .taken))
+    (sym (has-is _ _ _ (the-Start .pre .1 .0)) ∙ the-is-path .ensures ∙ not-true _ (the-if1 .taken))
 
 cell-at-requires : tie.Need-cell-at-requires
 cell-at-requires c κs = search needs
@@ -35,8 +36,8 @@ number-of-requires-2 c κs = search needs
 cell-at-requires-3 : tie.Need-cell-at-requires-3
 cell-at-requires-3 c κs = search needs
 
-ask-requires : tie.Need-ask-requires
-ask-requires c κs = search needs
+ask-member-requires : tie.Need-ask-member-requires
+ask-member-requires c κs = search needs
 
 same-length : tie.Need-same-length
 same-length c = search needs
@@ -52,8 +53,8 @@ returns-2 c =
     let the-cell-at3 = c .before .before .before .before .cell-at3 in
     let the-number-of = c .before .before .before .before .before .before .before .number-of in
     let the-number-of2 = c .before .before .before .before .before .number-of2 in
-    let the-ask = c .before .before .ask in
-    own-matrix _ _ _ _ _ (the-Start .pre .1 .1 .0) _ (the-Start .pre .1 .1 .1) _ _ (the-word-at .ensures) (the-is-path .ensures ∙ not-false _ (the-if1 .left))
+    let the-ask = c .before .before .ask-member in
+    own-matrix _ _ _ _ _ (the-Start .pre .1 .1 .0) _ (the-Start .pre .1 .1 .1) _ _ (the-word-at .ensures) (sym (has-is _ _ _ (the-Start .pre .1 .0)) ∙ the-is-path .ensures ∙ not-false _ (the-if1 .left))
     _ _ _ _ _ (the-cell-at .ensures) (the-cell-at2 .ensures) (the-cell-at3 .ensures) (the-number-of .ensures _) (the-number-of2 .ensures _) _
     (the-ask .ensures)
 
@@ -69,6 +70,6 @@ answer-to-spec =
     cell-at-requires-2
     number-of-requires-2
     cell-at-requires-3
-    ask-requires
+    ask-member-requires
     same-length
     returns-2)

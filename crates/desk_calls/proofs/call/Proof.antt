@@ -1,91 +1,146 @@
-use native.Mathlib.Omega.{arith}
-use mathlib.Core.Path.{_∙_}
-use borrow.Author.Tests.{not-true, not-false}
+use Rattle.desk_calls.proofs.Setup.{measure-rows, measure-few, desk-legal, desk-fits, path-short}
+use Rattle.desk_calls.proofs.Setup.{setup-rows, setup-message, setup-desk, setup-entries, not-setup, unready-told, laid-zeros}
+use Rattle.crosspoints.specs.Crosspoints.{clear}
 use Rattle.member_sizes.specs.Spelling.{leastReal}
-use Rattle.desk_calls.proofs.Setup.{setup-lent, setup-desk, setup-entries, not-setup, measure-rows, desk-legal, desk-fits, path-short}
+use borrow.Author.Tests.{not-true, not-false}
+use mathlib.Core.Path.{refl, _∙_}
+use native.Mathlib.Omega.{arith}
 use borrow.Author.Needs.{needs}
 use Rattle.desk_calls.proofs.call.Statement.{statement}
 use Rattle.desk_calls.proofs.call.Tie as tie
+use Rattle.desk_calls.proofs.call.Reads as reads
+use Rattle.desk_calls.proofs.call.Lts as lts
+use Rattle.desk_calls.proofs.is_legal.Reads as is-legal-reads
+use Rattle.desk_calls.proofs.serve.Reads as serve-reads
+use Rattle.desk_calls.proofs.unready.Reads as unready-reads
+use Rattle.tree_sizes.proofs.measure.Reads as measure-reads
 
+-- src/lib.rt:529:9
+unready-requires : tie.Need-unready-requires
+unready-requires c κs = search needs
+
+-- src/lib.rt:529:9
 returns : tie.Need-returns
 returns c =
-    let the-if1 = c .if1 in
-    setup-lent 64 _ _ _ _ _ _ _ _ (the-if1 .taken)
+    let the-if1 = c .before .if1 in
+    let the-unready = c .unready in
+    setup-rows 64 _ _ _ _ _ _ _ (the-if1 .taken) ∙ unready-told _ _ (the-unready .ensures)
 
+-- src/lib.rt:532:9
+unready-requires-2 : tie.Need-unready-requires-2
+unready-requires-2 c κs = search needs
+
+-- src/lib.rt:532:9
+returns-2 : tie.Need-returns-2
+returns-2 c =
+    let the-if1 = c .before .before .if1 in
+    let the-if2 = c .before .if2 in
+    let the-unready2 = c .unready2 in
+    setup-message 64 _ _ _ _ _ _ _ (the-if1 .left) (the-if2 .taken) ∙ unready-told _ _ (the-unready2 .ensures)
+
+-- src/lib.rt:534:9
 is-legal-requires : tie.Need-is-legal-requires
 is-legal-requires c κs = search needs
 
+-- src/lib.rt:535:9
+unready-requires-3 : tie.Need-unready-requires-3
+unready-requires-3 c κs = search needs
+
+-- src/lib.rt:535:9
 same-length : tie.Need-same-length
 same-length c = search needs
 
-returns-2 : tie.Need-returns-2
-returns-2 c =
-    let the-if1 = c .before .before .before .if1 in
-    let the-is-legal = c .before .is-legal in
-    let the-if2 = c .if2 in
-    setup-desk 64 _ _ _ _ _ _ _ _ (the-if1 .left) (the-is-legal .ensures ∙ not-true _ (the-if2 .taken))
-
-measure-requires : tie.Need-measure-requires
-measure-requires c κs = search needs
-
-same-length-2 : tie.Need-same-length-2
-same-length-2 c = search needs
-
+-- src/lib.rt:535:9
 returns-3 : tie.Need-returns-3
 returns-3 c =
     let the-if1 = c .before .before .before .before .before .if1 in
-    let the-is-legal = c .before .before .before .is-legal in
-    let the-if2 = c .before .before .if2 in
-    let the-measure = c .before .measure in
-    let the-if3 = c .if3 in
-    setup-entries 64 _ _ _ _ _ _ _ _ (the-if1 .left) (the-is-legal .ensures ∙ not-false _ (the-if2 .left)) _ (the-measure .ensures)
-    (omega (arith, the-if3 .taken))
+    let the-if2 = c .before .before .before .before .if2 in
+    let the-is-legal = c .before .before .is-legal in
+    let the-if3 = c .before .if3 in
+    let the-unready3 = c .unready3 in
+    setup-desk 64 _ _ _ _ _ _ _ (the-if1 .left) (the-if2 .left) (the-is-legal .ensures ∙ not-true _ (the-if3 .taken)) ∙ unready-told _ _ (the-unready3 .ensures)
 
+-- src/lib.rt:537:16
+measure-requires : tie.Need-measure-requires
+measure-requires c κs = search needs
+
+-- src/lib.rt:538:9
+unready-requires-4 : tie.Need-unready-requires-4
+unready-requires-4 c κs = search needs
+
+-- src/lib.rt:538:9
+same-length-2 : tie.Need-same-length-2
+same-length-2 c = search needs
+
+-- src/lib.rt:538:9
+returns-4 : tie.Need-returns-4
+returns-4 c =
+    let the-if1 = c .before .before .before .before .before .before .before .if1 in
+    let the-if2 = c .before .before .before .before .before .before .if2 in
+    let the-is-legal = c .before .before .before .before .is-legal in
+    let the-if3 = c .before .before .before .if3 in
+    let the-measure = c .before .before .measure in
+    let the-if4 = c .before .if4 in
+    let the-unready4 = c .unready4 in
+    setup-entries 64 _ _ _ _ _ _ _ (the-if1 .left) (the-if2 .left) (the-is-legal .ensures ∙ not-false _ (the-if3 .left)) _ (the-measure .ensures) (omega (arith, the-if4 .taken))
+    ∙ unready-told _ _ (the-unready4 .ensures)
+
+-- src/lib.rt:541:64
+slice-aggregate-serve : tie.Need-slice-aggregate-serve
+slice-aggregate-serve c = search needs
+
+-- src/lib.rt:541:9
 serve-requires : tie.Need-serve-requires
 serve-requires c κs =
     let the-is-legal = c .before .before .before .before .before .is-legal in
-    let the-if2 = c .before .before .before .before .if2 in
+    let the-if3 = c .before .before .before .before .if3 in
     let the-measure = c .before .before .before .measure in
-    let the-if3 = c .before .before .if3 in
-    let the-if1 = c .before .before .before .before .before .before .before .if1 in
-    let h = the-is-legal .ensures ∙ not-false _ (the-if2 .left) in
-    let r = the-if3 .left in (
+    let the-if4 = c .before .before .if4 in
+    let h = the-is-legal .ensures ∙ not-false _ (the-if3 .left) in
+    let r = the-if4 .left in
+    let m = the-measure .ensures in (
       desk-legal 64 _ _ _ h,
       (
         path-short _ (desk-fits 64 _ _ _ h),
-        (measure-rows leastReal _ _ _ _ _ (the-measure .ensures) (omega (arith, r)), the-if1 .left),
+        (measure-rows leastReal _ _ _ _ _ m (omega (arith, r)), measure-few leastReal _ _ _ _ _ m (omega (arith, r))),
       ),
     )
 
+-- src/lib.rt:516:1
 same-length-3 : tie.Need-same-length-3
 same-length-3 c = search needs
 
-same-length-4 : tie.Need-same-length-4
-same-length-4 c = search needs
-
-returns-4 : tie.Need-returns-4
-returns-4 c =
+-- src/lib.rt:516:1
+returns-5 : tie.Need-returns-5
+unfolding clear
+returns-5 c =
     let the-if1 = c .before .before .before .before .before .before .before .before .before .before .before .before .if1 in
-    let the-is-legal = c .before .before .before .before .before .before .before .before .before .before .is-legal in
-    let the-if2 = c .before .before .before .before .before .before .before .before .before .if2 in
-    let the-measure = c .before .before .before .before .before .before .before .before .measure in
-    let the-if3 = c .before .before .before .before .before .before .before .if3 in
-    let the-serve = c .before .before .before .before .serve in
-    not-setup 64 _ _ _ _ _ _ _ _ (the-if1 .left) (the-is-legal .ensures ∙ not-false _ (the-if2 .left)) _ (the-measure .ensures) (omega (arith, the-if3 .left))
-    ∙ the-serve .ensures
+    let the-if2 = c .before .before .before .before .before .before .before .before .before .before .before .if2 in
+    let the-is-legal = c .before .before .before .before .before .before .before .before .before .is-legal in
+    let the-if3 = c .before .before .before .before .before .before .before .before .if3 in
+    let the-measure = c .before .before .before .before .before .before .before .measure in
+    let the-if4 = c .before .before .before .before .before .before .if4 in
+    let the-serve = c .before .before .before .serve in
+    not-setup 64 _ _ _ _ _ _ _ (the-if1 .left) (the-if2 .left) (the-is-legal .ensures ∙ not-false _ (the-if3 .left)) _ (the-measure .ensures) (omega (arith, the-if4 .left))
+    ∙ laid-zeros _ _ _ refl (the-serve .ensures)
 
 pub call-spec : {M : Type 1} → statement M
 call-spec =
     tie.close
     (tie.spec
+    unready-requires
     returns
-    is-legal-requires
-    same-length
+    unready-requires-2
     returns-2
-    measure-requires
-    same-length-2
+    is-legal-requires
+    unready-requires-3
+    same-length
     returns-3
+    measure-requires
+    unready-requires-4
+    same-length-2
+    returns-4
+    slice-aggregate-serve
     serve-requires
     same-length-3
-    same-length-4
-    returns-4)
+    returns-5)

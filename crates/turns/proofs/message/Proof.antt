@@ -1,40 +1,51 @@
 use Rattle.turns.proofs.Steps.{other-answer, to-refused, to-served}
+use Rattle.crosspoints.specs.Crosspoints.{clear}
 use borrow.Author.Needs.{needs}
 use Rattle.turns.proofs.message.Statement.{statement}
 use Rattle.turns.proofs.message.Tie as tie
+use Rattle.turns.proofs.message.Reads as reads
+use Rattle.turns.proofs.message.Lts as lts
+use Rattle.desk_calls.proofs.call.Reads as call-reads
+use Rattle.glow.proofs.read.Reads as read-reads
 
+-- src/lib.rt:62:9
 read-requires : tie.Need-read-requires
 read-requires c κs = search needs
 
+-- src/lib.rt:63:24
 enum-known-answer : tie.Need-enum-known-answer
 enum-known-answer c = search needs
 
+-- src/lib.rt:64:9
 same-length : tie.Need-same-length
 same-length c = search needs
 
+-- src/lib.rt:64:9
 returns : tie.Need-returns
+unfolding clear
 returns c =
     let the-read = c .before .before .read in
-    to-refused _ _ _ _ (the-read .result) _ (the-read .ensures) (other-answer (the-read .result) (c .match .keys2))
+    to-refused _ _ _ (the-read .result) _ (the-read .ensures) (other-answer (the-read .result) (c .match .keys2))
 
+-- src/lib.rt:69:9
 call-requires : tie.Need-call-requires
 call-requires c κs = search needs
 
+-- src/lib.rt:52:1
 same-length-2 : tie.Need-same-length-2
 same-length-2 c = search needs
 
+-- src/lib.rt:52:1
 same-length-3 : tie.Need-same-length-3
 same-length-3 c = search needs
 
-same-length-4 : tie.Need-same-length-4
-same-length-4 c = search needs
-
+-- src/lib.rt:52:1
 returns-2 : tie.Need-returns-2
 returns-2 c =
-    let the-call = c .before .before .before .before .call in
-    let the-answer = c .before .before .before .before .before .before .before .before .before .answer in
-    let the-read = c .before .before .before .before .before .before .before .before .before .before .before .before .read in
-    to-served _ _ _ _ (the-read .result) _ _ _ (the-call .result) _ _ (the-read .ensures) (the-answer .given .1) (the-call .ensures)
+    let the-read = c .before .before .before .before .before .before .before .before .before .before .read in
+    let the-answer = c .before .before .before .before .before .before .before .answer in
+    let the-call = c .before .before .before .call in
+    to-served _ _ _ (the-read .result) _ _ _ (the-call .result) _ (the-read .ensures) (the-answer .given .1) (the-call .ensures)
 
 pub message-spec : {M : Type 1} → statement M
 message-spec =
@@ -47,5 +58,4 @@ message-spec =
     call-requires
     same-length-2
     same-length-3
-    same-length-4
     returns-2)

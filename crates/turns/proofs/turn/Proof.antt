@@ -1,65 +1,84 @@
-use Rattle.turns.specs.Whole.{deskAt}
-use mathlib.Core.Path.{sym}
-use lib.Seq.{length-take-le}
 use Rattle.turns.proofs.Steps.{other-event, later-none, later-message}
+use lib.Seq.{length-take-le}
+use mathlib.Core.Path.{sym}
+use Rattle.turns.specs.Whole.{deskAt}
+use Rattle.crosspoints.specs.Crosspoints.{clear}
 use borrow.Author.Needs.{needs}
 use Rattle.turns.proofs.turn.Statement.{statement}
 use Rattle.turns.proofs.turn.Tie as tie
+use Rattle.turns.proofs.turn.Reads as reads
+use Rattle.turns.proofs.turn.Lts as lts
+use Rattle.framing.proofs.feed.Reads as feed-reads
+use Rattle.turns.proofs.front.Reads as front-reads
+use Rattle.turns.proofs.message.Reads as message-reads
 
+-- src/lib.rt:94:9
 feed-requires : tie.Need-feed-requires
 feed-requires c κs = search needs
 
+-- src/lib.rt:96:26
 enum-known-event : tie.Need-enum-known-event
 enum-known-event c = search needs
 
+-- src/lib.rt:97:9
 same-length : tie.Need-same-length
 same-length c = search needs
 
+-- src/lib.rt:97:9
 returns : tie.Need-returns
+unfolding clear
 returns c =
+    let the-Start = c .before .before .before .before .before .before .before .before .before in
     let the-feed = c .before .before .before .feed in
-    let a = c .before .before .before .before .before .before .before .before .before .before .args in
+    let a = the-Start .args in
     let d = deskAt (a .figures) (a .path .now) (a .crosspoints .now) in
     let e = the-feed .result .event in
-    (the-feed .ensures, later-none d e (the-feed .last .1 .0) (a .table .now) (a .lent .now) (other-event e (c .match .keys2)))
+    (the-feed .ensures, later-none d e (the-feed .last .1 .0) (a .table .now) (other-event e (c .match .keys2)))
 
+-- src/lib.rt:103:9
 front-requires : tie.Need-front-requires
 front-requires c κs = search needs
 
+-- src/lib.rt:104:27
 slice-reshare-prefix-message : tie.Need-slice-reshare-prefix-message
 slice-reshare-prefix-message c = search needs
 
+-- src/lib.rt:104:27
 slice-aggregate-message : tie.Need-slice-aggregate-message
-slice-aggregate-message c = sym (length-take-le _ _ (c .before .front .ensures .1))
+slice-aggregate-message c =
+    let the-front = c .before .front in
+    sym (length-take-le _ _ (the-front .ensures .1))
 
+-- src/lib.rt:104:9
 message-requires : tie.Need-message-requires
 message-requires c κs = search needs
 
+-- src/lib.rt:81:1
 same-length-2 : tie.Need-same-length-2
 same-length-2 c = search needs
 
+-- src/lib.rt:81:1
 same-length-3 : tie.Need-same-length-3
 same-length-3 c = search needs
 
+-- src/lib.rt:81:1
 same-length-4 : tie.Need-same-length-4
 same-length-4 c = search needs
 
-same-length-5 : tie.Need-same-length-5
-same-length-5 c = search needs
-
+-- src/lib.rt:81:1
 returns-2 : tie.Need-returns-2
 returns-2 c =
-    let at-message = c .before .before .before .before .before in
-    let at-front = at-message .before .before .before .before .before in
-    let at-event = at-front .before .before .before in
-    let at-feed = at-event .before .before .before .before in
-    let a = at-feed .before .before .before .before .before .before .before .args in
+    let the-Start = c .before .before .before .before .before .before .before .before .before .before .before .before .before .before .before .before .before .before .before .before .before in
+    let the-feed = c .before .before .before .before .before .before .before .before .before .before .before .before .before .before .before .feed in
+    let the-event = c .before .before .before .before .before .before .before .before .before .before .before .event in
+    let the-front = c .before .before .before .before .before .before .before .before .front in
+    let the-message = c .before .before .before .before .message in
+    let a = the-Start .args in
     let d = deskAt (a .figures) (a .path .now) (a .crosspoints .now) in
-    let fed = at-feed .feed in
-    let n = at-event .event .given .0 .0 in (
-      fed .ensures,
-      later-message d (fed .result .event) (fed .last .1 .0) (a .table .now) (a .lent .now) n (at-front .front .result)
-          (at-event .event .given .1) (at-front .front .ensures .0) (at-message .message .ensures),
+    let n = the-event .given .0 .0 in (
+      the-feed .ensures,
+      later-message d (the-feed .result .event) (the-feed .last .1 .0) (a .table .now) n (the-front .result)
+          (the-event .given .1) (the-front .ensures .0) (the-message .ensures),
     )
 
 pub turn-spec : {M : Type 1} → statement M
@@ -77,5 +96,4 @@ turn-spec =
     same-length-2
     same-length-3
     same-length-4
-    same-length-5
     returns-2)
