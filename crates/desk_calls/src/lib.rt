@@ -7,15 +7,15 @@ use crosspoints::SIDE;
 use entries::Cell;
 use tree_sizes::cell_at;
 ghost use mathlib.Core.Path.{_≡_};
-ghost use mathlib.Core.List.{List, []};
+ghost use mathlib.Core.List.{[]};
 ghost use mathlib.Core.Bool.{true};
-ghost use Prim.Native.Nat.{ℕ, _+_, _-_, _*_, _≤_, _<_};
+ghost use Prim.Native.Nat.{_+_, _-_, _*_, _≤_, _<_};
 ghost use lib.Dec.{ltb, eqb};
 ghost use lib.ListN.{length, getD, set, take};
 ghost use Rattle.integers.specs.Digits.{pick};
-ghost use Rattle.crosspoints.specs.Figures.{side, both, mostEach, mostTotal};
+ghost use Rattle.crosspoints.specs.Figures.{side, both, mostTotal};
 ghost use Rattle.crosspoints.specs.Crosspoints.{count, clear, takenFrom, answer, rowAt, withRow, legal};
-ghost use Rattle.routing.specs.Request.{marked, named, becomes, allBelow, others, judged, asked, requested};
+ghost use Rattle.routing.specs.Request.{named, becomes, allBelow, others, judged, asked, requested};
 ghost use Rattle.connections.specs.Connections.{numbersIn};
 ghost use Rattle.desk_calls.specs.Calls.{pathFits, deskLegal, deskOpened, outcome, called, told};
 ghost use Rattle.desk_calls.specs.Steps.{once, Kept, Handed, askedOf, answeredAt, servedIn, Takes};
@@ -79,31 +79,6 @@ pub fn open(f: Figures, mode: u64, path: &[u64], crosspoints: &mut [u8]) -> u64
     45
 }
 
-// Whether every source named is one of the desk's.
-fn all_below(n: u64, sources: &[u64]) -> bool
-    ensures { λ r. ⌜ allBelow n (now (sources .entry)) ≡ r ⌝ }
-{
-    let mut i = 0;
-    while i < sources.len() {
-        if n <= sources[i] {
-            return false;
-        }
-        i += 1;
-    }
-    true
-}
-
-// The cells of the sources named set to v; a source past the cells' end does nothing.
-fn mark(cells: &mut [u8], sources: &[u64], v: u8)
-    ensures { λ _. ⌜ now (cells .exit) ≡ marked v (now (cells .entry)) (now (sources .entry)) ⌝ }
-{
-    let mut i = 0;
-    while i < sources.len() {
-        put(cells, sources[i], v);
-        i += 1;
-    }
-}
-
 fn put(cells: &mut [u8], at: u64, v: u8)
     ensures { λ _. ⌜ now (cells .exit) ≡ set (now (cells .entry)) at v ⌝ }
 {
@@ -137,23 +112,13 @@ fn copy(to: &mut [u8], from: &[u8])
     }
 }
 
-// Whether connect replaces: 1:N or 1:1, and one source named.
-fn replaces(f: Figures, named: u64) -> bool
-    ensures { λ r. ⌜ both (ltb (f .kind) 2) (eqb named 1) ≡ r ⌝ }
-{
-    if 2 <= f.kind {
-        return false;
-    }
-    named == 1
-}
-
 // The list as a target's cells.
 fn list_row(row: &mut [u8], sources: &[u64])
     requires { ⌜ length (now row) ≡ 64 ⌝ }
     ensures { λ _. ⌜ now (row .exit) ≡ named side (now (sources .entry)) ⌝ }
 {
     crosspoints::wipe(row);
-    mark(row, sources, 1);
+    routing::mark(row, sources, 1);
 }
 
 // A target's cells after a request; `ones` counts the sources named.
@@ -163,28 +128,18 @@ fn become_row(f: Figures, sources: &[u64], operation: u64, ones: u64, row: &mut 
     ensures { λ _. ⌜ now (row .exit) ≡ becomes side f (now (sources .entry)) operation (now (row .entry)) ⌝ }
 {
     if operation == 2 {
-        mark(row, sources, 0);
+        routing::mark(row, sources, 0);
         return;
     }
     if operation != 1 {
         list_row(row, sources);
         return;
     }
-    if replaces(f, ones) {
+    if routing::replaces(f, ones) {
         list_row(row, sources);
         return;
     }
-    mark(row, sources, 1);
-}
-
-// The first source named, 0 if there is none.
-fn first(sources: &[u64]) -> u64
-    ensures { λ r. ⌜ getD (now (sources .entry)) 0 0 ≡ r ⌝ }
-{
-    if 0 < sources.len() {
-        return sources[0];
-    }
-    0
+    routing::mark(row, sources, 1);
 }
 
 // In 1:1, absolute or connect with one source takes it from every target.
@@ -203,7 +158,7 @@ fn free(f: Figures, sources: &[u64], operation: u64, ones: u64, cells: &mut [u8]
     if ones != 1 {
         return;
     }
-    take_from(cells, first(sources));
+    take_from(cells, routing::first(sources));
 }
 
 // Where a target's cells begin.
@@ -225,16 +180,6 @@ fn put_row(cells: &mut [u8], target: u64, row: &[u8])
     let from = row_start(target);
     let to = from + SIDE;
     copy(&mut cells[from..to], row);
-}
-
-// Whether a target has too many: for N:N its cells are over its limit, else the list is over one.
-fn is_many(f: Figures, ones: u64, set: u64) -> bool
-    ensures { λ r. ⌜ pick (eqb (f .kind) 2) (ltb (mostEach f) set) (ltb 1 ones) ≡ r ⌝ }
-{
-    if f.kind == 2 {
-        return crosspoints::most_each(f) < set;
-    }
-    1 < ones
 }
 
 // 44 or 0 for a target that has `before` cells set and will have `after`. Only N:N heeds the total, so that the others need no count.
@@ -291,7 +236,7 @@ fn judge(
         return 0;
     }
     let after = crosspoints::count(row);
-    if is_many(f, ones, after) {
+    if routing::is_many(f, ones, after) {
         return 43;
     }
     over_total(f, cells, before, after)
@@ -315,7 +260,7 @@ fn ask(
     if f.targets <= target {
         return 41;
     }
-    if !all_below(f.sources, sources) {
+    if !routing::all_below(f.sources, sources) {
         return 42;
     }
     list_row(row, sources);

@@ -4,29 +4,21 @@ use native.Mathlib.Omega.{arith}
 use borrow.Author.Needs.{needs}
 use Rattle.connections.proofs.is_path.Statement.{statement}
 use Rattle.connections.proofs.is_path.Tie as tie
-use Rattle.connections.proofs.is_path.Reads as reads
-use Rattle.connections.proofs.is_path.Lts as lts
-use Rattle.connections.proofs.climbs.Reads as climbs-reads
 
--- src/lib.rt:194:9
 returns : tie.Need-returns
 returns c = has-long _ _ _ (omega arith)
 
--- src/lib.rt:197:9
 climbs-requires : tie.Need-climbs-requires
 climbs-requires c κs = (omega arith, omega arith)
 
--- src/lib.rt:197:9
 returns-2 : tie.Need-returns-2
 returns-2 c =
     let the-climbs = c .climbs in
     has-all _ _ _ _ _ _ (omega arith) (omega arith) (the-climbs .ensures)
 
--- src/lib.rt:199:5
 climbs-requires-2 : tie.Need-climbs-requires-2
 climbs-requires-2 c κs = (omega arith, omega arith)
 
--- src/lib.rt:190:1
 returns-3 : tie.Need-returns-3
 returns-3 c =
     let the-climbs2 = c .climbs2 in

@@ -8,29 +8,19 @@ use native.Mathlib.Omega.{arith}
 use borrow.Author.Needs.{needs}
 use Rattle.desk_calls.proofs.call.Statement.{statement}
 use Rattle.desk_calls.proofs.call.Tie as tie
-use Rattle.desk_calls.proofs.call.Reads as reads
-use Rattle.desk_calls.proofs.call.Lts as lts
-use Rattle.desk_calls.proofs.is_legal.Reads as is-legal-reads
-use Rattle.desk_calls.proofs.serve.Reads as serve-reads
-use Rattle.desk_calls.proofs.unready.Reads as unready-reads
-use Rattle.tree_sizes.proofs.measure.Reads as measure-reads
 
--- src/lib.rt:529:9
 unready-requires : tie.Need-unready-requires
 unready-requires c κs = search needs
 
--- src/lib.rt:529:9
 returns : tie.Need-returns
 returns c =
     let the-if1 = c .before .if1 in
     let the-unready = c .unready in
     setup-rows 64 _ _ _ _ _ _ _ (the-if1 .taken) ∙ unready-told _ _ (the-unready .ensures)
 
--- src/lib.rt:532:9
 unready-requires-2 : tie.Need-unready-requires-2
 unready-requires-2 c κs = search needs
 
--- src/lib.rt:532:9
 returns-2 : tie.Need-returns-2
 returns-2 c =
     let the-if1 = c .before .before .if1 in
@@ -38,19 +28,15 @@ returns-2 c =
     let the-unready2 = c .unready2 in
     setup-message 64 _ _ _ _ _ _ _ (the-if1 .left) (the-if2 .taken) ∙ unready-told _ _ (the-unready2 .ensures)
 
--- src/lib.rt:534:9
 is-legal-requires : tie.Need-is-legal-requires
 is-legal-requires c κs = search needs
 
--- src/lib.rt:535:9
 unready-requires-3 : tie.Need-unready-requires-3
 unready-requires-3 c κs = search needs
 
--- src/lib.rt:535:9
 same-length : tie.Need-same-length
 same-length c = search needs
 
--- src/lib.rt:535:9
 returns-3 : tie.Need-returns-3
 returns-3 c =
     let the-if1 = c .before .before .before .before .before .if1 in
@@ -60,19 +46,15 @@ returns-3 c =
     let the-unready3 = c .unready3 in
     setup-desk 64 _ _ _ _ _ _ _ (the-if1 .left) (the-if2 .left) (the-is-legal .ensures ∙ not-true _ (the-if3 .taken)) ∙ unready-told _ _ (the-unready3 .ensures)
 
--- src/lib.rt:537:16
 measure-requires : tie.Need-measure-requires
 measure-requires c κs = search needs
 
--- src/lib.rt:538:9
 unready-requires-4 : tie.Need-unready-requires-4
 unready-requires-4 c κs = search needs
 
--- src/lib.rt:538:9
 same-length-2 : tie.Need-same-length-2
 same-length-2 c = search needs
 
--- src/lib.rt:538:9
 returns-4 : tie.Need-returns-4
 returns-4 c =
     let the-if1 = c .before .before .before .before .before .before .before .if1 in
@@ -85,11 +67,9 @@ returns-4 c =
     setup-entries 64 _ _ _ _ _ _ _ (the-if1 .left) (the-if2 .left) (the-is-legal .ensures ∙ not-false _ (the-if3 .left)) _ (the-measure .ensures) (omega (arith, the-if4 .taken))
     ∙ unready-told _ _ (the-unready4 .ensures)
 
--- src/lib.rt:541:64
 slice-aggregate-serve : tie.Need-slice-aggregate-serve
 slice-aggregate-serve c = search needs
 
--- src/lib.rt:541:9
 serve-requires : tie.Need-serve-requires
 serve-requires c κs =
     let the-is-legal = c .before .before .before .before .before .is-legal in
@@ -106,11 +86,9 @@ serve-requires c κs =
       ),
     )
 
--- src/lib.rt:516:1
 same-length-3 : tie.Need-same-length-3
 same-length-3 c = search needs
 
--- src/lib.rt:516:1
 returns-5 : tie.Need-returns-5
 unfolding clear
 returns-5 c =

@@ -5,17 +5,10 @@ use native.Mathlib.Omega.{arith}
 use borrow.Author.Needs.{needs}
 use Rattle.desk_calls.proofs.take_entry.Statement.{statement}
 use Rattle.desk_calls.proofs.take_entry.Tie as tie
-use Rattle.desk_calls.proofs.take_entry.Reads as reads
-use Rattle.desk_calls.proofs.take_entry.Lts as lts
-use Rattle.desk_calls.proofs.answer_to.Reads as answer-to-reads
-use Rattle.desk_calls.proofs.narrow.Reads as narrow-reads
-use Rattle.desk_calls.proofs.word_at.Reads as word-at-reads
 
--- src/lib.rt:473:8
 word-at-requires : tie.Need-word-at-requires
 word-at-requires c κs = search needs
 
--- src/lib.rt:474:9
 returns : tie.Need-returns
 returns c =
     let the-Start = c .before .before .before .before .before .before in
@@ -24,33 +17,26 @@ returns c =
     let q = the-Start .pre .0 in
     (entry-other _ _ _ _ _ (q .1 .1 .0) _ _ _ _ (q .1 .1 .1) _ (the-word-at .ensures) (the-if1 .taken), (omega arith, q .0))
 
--- src/lib.rt:476:25
 answer-to-requires : tie.Need-answer-to-requires
 answer-to-requires c κs = search needs
 
--- src/lib.rt:476:18
 narrow-requires : tie.Need-narrow-requires
 narrow-requires c κs =
     let the-answer-to = c .before .before .answer-to in
     answered-small 64 _ _ _ _ _ _ (the-answer-to .ensures)
 
--- src/lib.rt:476:5
 slice-write-answers : tie.Need-slice-write-answers
 slice-write-answers c = search needs
 
--- src/lib.rt:477:5
 add-result : tie.Need-add-result
 add-result c = search needs
 
--- src/lib.rt:456:1
 same-length : tie.Need-same-length
 same-length c = search needs
 
--- src/lib.rt:456:1
 same-length-2 : tie.Need-same-length-2
 same-length-2 c = search needs
 
--- src/lib.rt:456:1
 returns-2 : tie.Need-returns-2
 returns-2 c =
     let the-Start = c .before .before .before .before .before .before .before .before .before .before .before in

@@ -3,43 +3,31 @@ use Rattle.crosspoints.specs.Crosspoints.{clear}
 use borrow.Author.Needs.{needs}
 use Rattle.turns.proofs.message.Statement.{statement}
 use Rattle.turns.proofs.message.Tie as tie
-use Rattle.turns.proofs.message.Reads as reads
-use Rattle.turns.proofs.message.Lts as lts
-use Rattle.desk_calls.proofs.call.Reads as call-reads
-use Rattle.glow.proofs.read.Reads as read-reads
 
--- src/lib.rt:62:9
 read-requires : tie.Need-read-requires
 read-requires c κs = search needs
 
--- src/lib.rt:63:24
 enum-known-answer : tie.Need-enum-known-answer
 enum-known-answer c = search needs
 
--- src/lib.rt:64:9
 same-length : tie.Need-same-length
 same-length c = search needs
 
--- src/lib.rt:64:9
 returns : tie.Need-returns
 unfolding clear
 returns c =
     let the-read = c .before .before .read in
     to-refused _ _ _ (the-read .result) _ (the-read .ensures) (other-answer (the-read .result) (c .match .keys2))
 
--- src/lib.rt:69:9
 call-requires : tie.Need-call-requires
 call-requires c κs = search needs
 
--- src/lib.rt:52:1
 same-length-2 : tie.Need-same-length-2
 same-length-2 c = search needs
 
--- src/lib.rt:52:1
 same-length-3 : tie.Need-same-length-3
 same-length-3 c = search needs
 
--- src/lib.rt:52:1
 returns-2 : tie.Need-returns-2
 returns-2 c =
     let the-read = c .before .before .before .before .before .before .before .before .before .before .read in

@@ -6,25 +6,16 @@ use Rattle.crosspoints.specs.Crosspoints.{clear}
 use borrow.Author.Needs.{needs}
 use Rattle.turns.proofs.turn.Statement.{statement}
 use Rattle.turns.proofs.turn.Tie as tie
-use Rattle.turns.proofs.turn.Reads as reads
-use Rattle.turns.proofs.turn.Lts as lts
-use Rattle.framing.proofs.feed.Reads as feed-reads
-use Rattle.turns.proofs.front.Reads as front-reads
-use Rattle.turns.proofs.message.Reads as message-reads
 
--- src/lib.rt:94:9
 feed-requires : tie.Need-feed-requires
 feed-requires c κs = search needs
 
--- src/lib.rt:96:26
 enum-known-event : tie.Need-enum-known-event
 enum-known-event c = search needs
 
--- src/lib.rt:97:9
 same-length : tie.Need-same-length
 same-length c = search needs
 
--- src/lib.rt:97:9
 returns : tie.Need-returns
 unfolding clear
 returns c =
@@ -35,37 +26,29 @@ returns c =
     let e = the-feed .result .event in
     (the-feed .ensures, later-none d e (the-feed .last .1 .0) (a .table .now) (other-event e (c .match .keys2)))
 
--- src/lib.rt:103:9
 front-requires : tie.Need-front-requires
 front-requires c κs = search needs
 
--- src/lib.rt:104:27
 slice-reshare-prefix-message : tie.Need-slice-reshare-prefix-message
 slice-reshare-prefix-message c = search needs
 
--- src/lib.rt:104:27
 slice-aggregate-message : tie.Need-slice-aggregate-message
 slice-aggregate-message c =
     let the-front = c .before .front in
     sym (length-take-le _ _ (the-front .ensures .1))
 
--- src/lib.rt:104:9
 message-requires : tie.Need-message-requires
 message-requires c κs = search needs
 
--- src/lib.rt:81:1
 same-length-2 : tie.Need-same-length-2
 same-length-2 c = search needs
 
--- src/lib.rt:81:1
 same-length-3 : tie.Need-same-length-3
 same-length-3 c = search needs
 
--- src/lib.rt:81:1
 same-length-4 : tie.Need-same-length-4
 same-length-4 c = search needs
 
--- src/lib.rt:81:1
 returns-2 : tie.Need-returns-2
 returns-2 c =
     let the-Start = c .before .before .before .before .before .before .before .before .before .before .before .before .before .before .before .before .before .before .before .before .before in
