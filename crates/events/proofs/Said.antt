@@ -3,9 +3,12 @@ use mathlib.Core.Path.{_≡_, refl}
 use mathlib.Core.List.{List, []}
 use Prim.Native.Nat.{ℕ}
 use lib.ListN.{take}
+use types.Run.{OneOf}
 use Rattle.framing.specs.declared.Event.{Event}
 use Rattle.framing.specs.declared.Event.the-variants as ev
+use Rattle.framing.specs.Numbers.{feedNumbers}
 use Rattle.framing.specs.Session.{saidBy}
+use Rattle.framing.proofs.Laws.{event-numbered}
 use Rattle.events.specs.Events.{lengthOf}
 
 pub said-is : (e : Event) (t : List ℕ)
@@ -17,3 +20,7 @@ said-is (ev.Message n d) t = refl
 said-is ev.Request t = refl
 said-is ev.Response t = refl
 said-is (ev.Refused f d) t = refl
+
+-- `number` answers with one of the numbers of a session call.
+pub numbers : (e : Event) → OneOf feedNumbers (saidBy e [] .number)
+numbers e = event-numbered e []

@@ -1,7 +1,7 @@
 -- Calls of `start` and `feed`. Their contracts say what the claim over every list of offers speaks of; and the claim speaks of something: there is a call for
 -- every session, store and chunk, and a list of calls for every stream and every way to cut it.
 use Prim.Native.Nat.{ℕ, zero, suc, _+_, _-_, _≤_, _<_}
-use mathlib.Core.Bool.{Bool, true, false}
+use mathlib.Core.Bool.{Bool, true, false, not}
 use mathlib.Core.Path.{_≡_, refl, sym, ap, subst, _∙_}
 use mathlib.Core.List.{List, [], _∷_, _++_, append-nil}
 use native.Mathlib.Omega.{arith}
@@ -13,6 +13,7 @@ use borrow.Fn.World as World
 use borrow.Fn.Kinds as K
 use lib.Dec.{eqb}
 use lib.ListN.{length, take, drop, length-drop}
+use types.Run.{OneOf}
 use lib.Seq.{drop-append-le, drop-at}
 use Rattle.framing.proofs.feed
 use Rattle.framing.proofs.feed.Kinds as feed-kinds
@@ -23,13 +24,13 @@ use Rattle.framing.proofs.start.Reads as start-reads
 use Rattle.framing.specs.declared.Event.the-variants as ev
 use Rattle.framing.specs.declared.Fed.{Fed}
 use Rattle.framing.specs.declared.Session.{Session}
-use Rattle.framing.specs.Numbers.{storeLength, pick}
+use Rattle.framing.specs.Numbers.{storeLength, feedNumbers, pick}
 use Rattle.framing.specs.Rules.{State, Said, begin, Happening, noted, happens, after}
 use Rattle.framing.specs.Session.{saidBy, stateOf, sessionOf, legal, Legal, Whole, answers, run, feeds}
 use Rattle.framing.specs.Offers.{Turn, Turns, none, turn, eaten, told, joined, Serves, done, whole, part, Consumed}
-use Rattle.framing.proofs.Laws.{pick-by, legal-true, bounded-state}
+use Rattle.framing.proofs.Laws.{pick-by, legal-true, bounded-state, event-numbered}
 use Rattle.framing.proofs.Stream.{Ran}
-use Rattle.framing.proofs.Sayable.{Sayable, run-sayable}
+use Rattle.framing.proofs.Sayable.{Sayable, run-sayable, run-other}
 use Rattle.framing.proofs.Chunks.{call-ran, as-rules, fresh-legal}
 
 -- ---- the contracts
@@ -105,6 +106,24 @@ some-call s t c =
     let e : w ≡ answers r (w .store) =
     ap (λ (x : Said). record { said = x; consumed = w .consumed; session = w .session; store = w .store }) (sym (k .1)) in
     (r, (w .store, (called r e, e)))
+
+-- ---- with which numbers
+
+-- A session call answers with one of document 01's numbers, whatever is handed in ..
+pub feed-numbers : (s : Session) (t c : List ℕ) → OneOf feedNumbers (feeds s t c .said .number)
+feed-numbers s t c = let k = answer s t c in subst (λ (e : Said). OneOf feedNumbers (e .number)) (k .1) (event-numbered (k .0) (feeds s t c .store))
+
+pub call-numbers : {s : Session} {t c : List ℕ} {r : Fed} {t′ : List ℕ} → Call s t c r t′ → OneOf feedNumbers (saidBy (r .event) t′ .number)
+call-numbers {s} {t} {c} k = subst (λ (w : Whole). OneOf feedNumbers (w .said .number)) (says k) (feed-numbers s t c)
+
+-- .. and with 1 exactly where store or session are not as they must be.
+pub feed-setup : (s : Session) (t c : List ℕ) → eqb (feeds s t c .said .number) 1 ≡ not (legal s (length t))
+unfolding feeds
+feed-setup s t c = go (legal s (length t))
+  where
+    go : (u : Bool) → eqb (pick u (run c (stateOf s t) t 0) (record { said = saidBy ev.Setup t; consumed = 0; session = s; store = t }) .said .number) 1 ≡ not u
+    go true = run-other c (stateOf s t) t 0
+    go false = refl
 
 -- ---- there are calls for every stream
 

@@ -1,9 +1,11 @@
 -- Freedom from chunks: whatever is offered, call by call, the events and the bytes consumed are those of the rules. It speaks of calls by what
 -- `feeds` says, which is the contract of `feed`.
 use Prim.Native.Nat.{ℕ, _+_, _≤_}
+use mathlib.Core.Bool.{false}
 use mathlib.Core.Path.{_≡_, refl, sym, ap, subst, _∙_}
 use mathlib.Core.List.{List, [], _∷_, _++_, append-assoc}
 use native.Mathlib.Omega.{arith}
+use lib.Dec.{eqb}
 use lib.ListN.{length, take, drop, take-append-drop}
 use lib.Seq.{length-take-le, drop-append-le}
 use Rattle.framing.specs.declared.Fed.{Fed}
@@ -11,7 +13,7 @@ use Rattle.framing.specs.declared.Session.{Session}
 use Rattle.framing.specs.Numbers.{storeLength}
 use Rattle.framing.specs.Rules.{State, Said, begin, Happening, noted, happens, after}
 use Rattle.framing.specs.Session.{saidBy, stateOf, sessionOf, Legal, Whole, answers, run, feeds}
-use Rattle.framing.specs.Offers.{Turn, Turns, none, turn, eaten, told, AsRules}
+use Rattle.framing.specs.Offers.{Turn, Turns, none, turn, eaten, told, EndsWith, Stops, AsRules}
 use Rattle.framing.proofs.Laws.{true-legal, bounded-state, session-back}
 use Rattle.framing.proofs.Stream.{Ran, ran, noted-append, happens-append, after-append}
 
@@ -46,6 +48,9 @@ module _ (c later : List ℕ) (r : Fed) (t′ : List ℕ) (s : State) (n : ℕ)
   x-held : stateOf (r .session) t′ ≡ after s x
   x-held = subst (λ (d : ℕ). stateOf (r .session) t′ ≡ after s (take d c)) d-is (k .held)
 
+  x-stops : eqb (e .number) 0 ≡ false → EndsWith s x e
+  x-stops q = subst (λ (d : ℕ). EndsWith s (take d c) e) d-is (k .stops q)
+
   module _ (us : List Turn) (s″ : Session) (t″ rest″ : List ℕ)
       (f : AsRules (stateOf (r .session) t′) (n + r .consumed) us s″ t″ (drop (r .consumed) (c ++ later)) rest″) where
     turn-events : noted e (n + r .consumed) (told us (n + r .consumed)) ≡ happens s n (x ++ eaten us)
@@ -74,6 +79,7 @@ module _ (c later : List ℕ) (r : Fed) (t′ : List ℕ) (s : State) (n : ℕ)
           state = turn-state;
           bytes-are = turn-bytes;
           counted = ((omega (arith, d-is, k .offered), λ q. sym d-is ∙ k .all q), f .counted);
+          stops = (x-stops, subst (λ (q : State). Stops q us) x-held (f .stops));
           legal = f .legal;
         }
 
@@ -81,7 +87,7 @@ module _ (c later : List ℕ) (r : Fed) (t′ : List ℕ) (s : State) (n : ℕ)
 pub as-rules : {s s″ : Session} {t t″ rest rest″ : List ℕ} {ts : List Turn} → Turns s t rest ts s″ t″ rest″ → (n : ℕ) → Legal s t
     → AsRules (stateOf s t) n ts s″ t″ rest rest″
 unfolding happens after
-as-rules none n l = record { events = refl; state = refl; bytes-are = refl; counted = tt; legal = l }
+as-rules none n l = record { events = refl; state = refl; bytes-are = refl; counted = tt; stops = tt; legal = l }
 as-rules {s} {s″} {t} {t″} (turn {t′ = t′} {rest″ = rest″} {ts = us} c later r call more) n l =
     let k = call-ran r call l in
     turn-as-rules c later r t′ (stateOf s t) n k us s″ t″ rest″ (as-rules more (n + r .consumed) (k .legal))
@@ -92,7 +98,8 @@ fresh-legal room = record { room = room; frame = omega arith; message = omega ar
 
 -- THE THEOREM. From a fresh session and any store of the right length, for every list of offers: the events, each with its offset, its discard and its
 -- message's bytes as they stand in the store, are those that the rules give for the bytes consumed so far; so is the state that session and store hold
--- at the end; the bytes consumed are the stream's first; and each call consumed all it was offered, or up to and including its event's byte.
+-- at the end; the bytes consumed are the stream's first; each call without an event consumed all it was offered (`counted`), and each with one exactly the bytes up to and
+-- including the one that makes it by the rules (`stops`).
 -- (That these are the calls of `start` and `feed`, and that every stream has such a list however it is cut: Calls.antt.)
 pub chunk-free : {s : Session} {t t′ bytes rest : List ℕ} {ts : List Turn} → length t ≡ storeLength
     → Turns (sessionOf begin) t bytes ts s t′ rest → AsRules begin 0 ts s t′ bytes rest

@@ -3,6 +3,7 @@ use Prim.Native.Nat.{ℕ, zero, suc, _+_, _-_, _≤_, _<_, min}
 use mathlib.Core.Bool.{Bool, true, false}
 use mathlib.Core.Path.{_≡_, refl, sym, ap, subst, _∙_}
 use mathlib.Core.List.{List, [], _∷_, _++_}
+use mathlib.Core.Logic.{inr, ⊎-elim}
 use native.Mathlib.Omega.{arith}
 use native.Mathlib.Numerals.{add-one}
 use borrow.Author.Tests.{eqb-true, ltb-true, leb-true, leb-false, eq-eqb, ne-eqb, lt-ltb, le-ltb, le-leb, lt-leb}
@@ -10,6 +11,7 @@ use lib.Bits.{bitXor}
 use lib.Dec.{leb, ltb, eqb}
 use lib.ListN.{length, take, drop, set, getD, length-append, length-take, length-drop, drop-of-length-le}
 use lib.Seq.{sets, length-sets, length-take-le, take-take, drop-drop, drop-cons}
+use types.Run.{OneOf, hit}
 use Rattle.framing.specs.declared.Event.{Event}
 use Rattle.framing.specs.declared.Event.the-variants as ev
 use Rattle.framing.specs.declared.Fault.{Fault}
@@ -24,7 +26,7 @@ use Rattle.framing.specs.declared.Session.{Session}
 use Rattle.framing.specs.declared.step.Progress.{Progress}
 use Rattle.framing.specs.declared.step.Stepped.{Stepped}
 use Rattle.framing.proofs.Lists.{sets-append, length-part, sets-same, take-sets-le, part-sets, drop-take}
-use Rattle.framing.specs.Numbers.{BOF, EOF, CE, contentLimit, messageLimit, storeLength, contentStart, number, pick}
+use Rattle.framing.specs.Numbers.{BOF, EOF, CE, contentLimit, messageLimit, storeLength, contentStart, number, faultNumbers, feedNumbers, pick}
 use Rattle.framing.specs.Rules.{Place, outside, stray, inside, escaped, badByte, tooLong, Message, none, part, State, Said, Step, begin, quiet, makes, goes, refuses, adds, joins, pieces, reads, ends, cuts, faulted, inPlace, step, isOpen}
 use Rattle.framing.specs.Content.{packetOf, commandOf, bodyOf, contentOf, body, crcOf, payload}
 use Rattle.framing.specs.Checksum.{checksum}
@@ -226,20 +228,51 @@ piece-long xs first last e = go (leb 11 (length xs)) refl
 
 -- ---- a turn of a call
 
+-- each event has one of document 01's numbers
+fault-numbered : (f : Fault) → OneOf faultNumbers (number f)
+fault-numbered Fault.Stray = hit faultNumbers (number Fault.Stray) tt
+fault-numbered Cut = hit faultNumbers (number Cut) tt
+fault-numbered Byte = hit faultNumbers (number Byte) tt
+fault-numbered Long = hit faultNumbers (number Long) tt
+fault-numbered Escape = hit faultNumbers (number Escape) tt
+fault-numbered Short = hit faultNumbers (number Short) tt
+fault-numbered Crc = hit faultNumbers (number Crc) tt
+fault-numbered Header = hit faultNumbers (number Header) tt
+fault-numbered Flags = hit faultNumbers (number Flags) tt
+fault-numbered Dtd = hit faultNumbers (number Dtd) tt
+fault-numbered Orphan = hit faultNumbers (number Orphan) tt
+fault-numbered Big = hit faultNumbers (number Big) tt
+
+pub event-numbered : (e : Event) (t : List ℕ) → OneOf feedNumbers (saidBy e t .number)
+event-numbered ev.More t = hit feedNumbers 0 tt
+event-numbered ev.Setup t = hit feedNumbers 1 tt
+event-numbered (ev.Piece d) t = hit feedNumbers 2 tt
+event-numbered (ev.Message n d) t = hit feedNumbers 3 tt
+event-numbered ev.Request t = hit feedNumbers 4 tt
+event-numbered ev.Response t = hit feedNumbers 5 tt
+event-numbered (ev.Refused f d) t = inr (inr (inr (inr (inr (inr (fault-numbered f))))))
+
+-- numbers from n up
+abbrev allFrom : ℕ → List ℕ → Bool
+allFrom n [] = true
+allFrom n (k ∷ ks) = pick (leb n k) (allFrom n ks) false
+
+one-from : (n : ℕ) (ks : List ℕ) (x : ℕ) → allFrom n ks ≡ true → OneOf ks x → n ≤ x
+one-from n [] x h o = absurd o
+one-from n (k ∷ []) x h e = go (leb n k) refl h
+  where
+    go : (u : Bool) → leb n k ≡ u → pick u true false ≡ true → n ≤ x
+    go true l h = omega (arith, leb-true n k l, e)
+    go false l h = let z : _≡_ {A = ℕ} 0 1 = cc in absurd (omega arith)
+one-from n (k ∷ j ∷ ks) x h o = go (leb n k) refl h (one-from n (j ∷ ks) x)
+  where
+    go : (u : Bool) → leb n k ≡ u → pick u (allFrom n (j ∷ ks)) false ≡ true → (allFrom n (j ∷ ks) ≡ true → OneOf (j ∷ ks) x → n ≤ x) → n ≤ x
+    go true l h more = ⊎-elim (λ (e : x ≡ k). omega (arith, leb-true n k l, e)) (λ (r : OneOf (j ∷ ks) x). more h r) o
+    go false l h more = let z : _≡_ {A = ℕ} 0 1 = cc in absurd (omega arith)
+
 -- refusals are numbered from 10 up
 pub number-high : (f : Fault) → 10 ≤ number f
-number-high Fault.Stray = omega arith
-number-high Cut = omega arith
-number-high Byte = omega arith
-number-high Long = omega arith
-number-high Escape = omega arith
-number-high Short = omega arith
-number-high Crc = omega arith
-number-high Header = omega arith
-number-high Flags = omega arith
-number-high Dtd = omega arith
-number-high Orphan = omega arith
-number-high Big = omega arith
+number-high f = one-from 10 faultNumbers (number f) refl (fault-numbered f)
 
 -- .. so that none is the number of another event
 pub number-apart : (f : Fault) {n : ℕ} → n < 10 → eqb (number f) n ≡ false

@@ -114,7 +114,7 @@ run-sayable (b ∷ bs) s t i room h =
     (λ e. step-sayable s b t room h)
 
 -- A call with a legal session is not answered with 1.
-run-other : (c : List ℕ) (s : State) (t : List ℕ) (i : ℕ) → eqb (run c s t i .said .number) 1 ≡ false
+pub run-other : (c : List ℕ) (s : State) (t : List ℕ) (i : ℕ) → eqb (run c s t i .said .number) 1 ≡ false
 unfolding run step
 run-other [] s t i = refl
 run-other (b ∷ bs) s t i =

@@ -10,6 +10,7 @@ use Rattle.framing.specs.declared.Session.{Session}
 use Rattle.framing.specs.Numbers.{storeLength, pick}
 use Rattle.framing.specs.Rules.{State, Said, Step, step, Happening, noted, happens, after, quiet}
 use Rattle.framing.specs.Session.{stateOf, sessionOf, Legal, kept, Whole, whole, run}
+use Rattle.framing.specs.Offers.{EndsWith}
 use Rattle.framing.proofs.Laws.{Bounded, Within, within-step, bounded-next, frame-bound, message-bound, legal-next, kept-state, kept-length}
 
 pub noted-append : (e : Said) (n : ℕ) (hs ks : List Happening) → noted e n (hs ++ ks) ≡ noted e n hs ++ ks
@@ -40,8 +41,22 @@ pub record Ran (c : List ℕ) (s : State) (i : ℕ) (w : Whole) : Type 0 where
   pub offered : d ≤ length c
   pub all : eqb (w .said .number) 0 ≡ true → d ≡ length c
   pub told : (n : ℕ) → happens s n (take d c) ≡ noted (w .said) (n + d) []
+  pub stops : eqb (w .said .number) 0 ≡ false → EndsWith s (take d c) (w .said)
   pub legal : Legal (w .session) (w .store)
   pub held : stateOf (w .session) (w .store) ≡ after s (take d c)
+
+-- a byte without an event before bytes that end with one
+ends-later : (x : ℕ) (s : State) {bytes : List ℕ} {e : Said} → eqb (step s x .said .number) 0 ≡ true → EndsWith (step s x .next) bytes e
+    → EndsWith s (x ∷ bytes) e
+unfolding happens after
+ends-later x s q k =
+    record {
+      front = x ∷ k .front;
+      byte = k .byte;
+      bytes-are = ap (λ (r : List ℕ). x ∷ r) (k .bytes-are);
+      none-before = λ n. rw q (k .none-before (n + 1));
+      event-is = k .event-is;
+    }
 
 -- a byte that makes no event, and one that makes one
 module _ (x : ℕ) (xs : List ℕ) (s : State) (t : List ℕ) (i : ℕ) where
@@ -57,6 +72,7 @@ module _ (x : ℕ) (xs : List ℕ) (s : State) (t : List ℕ) (i : ℕ) where
         offered = omega (arith, r .offered);
         all = λ q. ap suc (r .all q);
         told = λ n. rw e (r .told (n + 1) ∙ ap (λ (k : ℕ). noted (run xs (o .next) (kept o t) (i + 1) .said) k []) (omega arith));
+        stops = λ q. ends-later x s e (r .stops q);
         legal = r .legal;
         held = r .held;
       }
@@ -70,6 +86,7 @@ module _ (x : ℕ) (xs : List ℕ) (s : State) (t : List ℕ) (i : ℕ) where
         offered = omega arith;
         all = λ q. let z : _≡_ {A = ℕ} 0 1 = cc in absurd (omega arith);
         told = λ n. refl;
+        stops = λ q. record { front = []; byte = x; bytes-are = refl; none-before = λ n. refl; event-is = refl };
         legal = legal-next o t room w;
         held = kept-state o t room w;
       }
@@ -83,6 +100,7 @@ ran [] s t i room b h =
       offered = omega arith;
       all = λ e. refl;
       told = λ n. refl;
+      stops = λ e. let z : _≡_ {A = ℕ} 0 1 = cc in absurd (omega arith);
       legal = subst (λ (x : List ℕ). Legal (sessionOf s) x) refl (record { room = room; frame = frame-bound s b; message = message-bound s b });
       held = h;
     }

@@ -1,6 +1,7 @@
 -- The special bytes, the limits and the numbers of refusals (document 01, "Framing" and "Numbers answered").
 use Prim.Native.Nat.{ℕ}
 use mathlib.Core.Bool.{Bool, true, false}
+use mathlib.Core.List.{List, [], _∷_}
 use Rattle.framing.specs.declared.Fault.{Fault}
 use Rattle.framing.specs.declared.Fault.the-variants.{Stray, Cut, Byte, Long, Escape, Short, Crc, Header, Flags, Dtd, Orphan, Big}
 
@@ -43,6 +44,14 @@ number Flags = 21
 number Dtd = 22
 number Orphan = 23
 number Big = 24
+
+-- The rows of "Numbers answered" that a session call may give. Of faults: 10 STRAY to 16 CRC, 20 HEADER to 24 BIG.
+abbrev pub faultNumbers : List ℕ
+faultNumbers = 10 ∷ 11 ∷ 12 ∷ 13 ∷ 14 ∷ 15 ∷ 16 ∷ 20 ∷ 21 ∷ 22 ∷ 23 ∷ 24 ∷ []
+
+-- "0: done, or more bytes needed"; "1 SETUP"; "2, 3, 4, 5: piece, message, keep-alive request, response"; and the faults
+abbrev pub feedNumbers : List ℕ
+feedNumbers = 0 ∷ 1 ∷ 2 ∷ 3 ∷ 4 ∷ 5 ∷ faultNumbers
 
 -- A choice by a test.
 abbrev pub pick : {A : Type 0} → Bool → A → A → A

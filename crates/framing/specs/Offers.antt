@@ -1,13 +1,13 @@
 -- The words of the claim over every list of offers: calls one after another, what they told, and what the rules say of it.
 use Prim.Native.Nat.{ℕ, _+_, _≤_, _<_}
-use mathlib.Core.Bool.{true}
+use mathlib.Core.Bool.{true, false}
 use mathlib.Core.List.{List, [], _∷_, _++_}
 use mathlib.Core.Path.{_≡_}
 use lib.Dec.{eqb}
 use lib.ListN.{length, take, drop}
 use Rattle.framing.specs.declared.Fed.{Fed}
 use Rattle.framing.specs.declared.Session.{Session}
-use Rattle.framing.specs.Rules.{State, Happening, noted, happens, after}
+use Rattle.framing.specs.Rules.{State, Said, Happening, noted, step, happens, after}
 use Rattle.framing.specs.Session.{saidBy, stateOf, Legal, answers, feeds}
 
 -- One call: what was offered, what it gave, and the store as it left it.
@@ -34,12 +34,29 @@ abbrev pub told : List Turn → ℕ → List Happening
 told [] n = []
 told (x ∷ xs) n = noted (saidBy (x .fed .event) (x .store)) (n + x .fed .consumed) (told xs (n + x .fed .consumed))
 
--- Each call consumed no more than it was offered, and all of it where it gave no event. (That one with an event stops at the event's byte, its offset says.)
+-- Each call consumed no more than it was offered, and all of it where it gave no event.
 abbrev pub Counted : List Turn → Type 0
 Counted [] = Unit {0}
 Counted (x ∷ xs) =
     ((x .fed .consumed ≤ length (x .offered)) × (eqb (saidBy (x .fed .event) (x .store) .number) 0 ≡ true → x .fed .consumed ≡ length (x .offered)))
     × Counted xs
+
+-- From the state s, the bytes make no event before the last of them, and with it one that says e.
+pub record EndsWith (s : State) (bytes : List ℕ) (e : Said) : Type 0 where
+  pub front : List ℕ
+  pub byte : ℕ
+  pub bytes-are : bytes ≡ front ++ byte ∷ []
+  pub none-before : (n : ℕ) → happens s n front ≡ []
+  pub event-is : step (after s front) byte .said ≡ e
+
+-- "A call consumes bytes up to and including the one that makes an event": with an event, exactly the bytes up to and including the one that makes it by the rules,
+-- which stand in the state s before the call.
+abbrev pub Stops : State → List Turn → Type 0
+Stops s [] = Unit {0}
+Stops s (x ∷ xs) =
+    let bytes = take (x .fed .consumed) (x .offered) in
+    let e = saidBy (x .fed .event) (x .store) in
+    (eqb (e .number) 0 ≡ false → EndsWith s bytes e) × Stops (after s bytes) xs
 
 -- What holds of a list of turns from a state: the rules' events, the rules' state, and the bytes.
 pub record AsRules (s : State) (n : ℕ) (ts : List Turn) (s″ : Session) (t″ bytes rest : List ℕ) : Type 0 where
@@ -47,6 +64,7 @@ pub record AsRules (s : State) (n : ℕ) (ts : List Turn) (s″ : Session) (t″
   pub state : stateOf s″ t″ ≡ after s (eaten ts)
   pub bytes-are : eaten ts ++ rest ≡ bytes
   pub counted : Counted ts
+  pub stops : Stops s ts
   pub legal : Legal s″ t″
 
 -- ---- a stream that is cut into chunks

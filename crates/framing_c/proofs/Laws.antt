@@ -1,6 +1,6 @@
 -- Laws of the definitions, at plain variables.
 use Prim.Native.Nat.{ℕ, min}
-use mathlib.Core.Path.{_≡_, refl}
+use mathlib.Core.Path.{_≡_, refl, sym, ap, subst}
 use mathlib.Core.Bool.{Bool, true, false, cond}
 use mathlib.Core.List.{List, [], _∷_}
 use native.Mathlib.Omega.{arith}
@@ -16,8 +16,8 @@ use Rattle.framing_writer.specs.declared.Written.the-variants.{Done, Out}
 use Rattle.framing_writer.specs.Written.{Outcome, outcome}
 use Rattle.events.specs.Events.{lengthOf}
 use Rattle.events.proofs.Said.{said-is}
-use Rattle.session_words.specs.Words.{sessionAt, isSession, sessionPut}
-use Rattle.session_words.proofs.Laws.{session-length, put-four}
+use Rattle.session_words.specs.Words.{wordsOf, sessionAt, isSession, sessionPut}
+use Rattle.session_words.proofs.Laws.{words-back, words-session, session-length, put-four}
 use Rattle.framing_c.specs.Calls.{Told, accepts, told, calls, tells, puts}
 
 never : false ≡ true → ⊥
@@ -26,7 +26,7 @@ never g = let z : _≡_ {A = ℕ} 0 1 = cc in omega arith
 -- ---- SETUP
 
 -- a call that is accepted has a session of four words and an answer of three
-accepts-session : (ws : List ℕ) (n k : ℕ) → accepts ws n k ≡ true → length ws ≡ 4
+pub accepts-session : (ws : List ℕ) (n k : ℕ) → accepts ws n k ≡ true → length ws ≡ 4
 unfolding accepts
 accepts-session ws n k h = by (eqb k 3) h
   where
@@ -37,6 +37,20 @@ accepts-session ws n k h = by (eqb k 3) h
     by : (t : Bool) → pick t (pick (isSession ws) (legal (sessionAt ws) n) false) false ≡ true → length ws ≡ 4
     by true g = inner (isSession ws) refl g
     by false g = absurd (never g)
+
+-- .. and is of a legal session
+pub accepts-legal : (ws : List ℕ) (n k : ℕ) → accepts ws n k ≡ true → legal (sessionAt ws) n ≡ true
+unfolding accepts
+accepts-legal ws n k h = by (eqb k 3) (isSession ws) h
+  where
+    by : (u v : Bool) → pick u (pick v (legal (sessionAt ws) n) false) false ≡ true → legal (sessionAt ws) n ≡ true
+    by true true g = g
+    by true false g = absurd (never g)
+    by false v g = absurd (never g)
+
+pub accepts-words : (s : Session) (n : ℕ) → legal s n ≡ true → accepts (wordsOf s) n 3 ≡ true
+unfolding accepts
+accepts-words s n h = rw (words-session s) (subst (λ (q : Session). legal q n ≡ true) (sym (words-back s)) h)
 
 pub accepts-answer : (ws : List ℕ) (n k : ℕ) → accepts ws n k ≡ true → k ≡ 3
 unfolding accepts
@@ -51,6 +65,14 @@ accepts-answer ws n k h = by (eqb k 3) refl h
 pub calls-setup : (ws t bs a : List ℕ) → accepts ws (length t) (length a) ≡ false → calls ws t bs a ≡ record { number = 1; session = ws; store = t; answer = a }
 unfolding calls
 calls-setup ws t bs a h = rw h
+
+-- with the words of a legal session, and three words for the answer
+pub calls-words : (s : Session) (t bs a : List ℕ) → legal s (length t) ≡ true → length a ≡ 3 → calls (wordsOf s) t bs a ≡ told (feeds s t bs)
+unfolding calls
+calls-words s t bs a h three =
+    let e : accepts (wordsOf s) (length t) (length a) ≡ true =
+    subst (λ (k : ℕ). accepts (wordsOf s) (length t) k ≡ true) (sym three) (accepts-words s (length t) h) in
+    rw e (ap (λ (q : Session). told (feeds q t bs)) (words-back s))
 
 -- what the code computes of framing's answer r, and leaves in the words, the store and the answer
 module _ (ws t bs a : List ℕ) (s : Session) (r : Fed) (ws′ t′ a′ : List ℕ) (d n m : ℕ) (b : Bool) where

@@ -3,9 +3,8 @@
 use Prim.Native.Nat.{ℕ, _+_, _≤_}
 use mathlib.Core.Bool.{false}
 use mathlib.Core.List.{List, [], _∷_, _++_}
-use mathlib.Core.Path.{_≡_, refl, subst, _∙_}
+use mathlib.Core.Path.{_≡_, refl, sym, subst, _∙_}
 use native.Mathlib.Nat.{zero-add}
-use borrow.Author.Tests.{le-leb}
 use denote.Ref.{RefT, now}
 use contract.Lifetimes.{Lfts}
 use borrow.Fn.World as World
@@ -13,6 +12,7 @@ use borrow.Fn.Kinds as K
 use denote.Triple.Clauses as Clauses
 use lib.Dec.{leb}
 use lib.ListN.{length, take, drop}
+use types.Run.{OneOf, hit}
 use Rattle.framing.specs.Numbers.{messageLimit, storeLength}
 use Rattle.framing.specs.Rules.{none, State, Said, Happening, begin, ends}
 use Rattle.framing.specs.Session.{sessionOf}
@@ -23,8 +23,9 @@ use Rattle.framing.proofs.Calls.{some-turns}
 use Rattle.framing_writer.specs.declared.Written.{Written}
 use Rattle.framing_writer.specs.declared.Written.the-variants.{Done, Out}
 use Rattle.framing_writer.specs.Written.{sealed, frame, bodyLimit, requestBody, responseBody, inPackets}
-use Rattle.framing_writer.specs.Written.{Outcome, outcome, into, limited, frameInto, messageInto}
+use Rattle.framing_writer.specs.Written.{Outcome, outcome, writeNumbers, into, limited, frameInto, messageInto}
 use Rattle.framing_writer.proofs.Laws.{limited-fits}
+use Rattle.framing_writer.proofs.Sizes.{into-fits}
 use Rattle.framing_writer.specs.Read.{Bytes, Gives, happening, messageEvents, ReadAs}
 use Rattle.framing_writer.proofs.Chunks.{fresh-opens, in-chunks, written-frame, written-message, written-request, written-response}
 use Rattle.framing_writer.proofs.write_frame
@@ -164,6 +165,27 @@ some-request-call o = let k = into-answered (frame requestBody) o in (k .0, (k .
 pub some-response-call : (o : List ℕ) → (r : Written) × ((p : List ℕ) × ResponseCall o r p)
 some-response-call o = let k = into-answered (frame responseBody) o in (k .0, (k .1 .0, response-called (k .0) (k .1 .1)))
 
+-- ---- with which numbers: 0 or 46, whatever is handed in
+
+answer-numbered : (r : Written) (p : List ℕ) → OneOf writeNumbers (outcome r p .number)
+answer-numbered (Done n) p = hit writeNumbers 0 tt
+answer-numbered Out p = hit writeNumbers 46 tt
+
+said-numbered : (w : Outcome) → Answered w → OneOf writeNumbers (w .number)
+said-numbered w k = subst (λ (x : Outcome). OneOf writeNumbers (x .number)) (sym (k .1 .1)) (answer-numbered (k .0) (k .1 .0))
+
+pub frame-numbers : (xs o : List ℕ) → OneOf writeNumbers (frameInto xs o .number)
+frame-numbers xs o = said-numbered _ (limited-answered (length xs) bodyLimit (frame xs) o)
+
+pub message-numbers : (m o : List ℕ) → OneOf writeNumbers (messageInto m o .number)
+message-numbers m o = said-numbered _ (limited-answered (length m) messageLimit (inPackets m) o)
+
+pub request-numbers : (o : List ℕ) → OneOf writeNumbers (into (frame requestBody) o .number)
+request-numbers o = said-numbered _ (into-answered (frame requestBody) o)
+
+pub response-numbers : (o : List ℕ) → OneOf writeNumbers (into (frame responseBody) o .number)
+response-numbers o = said-numbered _ (into-answered (frame responseBody) o)
+
 -- ---- the claims, with nothing left open
 
 -- Some call is answered as done; and however the bytes that it wrote are cut into chunks, some list of turns offers the chunks to a fresh session with
@@ -174,10 +196,6 @@ pub record WrittenRead (Called : Written → List ℕ → Type 0) (t : List ℕ)
   pub call : Called (Done count) output
   pub read : (chunks : List (List ℕ)) → joined chunks ≡ take count output
       → (k : Consumed (sessionOf begin) t chunks) × ReadAs 0 (k .turns) (k .session) (k .store) hs e
-
-into-fits : (bs o : List ℕ) → length bs ≤ length o → into bs o ≡ outcome (Done (length bs)) (bs ++ drop (length bs) o)
-unfolding into
-into-fits bs o h = simp (le-leb _ _ h)
 
 -- an event at n bytes from the beginning
 from-zero : {bytes : List ℕ} {n : ℕ} {x : Said} {e : State} → Gives begin 0 bytes (record { offset = 0 + n; said = x } ∷ []) e

@@ -5,3 +5,4 @@ pub mod Reading
 pub mod Back
 pub mod Chunks
 pub mod Calls
+pub mod Sizes

@@ -79,6 +79,10 @@ abbrev pub outcome : Written → List ℕ → Outcome
 outcome (Done n) o = record { number = 0; count = n; output = o }
 outcome Out o = record { number = 46; count = 0; output = o }
 
+-- The rows of "Numbers answered" that a writer's call may give.
+abbrev pub writeNumbers : List ℕ
+writeNumbers = 0 ∷ 46 ∷ []
+
 -- "46 OUT: writer: output too short", which leaves the output as it was. Bytes past the written ones stay.
 unfoldable pub into : List ℕ → List ℕ → Outcome
 into bs o = pick (leb (length bs) (length o)) (outcome (Done (length bs)) (bs ++ drop (length bs) o)) (outcome Out o)
@@ -93,3 +97,10 @@ frameInto xs o = limited (length xs) bodyLimit (frame xs) o
 
 abbrev pub messageInto : List ℕ → List ℕ → Outcome
 messageInto m o = limited (length m) messageLimit (inPackets m) o
+
+-- An output that is always long enough: for a frame, and for the 17 frames of the longest message.
+abbrev pub frameRoom : ℕ
+frameRoom = 2050
+
+abbrev pub messageRoom : ℕ
+messageRoom = 34850

@@ -3,10 +3,12 @@ use Prim.Native.Nat.{ℕ, _≤_, _<_}
 use mathlib.Core.Path.{_≡_, refl, sym, ap, subst, _∙_}
 use mathlib.Core.List.{List, [], _∷_}
 use mathlib.Core.Bool.{Bool, true, false}
+use mathlib.Core.Logic.{inr}
 use native.Mathlib.Omega.{arith}
 use borrow.Author.Tests.{ltb-true, ltb-false}
 use lib.ListN.{length, drop}
 use lib.Dec.{ltb}
+use types.Run.{OneOf, hit}
 use Rattle.integers.specs.Digits.{pick}
 use Rattle.containers.specs.declared.Onto.{Onto}
 use Rattle.containers.specs.declared.Onto.the-variants.{Next, Refused as Stopped}
@@ -16,7 +18,7 @@ use Rattle.entries.proofs.Laws.{overlay-length}
 use Rattle.glow.specs.declared.Answer.{Answer}
 use Rattle.glow.specs.declared.Answer.the-variants.{Setup, Refused as No, Room, Read}
 use Rattle.walk.specs.Walk.{walk}
-use Rattle.glow.specs.Message.{Result, result, readOf, readAt, setup}
+use Rattle.glow.specs.Message.{Said, saidBy, refusals, readNumbers, Result, result, readOf, readAt, setup}
 use Rattle.glow.proofs.Places.{OntoIn}
 use Rattle.glow.proofs.Within.{EntriesIn, walk-in}
 
@@ -65,15 +67,31 @@ pub record Filled (s : List ℕ) (rows rows′ : Rows) (count : ℕ) : Type 0 wh
 
 abbrev pub Ruled : List ℕ → Rows → Rows → Answer → Type 0
 Ruled s rows rows′ Setup = rows′ ≡ rows
-Ruled s rows rows′ (No number place) = (rows′ ≡ rows) × (place ≤ length s)
+Ruled s rows rows′ (No number place) = (rows′ ≡ rows) × ((place ≤ length s) × OneOf refusals number)
 Ruled s rows rows′ (Room count) = (rows′ ≡ rows) × (length rows < count)
 Ruled s rows rows′ (Read root count) = Filled s rows rows′ count
 
+-- what is said is what the answer says
+said-by : (x y : Result) (b : Bool) → x .said ≡ saidBy (x .answer) → y .said ≡ saidBy (y .answer) → pick b x y .said ≡ saidBy (pick b x y .answer)
+said-by x y true e f = e
+said-by x y false e f = f
+
+said-of : (rows : Rows) (which : ℕ) (es : Entries) (a : Onto) → readOf rows which es a .said ≡ saidBy (readOf rows which es a .answer)
+said-of rows which es (Next next) =
+    said-by (result (Room (length es)) rows) (result (Read which (length es)) (overlay es rows)) (ltb (length rows) (length es)) refl refl
+said-of rows which es (Stopped e) = refl
+
 module _ (s : List ℕ) (rows : Rows) where
+  pub said-is : readAt s rows .said ≡ saidBy (readAt s rows .answer)
+  unfolding readAt
+  said-is =
+      said-by (result Setup rows) (readOf rows (walk s .which) (walk s .out .entries) (walk s .out .answer)) (setup (length s) (length rows)) refl
+      (said-of rows (walk s .which) (walk s .out .entries) (walk s .out .answer))
+
   abbrev Keeps : Result → Type 0
   Keeps x = Ruled s rows (x .rows) (x .answer)
 
-  of-walk : length rows ≤ 256 → (which : ℕ) (es : Entries) (a : Onto) → OntoIn s a → EntriesIn s es → Keeps (readOf rows which es a)
+  of-walk : length rows ≤ 256 → (which : ℕ) (es : Entries) (a : Onto) → OntoIn s 0 a → EntriesIn s es → Keeps (readOf rows which es a)
   of-walk t which es (Next next) w h =
       pick-by Keeps (ltb (length rows) (length es)) (λ e. (refl, ltb-true (length rows) (length es) e))
       (λ e. record { entries = es; counts = refl; holds = refl; parts = h; room = ltb-false (length rows) (length es) e; table = t })
@@ -101,11 +119,25 @@ module _ (s : List ℕ) (rows : Rows) where
 
   -- The place of a refusal lies in the message, its end included.
   pub place-within : {number place : ℕ} → readAt s rows .answer ≡ No number place → place ≤ length s
-  place-within e = subst (Ruled s rows (readAt s rows .rows)) e ruled .1
+  place-within e = subst (Ruled s rows (readAt s rows .rows)) e ruled .1 .0
+
+  -- A message is refused with 30 to 37 alone ..
+  pub refusal-numbers : {number place : ℕ} → readAt s rows .answer ≡ No number place → OneOf refusals number
+  refusal-numbers e = subst (Ruled s rows (readAt s rows .rows)) e ruled .1 .1
 
   -- The figure of ROOM is more than the rows that there are.
   pub room-more : {count : ℕ} → readAt s rows .answer ≡ Room count → length rows < count
   room-more e = subst (Ruled s rows (readAt s rows .rows)) e ruled .1
+
+  -- .. and every call answers with one of document 01's numbers.
+  pub read-numbers : OneOf readNumbers (readAt s rows .said .number)
+  read-numbers = subst (λ (x : Said). OneOf readNumbers (x .number)) (sym said-is) (go (readAt s rows .answer) ruled)
+    where
+      go : (a : Answer) → Ruled s rows (readAt s rows .rows) a → OneOf readNumbers (saidBy a .number)
+      go Setup h = hit readNumbers 1 tt
+      go (No number place) h = inr (inr (inr (h .1 .1)))
+      go (Room count) h = hit readNumbers 38 tt
+      go (Read root count) h = hit readNumbers 0 tt
 
   -- Every answer but 0 leaves the table as it was.
   pub refused-as-was : isRead (readAt s rows .answer) ≡ false → readAt s rows .rows ≡ rows

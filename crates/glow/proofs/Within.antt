@@ -1,11 +1,13 @@
--- The walk keeps to the message: every place that it tells lies in it, and every text, octets, path and sources that an entry keeps.
-use Prim.Native.Nat.{ℕ, zero, suc, _+_, _-_, _≤_}
-use mathlib.Core.Path.{_≡_}
+-- The walk keeps to the message: every place that it tells lies in it, and every text, octets, path and sources that an entry keeps. It refuses with the numbers of
+-- refusals alone, since its fuel, which is more than what is left of the message, never runs out.
+use Prim.Native.Nat.{ℕ, zero, suc, _+_, _-_, _≤_, _<_}
+use mathlib.Core.Path.{_≡_, subst}
 use mathlib.Core.List.{List, [], _∷_, _++_}
 use mathlib.Core.Bool.{true, false}
 use native.Mathlib.Omega.{arith}
 use lib.ListN.{length, getD, set}
 use lib.Dec.{ltb, eqb}
+use types.Run.{miss}
 use Rattle.containers.specs.declared.Open.{Open}
 use Rattle.containers.specs.declared.Tag.{Tag}
 use Rattle.containers.specs.declared.Stands.{Stands}
@@ -14,7 +16,7 @@ use Rattle.containers.specs.declared.Found.{Found}
 use Rattle.containers.specs.declared.Found.the-variants.{Value, Refused as NotFound}
 use Rattle.containers.specs.declared.Onto.{Onto}
 use Rattle.containers.specs.declared.Onto.the-variants.{Next, Refused as Stopped}
-use Rattle.containers.specs.Ends.{enterAt, firstAt, isTag}
+use Rattle.containers.specs.Ends.{no, enterAt, firstAt, lastAt, isTag}
 use Rattle.containers.proofs.Heads.{pick-by}
 use Rattle.entries.specs.declared.Cell.{Cell}
 use Rattle.entries.specs.Entry.{Entry, Entries, blanks, blank, withCell, putCell}
@@ -29,7 +31,9 @@ use Rattle.members.specs.Members.{memberAt, itemAt}
 use Rattle.walk.specs.Tree.{Out, out, closed, onNext, thenClosed, onMember, onItem, membersBy, itemsBy}
 use Rattle.members.specs.Root.{unbounded, rootKind, rootIn, topOf, topAt}
 use Rattle.walk.specs.Walk.{finished, walkOf, walk}
-use Rattle.glow.proofs.Places.{StandsIn, FoundIn, OntoIn, CellIn, MemberIn, ItemIn, enter-in, first-in, last-in, member-in, item-in}
+use Rattle.glow.specs.Message.{refusals}
+use Rattle.glow.proofs.Places.{NoIn, StandsIn, FoundIn, OntoIn, CellIn, MemberIn, ItemIn, is-30, is-33, onto-earlier, enter-in, first-in, last-in}
+use Rattle.glow.proofs.Places.{member-in, item-in}
 
 module _ (s : List ℕ) where
   -- all cells of all entries
@@ -76,57 +80,75 @@ module _ (s : List ℕ) where
   new-in [] kind parent h = (blanks-in 16, tt)
   new-in (e ∷ es) kind parent h = (h .0, new-in es kind parent (h .1))
 
-  -- the walk
-  abbrev pub OutIn : Out → Type 0
-  OutIn x = OntoIn s (x .answer) × EntriesIn (x .entries)
+  -- the walk, from the place p on
+  abbrev pub OutIn : ℕ → Out → Type 0
+  OutIn p x = OntoIn s p (x .answer) × EntriesIn (x .entries)
 
-  closed-in : (outer : Open) (k : ℕ) (a : Onto) → OntoIn s a → OntoIn s (closed s outer k a)
+  out-earlier : {p q : ℕ} → p ≤ q → (x : Out) → OutIn q x → OutIn p x
+  out-earlier h x w = (onto-earlier s h (x .answer) (w .0), w .1)
+
+  closed-in : (q : ℕ) (outer : Open) (k : ℕ) (a : Onto) → OntoIn s q a → OntoIn s q (closed s outer k a)
   unfolding closed
-  closed-in outer k (Next q) w = last-in s q w outer k
-  closed-in outer k (Stopped e) w = w
+  closed-in q outer k (Next n) w = onto-earlier s (w .0) (lastAt s n outer k) (last-in s n (w .1) outer k)
+  closed-in q outer k (Stopped e) w = w
 
-  on-next : (a : Onto) (es : Entries) (go : ℕ → Entries → Out) → OntoIn s a → EntriesIn es
-      → ((n : ℕ) (es′ : Entries) → n ≤ length s → EntriesIn es′ → OutIn (go n es′)) → OutIn (onNext a es go)
-  on-next (Next n) es go w h f = f n es w h
-  on-next (Stopped e) es go w h f = (w, h)
+  module _ (p : ℕ) where
+    on-next : {q : ℕ} → p < q → (a : Onto) (es : Entries) (go : ℕ → Entries → Out) → OntoIn s q a → EntriesIn es
+        → ((n : ℕ) (es′ : Entries) → p < n → n ≤ length s → EntriesIn es′ → OutIn p (go n es′)) → OutIn p (onNext a es go)
+    on-next l (Next n) es go w h f = f n es (omega (arith, l, w .0)) (w .1) h
+    on-next l (Stopped e) es go w h f = (w, h)
 
-  then-closed : (outer : Open) (k : ℕ) (x : Out) (go : ℕ → Entries → Out) → OutIn x
-      → ((n : ℕ) (es : Entries) → n ≤ length s → EntriesIn es → OutIn (go n es)) → OutIn (thenClosed s outer k x go)
-  then-closed outer k x go w f = on-next (closed s outer k (x .answer)) (x .entries) go (closed-in outer k (x .answer) (w .0)) (w .1) f
+    then-closed : {q : ℕ} → p < q → (outer : Open) (k : ℕ) (x : Out) (go : ℕ → Entries → Out) → OutIn q x
+        → ((n : ℕ) (es : Entries) → p < n → n ≤ length s → EntriesIn es → OutIn p (go n es)) → OutIn p (thenClosed s outer k x go)
+    then-closed {q} l outer k x go w f = on-next l (closed s outer k (x .answer)) (x .entries) go (closed-in q outer k (x .answer) (w .0)) (w .1) f
 
-  on-member : (m : Member) (es : Entries) (over : ℕ → ℕ → Out) (leaf : ℕ → ℕ → Cell → ℕ → ℕ → Out) (contents : ℕ → Open → Tag → ℕ → Out)
-      (items : ℕ → ℕ → Open → Tag → ℕ → Out) → MemberIn s m → EntriesIn es
-      → ((before n : ℕ) → n ≤ length s → OutIn (over before n))
-      → ((before c : ℕ) (v : Cell) (above n : ℕ) → n ≤ length s → CellIn s v → OutIn (leaf before c v above n))
-      → ((before : ℕ) (outer : Open) (g : Tag) (k : ℕ) → g .start ≤ length s → OutIn (contents before outer g k))
-      → ((before which : ℕ) (outer : Open) (g : Tag) (k : ℕ) → g .start ≤ length s → OutIn (items before which outer g k))
-      → OutIn (onMember m es over leaf contents items)
-  on-member (Done next) es over leaf contents items w h a b c d = (w, h)
-  on-member (Over before next) es over leaf contents items w h a b c d = a before next w
-  on-member (Leaf before n v above next) es over leaf contents items w h a b c d = b before n v above next (w .0) (w .1)
-  on-member (Contents before outer g k) es over leaf contents items w h a b c d = c before outer g k w
-  on-member (Items before which outer g k) es over leaf contents items w h a b c d = d before which outer g k w
-  on-member (NoMember e) es over leaf contents items w h a b c d = (w, h)
+    on-member : (m : Member) (es : Entries) (over : ℕ → ℕ → Out) (leaf : ℕ → ℕ → Cell → ℕ → ℕ → Out) (contents : ℕ → Open → Tag → ℕ → Out)
+        (items : ℕ → ℕ → Open → Tag → ℕ → Out) → MemberIn s p m → EntriesIn es
+        → ((before n : ℕ) → p < n → n ≤ length s → OutIn p (over before n))
+        → ((before c : ℕ) (v : Cell) (above n : ℕ) → p < n → n ≤ length s → CellIn s v → OutIn p (leaf before c v above n))
+        → ((before : ℕ) (outer : Open) (g : Tag) (k : ℕ) → p < g .start → g .start ≤ length s → OutIn p (contents before outer g k))
+        → ((before which : ℕ) (outer : Open) (g : Tag) (k : ℕ) → p < g .start → g .start ≤ length s → OutIn p (items before which outer g k))
+        → OutIn p (onMember m es over leaf contents items)
+    on-member (Done next) es over leaf contents items w h a b c d = (w, h)
+    on-member (Over before next) es over leaf contents items w h a b c d = a before next (w .0) (w .1)
+    on-member (Leaf before n v above next) es over leaf contents items w h a b c d = b before n v above next (w .0) (w .1 .0) (w .1 .1)
+    on-member (Contents before outer g k) es over leaf contents items w h a b c d = c before outer g k (w .0) (w .1)
+    on-member (Items before which outer g k) es over leaf contents items w h a b c d = d before which outer g k (w .0) (w .1)
+    on-member (NoMember e) es over leaf contents items w h a b c d = (w, h)
 
-  on-item : (m : Item) (es : Entries) (element : ℕ → Open → Tag → ℕ → Out) → ItemIn s m → EntriesIn es
-      → ((kind : ℕ) (outer : Open) (g : Tag) (k : ℕ) → g .start ≤ length s → OutIn (element kind outer g k)) → OutIn (onItem m es element)
-  on-item (NoMore next) es element w h a = (w, h)
-  on-item (Element kind outer g k) es element w h a = a kind outer g k w
-  on-item (NoItem e) es element w h a = (w, h)
+    on-item : (m : Item) (es : Entries) (element : ℕ → Open → Tag → ℕ → Out) → ItemIn s p m → EntriesIn es
+        → ((kind : ℕ) (outer : Open) (g : Tag) (k : ℕ) → p < g .start → g .start ≤ length s → OutIn p (element kind outer g k)) → OutIn p (onItem m es element)
+    on-item (NoMore next) es element w h a = (w, h)
+    on-item (Element kind outer g k) es element w h a = a kind outer g k (w .0) (w .1)
+    on-item (NoItem e) es element w h a = (w, h)
 
+  -- for every place, with a fuel that is more than what is left of the message
   abbrev MembersIn : ℕ → Type 0
-  MembersIn f = (k : ℕ) (o : Open) (row me above p before : ℕ) (es : Entries) → p ≤ length s → EntriesIn es
-      → OutIn (membersBy f s k o row me above p before es)
+  MembersIn f = (k : ℕ) (o : Open) (row me above p before : ℕ) (es : Entries) → p ≤ length s → length s - p < f → EntriesIn es
+      → OutIn p (membersBy f s k o row me above p before es)
 
   abbrev ItemsIn : ℕ → Type 0
-  ItemsIn f = (k : ℕ) (o : Open) (which parent above p : ℕ) (es : Entries) → p ≤ length s → EntriesIn es
-      → OutIn (itemsBy f s k o which parent above p es)
+  ItemsIn f = (k : ℕ) (o : Open) (which parent above p : ℕ) (es : Entries) → p ≤ length s → length s - p < f → EntriesIn es
+      → OutIn p (itemsBy f s k o which parent above p es)
 
   module _ (f : ℕ) (m : MembersIn f) (i : ItemsIn f) where
+    module _ (p : ℕ) (l : length s - p < suc f) where
+      -- one fuel less is enough from a later place on
+      less : {n : ℕ} → p < n → n ≤ length s → length s - n < f
+      less a b = omega (arith, a, b, l)
+
+      members-on : (k : ℕ) (o : Open) (row me above n before : ℕ) (es : Entries) → p < n → n ≤ length s → EntriesIn es
+          → OutIn p (membersBy f s k o row me above n before es)
+      members-on k o row me above n before es a b w = out-earlier (omega arith) (membersBy f s k o row me above n before es) (m k o row me above n before es b (less a b) w)
+
+      items-on : (k : ℕ) (o : Open) (which parent above n : ℕ) (es : Entries) → p < n → n ≤ length s → EntriesIn es
+          → OutIn p (itemsBy f s k o which parent above n es)
+      items-on k o which parent above n es a b w = out-earlier (omega arith) (itemsBy f s k o which parent above n es) (i k o which parent above n es b (less a b) w)
+
     members-step : MembersIn (suc f)
     unfolding membersBy
-    members-step k o row me above p before es h w =
-        on-member (memberAt s p o k row above before) es
+    members-step k o row me above p before es h l w =
+        on-member p (memberAt s p o k row above before) es
         (λ before′ next. membersBy f s k o row me above next before′ es)
         (λ before′ c v above′ next. membersBy f s k o row me above′ next before′ (putCell es me c v))
         (λ before′ outer g j.
@@ -136,40 +158,38 @@ module _ (s : List ℕ) where
         thenClosed s outer j (itemsBy f s (j - 1) (g .inner) which (me + 1) above (g .start) es)
         (λ next es′. membersBy f s k o row me above next before′ es′))
         (member-in s p h k o row above before) w
-        (λ before′ next q. m k o row me above next before′ es q w)
-        (λ before′ c v above′ next q r. m k o row me above′ next before′ (putCell es me c v) q (put-in es me c v r w))
-        (λ before′ outer g j q.
-        then-closed outer j (membersBy f s (j - 1) (g .inner) (contentsOf row) me above (g .start) 0 es)
+        (λ before′ next a q. members-on p l k o row me above next before′ es a q w)
+        (λ before′ c v above′ next a q r. members-on p l k o row me above′ next before′ (putCell es me c v) a q (put-in es me c v r w))
+        (λ before′ outer g j a q.
+        then-closed p a outer j (membersBy f s (j - 1) (g .inner) (contentsOf row) me above (g .start) 0 es)
         (λ next es′. membersBy f s k o row me above next before′ es′)
-        (m (j - 1) (g .inner) (contentsOf row) me above (g .start) 0 es q w)
-        (λ next es′ q r. m k o row me above next before′ es′ q r))
-        (λ before′ which outer g j q.
-        then-closed outer j (itemsBy f s (j - 1) (g .inner) which (me + 1) above (g .start) es)
+        (m (j - 1) (g .inner) (contentsOf row) me above (g .start) 0 es q (less p l a q) w)
+        (λ next es′ a q r. members-on p l k o row me above next before′ es′ a q r))
+        (λ before′ which outer g j a q.
+        then-closed p a outer j (itemsBy f s (j - 1) (g .inner) which (me + 1) above (g .start) es)
         (λ next es′. membersBy f s k o row me above next before′ es′)
-        (i (j - 1) (g .inner) which (me + 1) above (g .start) es q w)
-        (λ next es′ q r. m k o row me above next before′ es′ q r))
+        (i (j - 1) (g .inner) which (me + 1) above (g .start) es q (less p l a q) w)
+        (λ next es′ a q r. members-on p l k o row me above next before′ es′ a q r))
 
     items-step : ItemsIn (suc f)
     unfolding itemsBy
-    items-step k o which parent above p es h w =
-        on-item (itemAt s p o k which) es
+    items-step k o which parent above p es h l w =
+        on-item p (itemAt s p o k which) es
         (λ kind outer g j.
         thenClosed s outer j (membersBy f s (j - 1) (g .inner) kind (length es) above (g .start) 0 (es ++ (blank kind parent ∷ [])))
         (λ next es′. itemsBy f s k o which parent above next es′))
         (item-in s p h k o which) w
-        (λ kind outer g j q.
-        then-closed outer j (membersBy f s (j - 1) (g .inner) kind (length es) above (g .start) 0 (es ++ (blank kind parent ∷ [])))
+        (λ kind outer g j a q.
+        then-closed p a outer j (membersBy f s (j - 1) (g .inner) kind (length es) above (g .start) 0 (es ++ (blank kind parent ∷ [])))
         (λ next es′. itemsBy f s k o which parent above next es′)
-        (m (j - 1) (g .inner) kind (length es) above (g .start) 0 (es ++ (blank kind parent ∷ [])) q (new-in es kind parent w))
-        (λ next es′ q r. i k o which parent above next es′ q r))
+        (m (j - 1) (g .inner) kind (length es) above (g .start) 0 (es ++ (blank kind parent ∷ [])) q (less p l a q) (new-in es kind parent w))
+        (λ next es′ a q r. items-on p l k o which parent above next es′ a q r))
 
   members-none : MembersIn zero
-  unfolding membersBy
-  members-none k o row me above p before es h w = (omega arith, w)
+  members-none k o row me above p before es h l w = absurd (omega arith)
 
   items-none : ItemsIn zero
-  unfolding itemsBy
-  items-none k o which parent above p es h w = (omega arith, w)
+  items-none k o which parent above p es h l w = absurd (omega arith)
 
   both-in : (f : ℕ) → MembersIn f × ItemsIn f
   both-in zero = (members-none, items-none)
@@ -178,34 +198,40 @@ module _ (s : List ℕ) where
   -- the whole message
   abbrev TopIn : Top → Type 0
   TopIn (Root which outer g) = g .start ≤ length s
-  TopIn (NoRoot e) = e .1 ≤ length s
+  TopIn (NoRoot e) = NoIn s e
 
-  root-in : (t : Tag) → t .start ≤ length s → (x : Found) → FoundIn s x → TopIn (rootIn t x)
-  root-in t h (Value g) w = pick-by TopIn (eqb (rootKind g) 4) (λ e. h) (λ e. w)
+  root-in : (t : Tag) → t .start ≤ length s → (x : Found) → FoundIn s (t .start) x → TopIn (rootIn t x)
+  root-in t h (Value g) w = pick-by TopIn (eqb (rootKind g) 4) (λ e. (h, is-33)) (λ e. w .1)
   root-in t h (NotFound e) w = w
 
-  top-of : (x : Stands) → StandsIn s x → TopIn (topOf s x)
-  top-of (Ended n) w = omega arith
+  top-of : (x : Stands) → StandsIn s 0 x → TopIn (topOf s x)
+  top-of (Ended n) w = (omega arith, is-33)
   top-of (Here t) w =
-      pick-by TopIn (isTag t 1 1 0) (λ e. root-in t w (firstAt s (t .start) (t .inner) 63) (first-in s (t .start) w (t .inner) 63)) (λ e. omega arith)
+      pick-by TopIn (isTag t 1 1 0) (λ e. root-in t (w .1) (firstAt s (t .start) (t .inner) 63) (first-in s (t .start) (w .1) (t .inner) 63))
+      (λ e. (omega arith, is-33))
   top-of (Refused e) w = w
 
   top-in : TopIn (topAt s)
   unfolding topAt
   top-in = top-of (enterAt s 0 unbounded 64) (enter-in s 0 (omega arith) unbounded 64)
 
-  finished-in : (a : Onto) → OntoIn s a → OntoIn s (finished s a)
+  finished-in : (p : ℕ) (a : Onto) → OntoIn s p a → OntoIn s p (finished s a)
   unfolding finished
-  finished-in (Next n) w = pick-by (OntoIn s) (eqb n (length s)) (λ e. w) (λ e. w)
-  finished-in (Stopped e) w = w
+  finished-in p (Next n) w = pick-by (OntoIn s p) (eqb n (length s)) (λ e. w) (λ e. (w .1, is-30))
+  finished-in p (Stopped e) w = w
 
-  walk-of : (x : Top) → TopIn x → OutIn (walkOf s x .out)
+  walk-of : (x : Top) → TopIn x → OutIn 0 (walkOf s x .out)
   walk-of (Root which outer g) w =
-      let r = both-in (suc (length s)) .1 62 (g .inner) which 0 0 (g .start) [] w tt in
+      let r = both-in (suc (length s)) .1 62 (g .inner) which 0 0 (g .start) [] w (omega arith) tt in
       let x : Out = itemsBy (suc (length s)) s 62 (g .inner) which 0 0 (g .start) [] in
-      (finished-in (closed s outer 63 (x .answer)) (closed-in outer 63 (x .answer) (r .0)), r .1)
+      out-earlier (omega arith) (walkOf s (Root which outer g) .out)
+      (finished-in (g .start) (closed s outer 63 (x .answer)) (closed-in (g .start) outer 63 (x .answer) (r .0)), r .1)
   walk-of (NoRoot e) w = (w, tt)
 
-  pub walk-in : OutIn (walk s .out)
+  pub walk-in : OutIn 0 (walk s .out)
   unfolding walk
   walk-in = walk-of (topAt s) top-in
+
+  -- The fuel that the walk is given never runs out: that would be a refusal of number 0.
+  pub fuel-enough : {place : ℕ} → walk s .out .answer ≡ Stopped (no 0 place) → ⊥
+  fuel-enough e = miss refusals 0 tt (subst (OntoIn s 0) e (walk-in .0) .1)

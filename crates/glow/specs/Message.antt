@@ -1,6 +1,6 @@
 -- What the reader answers (document 01, "Glow" and "Numbers answered").
 use Prim.Native.Nat.{ℕ}
-use mathlib.Core.List.{List}
+use mathlib.Core.List.{List, [], _∷_}
 use mathlib.Core.Bool.{Bool, true}
 use lib.ListN.{length}
 use lib.Dec.{ltb}
@@ -24,6 +24,14 @@ saidBy Setup = record { number = 1; place = 0; count = 0; root = 0 }
 saidBy (No number place) = record { number = number; place = place; count = 0; root = 0 }
 saidBy (Room count) = record { number = 38; place = 0; count = count; root = 0 }
 saidBy (Read root count) = record { number = 0; place = 0; count = count; root = root }
+
+-- The rows of "Numbers answered" for a refused message: "30 BER, 31 FORM, 32 DEPTH, 33 GLOW", "34 NUMBER, 35 REAL, 36 NAME, 37 PATH".
+abbrev pub refusals : List ℕ
+refusals = 30 ∷ 31 ∷ 32 ∷ 33 ∷ 34 ∷ 35 ∷ 36 ∷ 37 ∷ []
+
+-- .. and for any message: 0 done, 1 SETUP, 38 ROOM
+abbrev pub readNumbers : List ℕ
+readNumbers = 0 ∷ 1 ∷ 38 ∷ refusals
 
 -- the answer, and the lent table after it
 pub record Result : Type 0 where

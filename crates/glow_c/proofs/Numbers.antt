@@ -1,0 +1,46 @@
+-- With which numbers the calls answer, whatever is handed in. `calls`, `writeCalls` and `acceptCalls` are the contracts of glow_read, glow_write and glow_accepts.
+use Prim.Native.Nat.{ℕ, _+_}
+use mathlib.Core.List.{List}
+use lib.Dec.{leb, eqb}
+use lib.ListN.{length}
+use types.Run.{OneOf, hit}
+use Rattle.integers.specs.Digits.{Put, put}
+use Rattle.containers.proofs.Heads.{pick-by}
+use Rattle.entries.specs.Entry.{Rows}
+use Rattle.forest.specs.Rows.{itemsIn}
+use Rattle.forest.specs.Written.{writtenReal}
+use Rattle.member_sizes.specs.Spelling.{leastReal}
+use Rattle.tree_sizes.specs.Accepted.{octetsOf, fits}
+use Rattle.glow_writer.specs.Writes.{writes}
+use Rattle.glow.specs.Message.{readNumbers}
+use Rattle.glow.proofs.Answers.{read-numbers}
+use Rattle.glow_c.specs.Calls.{Call, calls, Writing, writeCalls, acceptCalls}
+use Rattle.glow_c.specs.Numbers.{writeNumbers, acceptNumbers}
+
+-- 0, 1, 30 to 37 or 38
+pub glow-read-numbers : (s : List ℕ) (rows : Rows) (answer : List ℕ) → OneOf readNumbers (calls s rows answer .number)
+unfolding calls
+glow-read-numbers s rows answer =
+    pick-by (λ (x : Call). OneOf readNumbers (x .number)) (eqb (length answer) 3) (λ e. read-numbers s rows) (λ e. hit readNumbers 1 tt)
+
+-- 0, 1 or 46
+written-numbers : (root rows n : ℕ) (s : List ℕ) (table : Rows) (out : List ℕ) → OneOf writeNumbers (writes root rows n (itemsIn s table n) out .number)
+unfolding writes put
+written-numbers root rows n s table out =
+    let es = itemsIn s table n in
+    pick-by (λ (x : Put). OneOf writeNumbers (x .number)) (fits writtenReal root rows n es)
+    (λ e. pick-by (λ (x : Put). OneOf writeNumbers (x .number)) (leb (0 + length (octetsOf writtenReal root es)) (length out))
+    (λ e. hit writeNumbers 0 tt) (λ e. hit writeNumbers 46 tt))
+    (λ e. hit writeNumbers 46 tt)
+
+pub glow-write-numbers : (rows : Rows) (n root : ℕ) (s out answer : List ℕ) → OneOf writeNumbers (writeCalls rows n root s out answer .number)
+unfolding writeCalls
+glow-write-numbers rows n root s out answer =
+    pick-by (λ (x : Writing). OneOf writeNumbers (x .number)) (eqb (length answer) 1) (λ e. written-numbers root (length rows) n s rows out)
+    (λ e. hit writeNumbers 1 tt)
+
+-- 0 or 1
+pub glow-accept-numbers : (rows : Rows) (n root : ℕ) (s : List ℕ) → OneOf acceptNumbers (acceptCalls rows n root s)
+unfolding acceptCalls
+glow-accept-numbers rows n root s =
+    pick-by (OneOf acceptNumbers) (fits leastReal root (length rows) n (itemsIn s rows n)) (λ e. hit acceptNumbers 1 tt) (λ e. hit acceptNumbers 0 tt)
