@@ -468,20 +468,25 @@ static void desk_request(void)
 
 static void desk_call(void)
 {
-    size_t words, numbers, cells, rows = rows_lent(), bytes = lend_message(4), k = about(EMBER_CALL_WORDS, 3), n, m;
-    uint64_t number, root, *answers, *answer;
+    size_t words, numbers, cells, rows = rows_lent(), bytes = lend_message(4), k = about(EMBER_CALL_WORDS, 3), n;
+    uint64_t number, root, *answer;
+    uint8_t *answers;
     lend_desk(0, 1, 2, &words, &numbers, &cells);
     n = read_rows(3, 4, rows > 256 ? 256 : rows, &root);
     rows = lent[3].count / sizeof(ember_row);
-    m = about(n, 300);
-    answers = lend_words(5, m);
+    answers = lend_bytes(5, EMBER_ANSWERS_MAX);
     answer = lend_words(6, k);
     remember();
     number = ember_desk_call((uint64_t *)lent[0].bytes, words, (uint64_t *)lent[1].bytes, numbers, ember_rows((ember_row *)lent[3].bytes), rows, n, root, lent[4].bytes, bytes,
-                             lent[2].bytes, cells, answers, m, answer, k);
+                             lent[2].bytes, cells, answers, answer, k);
     count("ember_desk_call", number);
-    if (number == EMBER_DONE && (answer[0] > n || !same_from(5, 8 * answer[0])))
+    if (number == EMBER_DONE && answer[0] > n)
         wrong("more answers than entries");
+    for (size_t i = EMBER_ANSWERS_MAX; number == EMBER_DONE && i-- > answer[0];)
+        if (answers[i] != 0)
+            wrong("no zeros after the answers");
+    if (number == EMBER_SETUP && !same(5))
+        wrong("refused, and other answers");
     for (size_t i = 0; number == EMBER_DONE && i < answer[0]; i++)
         if (answers[i] != EMBER_DONE && (answers[i] < EMBER_MATRIX || answers[i] > EMBER_TOTAL))
             wrong("an answer that is none");
@@ -598,30 +603,36 @@ static void write_frames(void)
 
 static void turn(void)
 {
-    size_t words, bytes, figure_words, numbers, cells, rows = rows_lent(), m = about(rows, 300), k = about(EMBER_TURN_WORDS, 12);
+    size_t words, bytes, figure_words, numbers, cells, rows = rows_lent(), k = about(EMBER_TURN_WORDS, 12);
     size_t chunk = lend_stream(0, 1, 2, &words, &bytes);
     ember_row *table = lend_table(3, rows);
-    uint64_t *answers, *answer, number;
+    uint64_t *answer, number;
+    uint8_t *answers;
     lend_desk(4, 5, 6, &figure_words, &numbers, &cells);
-    answers = lend_words(7, m);
+    answers = lend_bytes(7, EMBER_ANSWERS_MAX);
     answer = lend_words(8, k);
     remember();
     number = ember_turn((uint64_t *)lent[0].bytes, words, lent[1].bytes, bytes, lent[2].bytes, chunk, table, rows, (uint64_t *)lent[4].bytes, figure_words,
-                        (uint64_t *)lent[5].bytes, numbers, lent[6].bytes, cells, answers, m, answer, k);
+                        (uint64_t *)lent[5].bytes, numbers, lent[6].bytes, cells, answers, answer, k);
     count("ember_turn", number);
     if (number == EMBER_MESSAGE) {
         count("  its tree", answer[EMBER_TURN_TREE]);
         if (answer[EMBER_TURN_TREE] == EMBER_DONE)
             count("  its desk", answer[EMBER_TURN_DESK]);
-        if (answer[EMBER_TURN_TREE] != EMBER_DONE && (!same(3) || !same(6) || !same(7)))
-            wrong("a refused tree changed table, crosspoints or answers");
-        if (answer[EMBER_TURN_TREE] == EMBER_DONE && (answer[EMBER_TURN_ANSWERS] > answer[EMBER_TURN_COUNT] || !same_from(7, 8 * answer[EMBER_TURN_ANSWERS])))
+        if (answer[EMBER_TURN_TREE] != EMBER_DONE && (!same(3) || !same(6)))
+            wrong("a refused tree changed table or crosspoints");
+        if (answer[EMBER_TURN_TREE] == EMBER_DONE && answer[EMBER_TURN_ANSWERS] > answer[EMBER_TURN_COUNT])
             wrong("more answers than entries");
         if (answer[EMBER_TURN_TREE] == EMBER_DONE && answer[EMBER_TURN_DESK] == EMBER_DONE)
             desk_went(EMBER_DONE, 4, 6, figure_words);
-    } else if (!same(3) || !same(6) || !same(7)) {
-        wrong("no message, and table, crosspoints or answers changed");
+    } else if (!same(3) || !same(6)) {
+        wrong("no message, and table or crosspoints changed");
     }
+    for (size_t i = EMBER_ANSWERS_MAX; number != EMBER_SETUP && i-- > answer[EMBER_TURN_ANSWERS];)
+        if (answers[i] != 0)
+            wrong("no zeros after the answers");
+    if (number == EMBER_SETUP && !same(7))
+        wrong("refused, and other answers");
     stream_went(number, 0, 1, number == EMBER_SETUP ? 0 : answer[EMBER_CONSUMED], chunk);
 }
 

@@ -21,7 +21,7 @@ static uint8_t crosspoints[EMBER_CROSSPOINTS];
 
 static uint8_t store[EMBER_STORE_BYTES];
 static ember_row table[EMBER_ROWS_MAX];
-static uint64_t answers[EMBER_ROWS_MAX];
+static uint8_t answers[EMBER_ANSWERS_MAX];
 static uint64_t told[EMBER_TURN_WORDS];
 
 /* The answer to a message: its rows, and the octets of its path and its sources. */
@@ -132,7 +132,7 @@ int main(int words, char **word)
     while ((got = read(STDIN_FILENO, input, sizeof input)) > 0) {
         for (size_t at = 0; at < (size_t)got; at += told[EMBER_CONSUMED]) {
             uint64_t event = ember_turn(session, EMBER_SESSION_WORDS, store, sizeof store, input + at, (size_t)got - at, table, EMBER_ROWS_MAX, figures,
-                                        EMBER_FIGURES_WORDS, path, path_words, crosspoints, sizeof crosspoints, answers, EMBER_ROWS_MAX, told, EMBER_TURN_WORDS);
+                                        EMBER_FIGURES_WORDS, path, path_words, crosspoints, sizeof crosspoints, answers, told, EMBER_TURN_WORDS);
             if (event == EMBER_SETUP || serve(event) != 0)
                 return 1;
         }

@@ -16,6 +16,7 @@ use Rattle.glow.specs.declared.Answer.{Answer}
 use Rattle.glow.specs.declared.Answer.the-variants as glow
 use Rattle.walk.specs.Walk.{walk}
 use Rattle.glow.specs.Message.{Result, result, readOf, readAt, setup}
+use Rattle.glow.proofs.Answers.{rows-kept}
 use Rattle.forest.specs.Content.{itemsOf}
 use Rattle.forest.specs.Rows.{itemsIn}
 use Rattle.tree_sizes.specs.Accepted.{accepted}
@@ -123,10 +124,11 @@ module _ (w : ℕ) (m : List ℕ) (table : Rows) (few : length m ≤ 16384) (siz
       pub entries-accepted : accepted root (itemsIn m after count) ≡ true
       entries-accepted = subst (λ (x : Rows). accepted root (itemsIn m x count) ≡ true) rows-are (read-accepted m octets table root count answers)
 
-      pub entries-few : (count ≤ 256) × (count ≤ length after)
-      entries-few =
-          let k = in-rows m table answers in
-          (k .1, subst (λ (x : Rows). count ≤ length x) rows-are (k .0))
+      pub entries-few : count ≤ length after
+      entries-few = subst (λ (x : Rows). count ≤ length x) rows-are (in-rows m table answers .0)
+
+      pub rows-few : length after ≤ 256
+      rows-few = let l : length after ≡ length table = ap length (sym rows-are) ∙ rows-kept m table in omega (arith, l, sized)
 
       pub tells-entries : (x : Sheet) (path′ cells′ : List ℕ) → Tells (ofEntries w (itemsIn m after count)) path cells x path′ cells′
           → Tells (ofMessage w m) path cells x path′ cells′

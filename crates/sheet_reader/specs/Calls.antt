@@ -1,7 +1,7 @@
 -- The call that reads a route sheet (document 01, "Desk"): what it answers, and what it leaves of what is lent. `readSheet` (crates/sheets/specs/Reading.antt)
 -- is what reading a byte string gives.
 use Prim.Native.Nat.{ℕ, _*_}
-use mathlib.Core.List.{List, _++_}
+use mathlib.Core.List.{List, [], _∷_, _++_}
 use mathlib.Core.Bool.{Bool}
 use lib.ListN.{length, drop}
 use lib.Dec.{eqb}
@@ -55,3 +55,14 @@ abbrev pub told : Sheet → List ℕ → List ℕ → Cells → Outcome
 told Setup store path cells = outcome 1 setup store path cells
 told (Refused n) store path cells = outcome n none store path cells
 told (Read f n) store path cells = outcome 0 (desk f n) store path cells
+
+-- The rows of "Numbers answered" that refuse a sheet: the events from 10 up, 12 for a bad line among them; the tree's, 38 ROOM, and 33 once more; the desk's.
+abbrev pub refusedNumbers : List ℕ
+refusedNumbers =
+    10 ∷ 11 ∷ 12 ∷ 13 ∷ 14 ∷ 15 ∷ 16 ∷ 20 ∷ 21 ∷ 22 ∷ 23 ∷ 24
+    ∷ 30 ∷ 31 ∷ 32 ∷ 33 ∷ 34 ∷ 35 ∷ 36 ∷ 37 ∷ 38
+    ∷ 40 ∷ 41 ∷ 42 ∷ 43 ∷ 44 ∷ 45 ∷ []
+
+-- .. and that the call may answer: 0 done, 1 SETUP
+abbrev pub sheetNumbers : List ℕ
+sheetNumbers = 0 ∷ 1 ∷ refusedNumbers

@@ -5,3 +5,4 @@ pub mod Steps
 pub mod Messages
 pub mod Answers
 pub mod Stores
+pub mod Numbers

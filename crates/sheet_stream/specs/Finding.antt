@@ -5,13 +5,17 @@ use mathlib.Core.List.{List, [], _∷_}
 use lib.ListN.{length, take}
 use lib.Dec.{leb, eqb}
 use Rattle.integers.specs.Digits.{pick}
-use Rattle.framing.specs.Numbers.{storeLength}
+use Rattle.framing.specs.Numbers.{storeLength, faultNumbers}
 use Rattle.framing.specs.Rules.{State, Step, begin, step}
 use Rattle.framing.specs.Session.{kept}
 use Rattle.sheets.specs.Lines.{Stream, bad, stream, linesIn}
 use Rattle.sheets.specs.Reading.{Held, refusal, message, heldIn}
 use Rattle.sheet_stream.specs.declared.Found.{Found}
 use Rattle.sheet_stream.specs.declared.Found.the-variants.{Setup, Refused, Message}
+
+-- The rows of "Numbers answered" that refuse a text: 33, and the events from 10 up, 12 for a bad line among them (`held-numbers`, proofs/Numbers.antt).
+abbrev pub heldNumbers : List ℕ
+heldNumbers = 33 ∷ faultNumbers
 
 -- What stands in the store after the bytes, up to and including that of the first event from 10 up, or all of them: what a session leaves that is fed them
 -- (`kept`, crates/framing/specs/Session.antt, says it of one byte; `stored-by-calls`, proofs/Stores.antt, of calls on any chunks).

@@ -151,9 +151,9 @@ impl Desk {
     }
 
     /// Serves the connections among rows, in order: how many answers there are, 0 or 40 to 44 each; or 1, if the rows make no tree
-    /// that the reader accepts or `answers` is shorter than `rows`.
+    /// that the reader accepts or there are more than 256, or the message is over 16,384 bytes. After the answers come zeros.
     /// Never changes anything if it answers 1, nor a crosspoint for a connection that is refused.
-    pub fn call(&mut self, rows: &[Row], root: Root, message: &[u8], answers: &mut [u64]) -> Result<usize, u64> {
+    pub fn call(&mut self, rows: &[Row], root: Root, message: &[u8], answers: &mut [u8; 256]) -> Result<usize, u64> {
         let words = self.figures.words();
         let mut answer = [0; 1];
         // SAFETY: each pointer and its count name a slice that is borrowed here, those written to mutably.
@@ -171,8 +171,7 @@ impl Desk {
                 message.len(),
                 self.crosspoints.as_mut_ptr(),
                 self.crosspoints.len(),
-                answers.as_mut_ptr(),
-                answers.len(),
+                answers,
                 answer.as_mut_ptr(),
                 answer.len(),
             )
@@ -276,7 +275,7 @@ pub struct Line<const N: usize> {
     session: Session,
     desk: Desk,
     table: [Row; N],
-    answers: [u64; N],
+    answers: [u8; 256],
 }
 
 /// What a turn told.
@@ -293,7 +292,7 @@ pub struct Turn<'a> {
     /// The message's entries, if it was read.
     pub rows: &'a [Row],
     /// The desk's answer to each of its connections, in order: 0 or 40 to 44.
-    pub answers: &'a [u64],
+    pub answers: &'a [u8],
     /// The desk after the turn.
     pub desk: &'a Desk,
 }
@@ -303,7 +302,7 @@ impl<const N: usize> Line<N> {
     /// Never compiles for more than 256 entries.
     pub fn new(desk: Desk) -> Line<N> {
         const { assert!(N <= ROWS_MAX) };
-        Line { session: Session::new(), desk, table: [Row::default(); N], answers: [0; N] }
+        Line { session: Session::new(), desk, table: [Row::default(); N], answers: [0; 256] }
     }
 
     /// The desk as it is now.
@@ -341,8 +340,7 @@ impl<const N: usize> Line<N> {
                 self.desk.numbers,
                 self.desk.crosspoints.as_mut_ptr(),
                 self.desk.crosspoints.len(),
-                self.answers.as_mut_ptr(),
-                N,
+                &mut self.answers,
                 told.as_mut_ptr(),
                 told.len(),
             )

@@ -34,7 +34,7 @@
 //!         let turn = line.turn(rest);
 //!         rest = &rest[turn.consumed..];
 //!         if let (Event::Message(message), Some(Read::Entries { count, .. })) = (turn.event, turn.tree) {
-//!             assert_eq!((count, turn.answers), (2, &[number::DONE][..]));
+//!             assert_eq!((count, turn.answers), (2, &[0][..]));
 //!             assert!(turn.rows[1].numbers(member::CONNECTION_SOURCES, message).eq([3]));
 //!             assert!(turn.desk.sources(0).eq([3]));
 //!         }

@@ -16,7 +16,7 @@ fn stored_hex(name: &str) -> Vec<u8> {
 }
 
 /// The connections of the targets that a message named, as they are now.
-fn answer(desk: &Desk, rows: &[Row], answers: &[u64], text: &mut String) -> Vec<u8> {
+fn answer(desk: &Desk, rows: &[Row], answers: &[u8], text: &mut String) -> Vec<u8> {
     let mut parts = [0; 4096];
     let mut at = encode(desk.path(), &mut parts).unwrap();
     let mut reply = vec![Row::new(Kind::QualifiedMatrix, None)];
@@ -24,6 +24,7 @@ fn answer(desk: &Desk, rows: &[Row], answers: &[u64], text: &mut String) -> Vec<
     let mut named = Vec::new();
     let connections = rows.iter().filter(|row| row.kind() == Some(Kind::Connection));
     for (place, (row, &told)) in connections.zip(answers).enumerate() {
+        let told = u64::from(told);
         if told != number::DONE {
             *text += &format!("connection {}: {told}\n", place + 1);
         }
