@@ -468,20 +468,25 @@ static void desk_request(void)
 
 static void desk_call(void)
 {
-    size_t words, numbers, cells, rows = rows_lent(), bytes = lend_message(4), k = about(EMBER_CALL_WORDS, 3), n, m;
-    uint64_t number, root, *answers, *answer;
+    size_t words, numbers, cells, rows = rows_lent(), bytes = lend_message(4), k = about(EMBER_CALL_WORDS, 3), n;
+    uint64_t number, root, *answer;
+    uint8_t *answers;
     lend_desk(0, 1, 2, &words, &numbers, &cells);
     n = read_rows(3, 4, rows > 256 ? 256 : rows, &root);
     rows = lent[3].count / sizeof(ember_row);
-    m = about(n, 300);
-    answers = lend_words(5, m);
+    answers = lend_bytes(5, EMBER_ANSWERS_MAX);
     answer = lend_words(6, k);
     remember();
     number = ember_desk_call((uint64_t *)lent[0].bytes, words, (uint64_t *)lent[1].bytes, numbers, ember_rows((ember_row *)lent[3].bytes), rows, n, root, lent[4].bytes, bytes,
-                             lent[2].bytes, cells, answers, m, answer, k);
+                             lent[2].bytes, cells, answers, answer, k);
     count("ember_desk_call", number);
-    if (number == EMBER_DONE && (answer[0] > n || !same_from(5, 8 * answer[0])))
+    if (number == EMBER_DONE && answer[0] > n)
         wrong("more answers than entries");
+    for (size_t i = EMBER_ANSWERS_MAX; number == EMBER_DONE && i-- > answer[0];)
+        if (answers[i] != 0)
+            wrong("no zeros after the answers");
+    if (number == EMBER_SETUP && !same(5))
+        wrong("refused, and other answers");
     for (size_t i = 0; number == EMBER_DONE && i < answer[0]; i++)
         if (answers[i] != EMBER_DONE && (answers[i] < EMBER_NO_MATRIX || answers[i] > EMBER_BAD_TOTAL))
             wrong("an answer that is none");
@@ -598,30 +603,36 @@ static void write_frames(void)
 
 static void turn(void)
 {
-    size_t words, bytes, figure_words, numbers, cells, rows = rows_lent(), m = about(rows, 300), k = about(EMBER_TURN_WORDS, 12);
+    size_t words, bytes, figure_words, numbers, cells, rows = rows_lent(), k = about(EMBER_TURN_WORDS, 12);
     size_t chunk = lend_stream(0, 1, 2, &words, &bytes);
     ember_row *table = lend_table(3, rows);
-    uint64_t *answers, *answer, number;
+    uint64_t *answer, number;
+    uint8_t *answers;
     lend_desk(4, 5, 6, &figure_words, &numbers, &cells);
-    answers = lend_words(7, m);
+    answers = lend_bytes(7, EMBER_ANSWERS_MAX);
     answer = lend_words(8, k);
     remember();
     number = ember_turn((uint64_t *)lent[0].bytes, words, lent[1].bytes, bytes, lent[2].bytes, chunk, table, rows, (uint64_t *)lent[4].bytes, figure_words,
-                        (uint64_t *)lent[5].bytes, numbers, lent[6].bytes, cells, answers, m, answer, k);
+                        (uint64_t *)lent[5].bytes, numbers, lent[6].bytes, cells, answers, answer, k);
     count("ember_turn", number);
     if (number == EMBER_MESSAGE) {
         count("  its tree", answer[EMBER_TURN_TREE]);
         if (answer[EMBER_TURN_TREE] == EMBER_DONE)
             count("  its desk", answer[EMBER_TURN_DESK]);
-        if (answer[EMBER_TURN_TREE] != EMBER_DONE && (!same(3) || !same(6) || !same(7)))
-            wrong("a refused tree changed table, crosspoints or answers");
-        if (answer[EMBER_TURN_TREE] == EMBER_DONE && (answer[EMBER_TURN_ANSWERS] > answer[EMBER_TURN_COUNT] || !same_from(7, 8 * answer[EMBER_TURN_ANSWERS])))
+        if (answer[EMBER_TURN_TREE] != EMBER_DONE && (!same(3) || !same(6)))
+            wrong("a refused tree changed table or crosspoints");
+        if (answer[EMBER_TURN_TREE] == EMBER_DONE && answer[EMBER_TURN_ANSWERS] > answer[EMBER_TURN_COUNT])
             wrong("more answers than entries");
         if (answer[EMBER_TURN_TREE] == EMBER_DONE && answer[EMBER_TURN_DESK] == EMBER_DONE)
             desk_went(EMBER_DONE, 4, 6, figure_words);
-    } else if (!same(3) || !same(6) || !same(7)) {
-        wrong("no message, and table, crosspoints or answers changed");
+    } else if (!same(3) || !same(6)) {
+        wrong("no message, and table or crosspoints changed");
     }
+    for (size_t i = EMBER_ANSWERS_MAX; number != EMBER_SETUP && i-- > answer[EMBER_TURN_ANSWERS];)
+        if (answers[i] != 0)
+            wrong("no zeros after the answers");
+    if (number == EMBER_SETUP && !same(7))
+        wrong("refused, and other answers");
     stream_went(number, 0, 1, number == EMBER_SETUP ? 0 : answer[EMBER_CONSUMED], chunk);
 }
 
@@ -662,7 +673,7 @@ static void damage_text(uint8_t *text, size_t length)
 
 static void read_sheet(void)
 {
-    size_t n = about(sheet_bytes, EMBER_SHEET_MAX), rows = one_in(40) ? 255 + below(3) : 256, bytes = one_in(60) ? EMBER_STORE_BYTES - 1 + below(3) : EMBER_STORE_BYTES;
+    size_t n = about(sheet_bytes, EMBER_SHEET_MAX), bytes = one_in(60) ? EMBER_STORE_BYTES - 1 + below(3) : EMBER_STORE_BYTES;
     size_t words = about(EMBER_FIGURES_WORDS, 9), numbers = about(EMBER_PATH_MAX, 18), cells = one_in(60) ? EMBER_CROSSPOINTS - 1 + below(3) : EMBER_CROSSPOINTS;
     size_t k = about(EMBER_SHEET_WORDS, 3);
     uint8_t *text = lend(0, n);
@@ -670,20 +681,18 @@ static void read_sheet(void)
     memcpy(text, sheet, n);
     damage_text(text, n);
     lend_bytes(1, bytes);
-    lend_table(2, rows);
-    lend_words(3, words);
-    lend_words(4, numbers);
-    lend_bytes(5, cells);
-    answer = lend_words(6, k);
+    lend_words(2, words);
+    lend_words(3, numbers);
+    lend_bytes(4, cells);
+    answer = lend_words(5, k);
     remember();
-    number = ember_sheet_read(text, n, lent[1].bytes, bytes, (ember_row *)lent[2].bytes, rows, (uint64_t *)lent[3].bytes, words, (uint64_t *)lent[4].bytes, numbers, lent[5].bytes, cells,
-                              answer, k);
+    number = ember_sheet_read(text, n, lent[1].bytes, bytes, (uint64_t *)lent[2].bytes, words, (uint64_t *)lent[3].bytes, numbers, lent[4].bytes, cells, answer, k);
     count("ember_sheet_read", number);
-    if (number != EMBER_DONE && (!same(3) || !same(4) || !same(5)))
+    if (number != EMBER_DONE && (!same(2) || !same(3) || !same(4)))
         wrong("a refusal changed figures, path or crosspoints");
-    if (number == EMBER_DONE && (answer[0] < 1 || answer[0] > EMBER_PATH_MAX || !same_from(4, 8 * answer[0])))
+    if (number == EMBER_DONE && (answer[0] < 1 || answer[0] > EMBER_PATH_MAX || !same_from(3, 8 * answer[0])))
         wrong("another path");
-    if (number == EMBER_DONE && ember_desk_is_legal((uint64_t *)lent[3].bytes, words, (uint64_t *)lent[4].bytes, answer[0], lent[5].bytes, cells) != 1)
+    if (number == EMBER_DONE && ember_desk_is_legal((uint64_t *)lent[2].bytes, words, (uint64_t *)lent[3].bytes, answer[0], lent[4].bytes, cells) != 1)
         wrong("read, and not legal");
 }
 

@@ -479,21 +479,32 @@ static size_t make_message(void)
 
 static void desk_calls(void)
 {
-    static uint64_t answers[EMBER_ROWS_MAX + 1];
+    static uint8_t answers[EMBER_ANSWERS_MAX];
+    static ember_row many[EMBER_ROWS_MAX + 1];
+    static uint8_t bytes[EMBER_MESSAGE_MAX + 1];
     uint64_t words[EMBER_CALL_WORDS + 1];
     size_t count = make_message();
     make_figures(EMBER_N_TO_N, 2, 3);
     expect("open", open_desk(), EMBER_DONE);
     for (int more = -1; more <= 1; more += 2)
         expect("words", ember_desk_call(figures, EMBER_FIGURES_WORDS, path, 2, ember_rows(table), count, count, EMBER_ELEMENTS, octets, sizeof octets, crosspoints,
-                                        EMBER_CROSSPOINTS, answers, count, words, EMBER_CALL_WORDS + more), EMBER_SETUP);
-    expect("fewer answers", ember_desk_call(figures, EMBER_FIGURES_WORDS, path, 2, ember_rows(table), count, count, EMBER_ELEMENTS, octets, sizeof octets,
-                                            crosspoints, EMBER_CROSSPOINTS, answers, count - 1, words, EMBER_CALL_WORDS), EMBER_SETUP);
+                                        EMBER_CROSSPOINTS, answers, words, EMBER_CALL_WORDS + more), EMBER_SETUP);
+    memset(answers, 9, sizeof answers);
+    memcpy(many, table, count * sizeof *table);
+    memcpy(bytes, octets, sizeof octets);
+    expect("a table of 257 rows", ember_desk_call(figures, EMBER_FIGURES_WORDS, path, 2, ember_rows(many), EMBER_ROWS_MAX + 1, count, EMBER_ELEMENTS, bytes, EMBER_MESSAGE_MAX,
+                                                  crosspoints, EMBER_CROSSPOINTS, answers, words, EMBER_CALL_WORDS), EMBER_SETUP);
+    expect("a message of 16,385 bytes", ember_desk_call(figures, EMBER_FIGURES_WORDS, path, 2, ember_rows(many), EMBER_ROWS_MAX, count, EMBER_ELEMENTS, bytes, EMBER_MESSAGE_MAX + 1,
+                                                        crosspoints, EMBER_CROSSPOINTS, answers, words, EMBER_CALL_WORDS), EMBER_SETUP);
     expect("no tree", ember_desk_call(figures, EMBER_FIGURES_WORDS, path, 2, ember_rows(table), count, count, EMBER_STREAMS, octets, sizeof octets, crosspoints,
-                                      EMBER_CROSSPOINTS, answers, count, words, EMBER_CALL_WORDS), EMBER_SETUP);
+                                      EMBER_CROSSPOINTS, answers, words, EMBER_CALL_WORDS), EMBER_SETUP);
+    expect("as they were", answers[0] + answers[EMBER_ANSWERS_MAX - 1], 18);
+    expect("the most of both", ember_desk_call(figures, EMBER_FIGURES_WORDS, path, 2, ember_rows(many), EMBER_ROWS_MAX, count, EMBER_ELEMENTS, bytes, EMBER_MESSAGE_MAX, crosspoints,
+                                               EMBER_CROSSPOINTS, answers, words, EMBER_CALL_WORDS), EMBER_DONE);
+    expect("then zeros", answers[2] + answers[EMBER_ANSWERS_MAX - 1], 0);
     words[1] = 7;
     expect("served", ember_desk_call(figures, EMBER_FIGURES_WORDS, path, 2, ember_rows(table), count, count, EMBER_ELEMENTS, octets, sizeof octets, crosspoints,
-                                     EMBER_CROSSPOINTS, answers, count, words, EMBER_CALL_WORDS), EMBER_DONE);
+                                     EMBER_CROSSPOINTS, answers, words, EMBER_CALL_WORDS), EMBER_DONE);
     expect("answers", words[0], 2);
     expect("ours", answers[0], EMBER_DONE);
     expect("another's", answers[1], EMBER_NO_MATRIX);
@@ -502,13 +513,13 @@ static void desk_calls(void)
 
 /* ---- a whole turn */
 
-static uint64_t turn_answers[EMBER_ROWS_MAX];
+static uint8_t turn_answers[EMBER_ANSWERS_MAX];
 static uint64_t turn_words[EMBER_TURN_WORDS + 1];
 
-static uint64_t turn(const uint8_t *bytes, size_t count, size_t rows, size_t answers, size_t numbers, size_t cells, size_t words)
+static uint64_t turn(const uint8_t *bytes, size_t count, size_t rows, size_t numbers, size_t cells, size_t words)
 {
     return ember_turn(session, EMBER_SESSION_WORDS, store, EMBER_STORE_BYTES, bytes, count, table, rows, figures, EMBER_FIGURES_WORDS, path, numbers, crosspoints, cells,
-                      turn_answers, answers, turn_words, words);
+                      turn_answers, turn_words, words);
 }
 
 static void turns(void)
@@ -521,16 +532,18 @@ static void turns(void)
     expect("frames", ember_write_message(message, message_bytes, frames, sizeof frames, &count), EMBER_DONE);
     fresh();
     memset(table, 0xee, sizeof table);
-    expect("rows", turn(frames, count, EMBER_ROWS_MAX + 1, EMBER_ROWS_MAX + 1, 2, EMBER_CROSSPOINTS, EMBER_TURN_WORDS), EMBER_SETUP);
-    expect("answers", turn(frames, count, EMBER_ROWS_MAX, EMBER_ROWS_MAX - 1, 2, EMBER_CROSSPOINTS, EMBER_TURN_WORDS), EMBER_SETUP);
-    expect("no path", turn(frames, count, EMBER_ROWS_MAX, EMBER_ROWS_MAX, 0, EMBER_CROSSPOINTS, EMBER_TURN_WORDS), EMBER_SETUP);
-    expect("a path of 17", turn(frames, count, EMBER_ROWS_MAX, EMBER_ROWS_MAX, EMBER_PATH_MAX + 1, EMBER_CROSSPOINTS, EMBER_TURN_WORDS), EMBER_SETUP);
-    expect("crosspoints", turn(frames, count, EMBER_ROWS_MAX, EMBER_ROWS_MAX, 2, EMBER_CROSSPOINTS - 1, EMBER_TURN_WORDS), EMBER_SETUP);
-    expect("crosspoints", turn(frames, count, EMBER_ROWS_MAX, EMBER_ROWS_MAX, 2, EMBER_CROSSPOINTS + 1, EMBER_TURN_WORDS), EMBER_SETUP);
-    expect("words", turn(frames, count, EMBER_ROWS_MAX, EMBER_ROWS_MAX, 2, EMBER_CROSSPOINTS, EMBER_TURN_WORDS - 1), EMBER_SETUP);
-    expect("words", turn(frames, count, EMBER_ROWS_MAX, EMBER_ROWS_MAX, 2, EMBER_CROSSPOINTS, EMBER_TURN_WORDS + 1), EMBER_SETUP);
-    expect("a turn with no bytes", turn(frames, 0, EMBER_ROWS_MAX, EMBER_ROWS_MAX, 2, EMBER_CROSSPOINTS, EMBER_TURN_WORDS), EMBER_DONE);
-    expect("a turn", turn(frames, count, EMBER_ROWS_MAX, EMBER_ROWS_MAX, 2, EMBER_CROSSPOINTS, EMBER_TURN_WORDS), EMBER_MESSAGE);
+    expect("rows", turn(frames, count, EMBER_ROWS_MAX + 1, 2, EMBER_CROSSPOINTS, EMBER_TURN_WORDS), EMBER_SETUP);
+    expect("no path", turn(frames, count, EMBER_ROWS_MAX, 0, EMBER_CROSSPOINTS, EMBER_TURN_WORDS), EMBER_SETUP);
+    expect("a path of 17", turn(frames, count, EMBER_ROWS_MAX, EMBER_PATH_MAX + 1, EMBER_CROSSPOINTS, EMBER_TURN_WORDS), EMBER_SETUP);
+    expect("crosspoints", turn(frames, count, EMBER_ROWS_MAX, 2, EMBER_CROSSPOINTS - 1, EMBER_TURN_WORDS), EMBER_SETUP);
+    expect("crosspoints", turn(frames, count, EMBER_ROWS_MAX, 2, EMBER_CROSSPOINTS + 1, EMBER_TURN_WORDS), EMBER_SETUP);
+    expect("words", turn(frames, count, EMBER_ROWS_MAX, 2, EMBER_CROSSPOINTS, EMBER_TURN_WORDS - 1), EMBER_SETUP);
+    expect("words", turn(frames, count, EMBER_ROWS_MAX, 2, EMBER_CROSSPOINTS, EMBER_TURN_WORDS + 1), EMBER_SETUP);
+    memset(turn_answers, 9, sizeof turn_answers);
+    expect("nor then", turn(frames, count, EMBER_ROWS_MAX, 0, EMBER_CROSSPOINTS, EMBER_TURN_WORDS), EMBER_SETUP);
+    expect("as they were", turn_answers[0] + turn_answers[EMBER_ANSWERS_MAX - 1], 18);
+    expect("a turn with no bytes", turn(frames, 0, EMBER_ROWS_MAX, 2, EMBER_CROSSPOINTS, EMBER_TURN_WORDS), EMBER_DONE);
+    expect("a turn", turn(frames, count, EMBER_ROWS_MAX, 2, EMBER_CROSSPOINTS, EMBER_TURN_WORDS), EMBER_MESSAGE);
     expect("nothing thrown away", turn_words[EMBER_DISCARDED], 0);
     expect("all consumed", turn_words[EMBER_CONSUMED], count);
     expect("the message", turn_words[EMBER_LENGTH], message_bytes);
@@ -542,41 +555,43 @@ static void turns(void)
     expect("answers", turn_words[EMBER_TURN_ANSWERS], 2);
     expect("ours", turn_answers[0], EMBER_DONE);
     expect("another's", turn_answers[1], EMBER_NO_MATRIX);
+    expect("then zeros", turn_answers[2] + turn_answers[EMBER_ANSWERS_MAX - 1], 0);
     expect("connected", crosspoints[EMBER_CROSSPOINT(1, 2)], 1);
     expect("rows past the count", table[4][0], 0xeeeeeeeeeeeeeeeeull);
 
-    expect("three rows", turn(frames, count, 3, 3, 2, EMBER_CROSSPOINTS, EMBER_TURN_WORDS), EMBER_MESSAGE);
+    expect("three rows", turn(frames, count, 3, 2, EMBER_CROSSPOINTS, EMBER_TURN_WORDS), EMBER_MESSAGE);
     expect("EMBER_NO_ROOM", turn_words[EMBER_TURN_TREE], EMBER_NO_ROOM);
+    expect("the desk not called", turn_answers[1], 0);
     expect("how many", turn_words[EMBER_TURN_COUNT], 4);
 
     /* one byte too many after Root */
     message[message_bytes] = 0;
     expect("frames", ember_write_message(message, message_bytes + 1, frames, sizeof frames, &count), EMBER_DONE);
-    expect("a turn", turn(frames, count, EMBER_ROWS_MAX, EMBER_ROWS_MAX, 2, EMBER_CROSSPOINTS, EMBER_TURN_WORDS), EMBER_MESSAGE);
+    expect("a turn", turn(frames, count, EMBER_ROWS_MAX, 2, EMBER_CROSSPOINTS, EMBER_TURN_WORDS), EMBER_MESSAGE);
     expect("EMBER_BAD_BER", turn_words[EMBER_TURN_TREE], EMBER_BAD_BER);
     expect("its place", turn_words[EMBER_TURN_PLACE], message_bytes);
 
     /* a desk that is not legal: the message is read, and the desk says 1 */
     crosspoints[EMBER_CROSSPOINT(63, 63)] = 1;
     expect("frames", ember_write_message(message, message_bytes, frames, sizeof frames, &count), EMBER_DONE);
-    expect("a turn", turn(frames, count, EMBER_ROWS_MAX, EMBER_ROWS_MAX, 2, EMBER_CROSSPOINTS, EMBER_TURN_WORDS), EMBER_MESSAGE);
+    expect("a turn", turn(frames, count, EMBER_ROWS_MAX, 2, EMBER_CROSSPOINTS, EMBER_TURN_WORDS), EMBER_MESSAGE);
     expect("EMBER_SETUP", turn_words[EMBER_TURN_DESK], EMBER_SETUP);
     expect("no answers", turn_words[EMBER_TURN_ANSWERS], 0);
 
     figures[EMBER_FIGURES_HAS_EACH] = 3;
-    expect("no figures", turn(frames, count, EMBER_ROWS_MAX, EMBER_ROWS_MAX, 2, EMBER_CROSSPOINTS, EMBER_TURN_WORDS), EMBER_SETUP);
+    expect("no figures", turn(frames, count, EMBER_ROWS_MAX, 2, EMBER_CROSSPOINTS, EMBER_TURN_WORDS), EMBER_SETUP);
     figures[EMBER_FIGURES_HAS_EACH] = 0;
     session[0] = 6;
-    expect("no session", turn(frames, count, EMBER_ROWS_MAX, EMBER_ROWS_MAX, 2, EMBER_CROSSPOINTS, EMBER_TURN_WORDS), EMBER_SETUP);
+    expect("no session", turn(frames, count, EMBER_ROWS_MAX, 2, EMBER_CROSSPOINTS, EMBER_TURN_WORDS), EMBER_SETUP);
 }
 
 /* ---- route sheets */
 
 static uint8_t sheet[EMBER_SHEET_MAX];
 
-static uint64_t read_sheet(size_t bytes, size_t rows, size_t words, size_t numbers, size_t cells, size_t told)
+static uint64_t read_sheet(size_t bytes, size_t store_bytes, size_t words, size_t numbers, size_t cells, size_t told)
 {
-    return ember_sheet_read(sheet, bytes, store, EMBER_STORE_BYTES, table, rows, figures, words, path, numbers, crosspoints, cells, answer, told);
+    return ember_sheet_read(sheet, bytes, store, store_bytes, figures, words, path, numbers, crosspoints, cells, answer, told);
 }
 
 static void sheets(void)
@@ -603,18 +618,23 @@ static void sheets(void)
     memset(crosspoints, 0, EMBER_CROSSPOINTS);
     path[0] = 5;
     for (int more = -1; more <= 1; more += 2) {
-        expect("rows", read_sheet(length[0], EMBER_ROWS_MAX + more, EMBER_FIGURES_WORDS, EMBER_PATH_MAX, EMBER_CROSSPOINTS, EMBER_SHEET_WORDS), EMBER_SETUP);
-        expect("words of figures", read_sheet(length[0], EMBER_ROWS_MAX, EMBER_FIGURES_WORDS + more, EMBER_PATH_MAX, EMBER_CROSSPOINTS, EMBER_SHEET_WORDS), EMBER_SETUP);
-        expect("numbers", read_sheet(length[0], EMBER_ROWS_MAX, EMBER_FIGURES_WORDS, EMBER_PATH_MAX + more, EMBER_CROSSPOINTS, EMBER_SHEET_WORDS), EMBER_SETUP);
-        expect("crosspoints", read_sheet(length[0], EMBER_ROWS_MAX, EMBER_FIGURES_WORDS, EMBER_PATH_MAX, EMBER_CROSSPOINTS + more, EMBER_SHEET_WORDS), EMBER_SETUP);
-        expect("words", read_sheet(length[0], EMBER_ROWS_MAX, EMBER_FIGURES_WORDS, EMBER_PATH_MAX, EMBER_CROSSPOINTS, EMBER_SHEET_WORDS + more), EMBER_SETUP);
+        expect("bytes of the store", read_sheet(length[0], EMBER_STORE_BYTES + more, EMBER_FIGURES_WORDS, EMBER_PATH_MAX, EMBER_CROSSPOINTS, EMBER_SHEET_WORDS), EMBER_SETUP);
+        expect("words of figures", read_sheet(length[0], EMBER_STORE_BYTES, EMBER_FIGURES_WORDS + more, EMBER_PATH_MAX, EMBER_CROSSPOINTS, EMBER_SHEET_WORDS), EMBER_SETUP);
+        expect("numbers", read_sheet(length[0], EMBER_STORE_BYTES, EMBER_FIGURES_WORDS, EMBER_PATH_MAX + more, EMBER_CROSSPOINTS, EMBER_SHEET_WORDS), EMBER_SETUP);
+        expect("crosspoints", read_sheet(length[0], EMBER_STORE_BYTES, EMBER_FIGURES_WORDS, EMBER_PATH_MAX, EMBER_CROSSPOINTS + more, EMBER_SHEET_WORDS), EMBER_SETUP);
+        expect("words", read_sheet(length[0], EMBER_STORE_BYTES, EMBER_FIGURES_WORDS, EMBER_PATH_MAX, EMBER_CROSSPOINTS, EMBER_SHEET_WORDS + more), EMBER_SETUP);
     }
-    expect("cut off", read_sheet(length[0] - 2, EMBER_ROWS_MAX, EMBER_FIGURES_WORDS, EMBER_PATH_MAX, EMBER_CROSSPOINTS, EMBER_SHEET_WORDS), EMBER_BAD_BYTE);
+    memset(store, 0xaa, EMBER_STORE_BYTES);
+    expect("cut off", read_sheet(length[0] - 2, EMBER_STORE_BYTES, EMBER_FIGURES_WORDS, EMBER_PATH_MAX, EMBER_CROSSPOINTS, EMBER_SHEET_WORDS), EMBER_BAD_BYTE);
     expect("as they were", path[0] + figures[1] + crosspoints[0], 5);
-    expect("nothing", read_sheet(0, EMBER_ROWS_MAX, EMBER_FIGURES_WORDS, EMBER_PATH_MAX, EMBER_CROSSPOINTS, EMBER_SHEET_WORDS), EMBER_BAD_GLOW);
+    for (size_t i = 0; i < EMBER_STORE_BYTES; i++)
+        expect("the store too", store[i], 0xaa);
+    expect("nothing", read_sheet(0, EMBER_STORE_BYTES, EMBER_FIGURES_WORDS, EMBER_PATH_MAX, EMBER_CROSSPOINTS, EMBER_SHEET_WORDS), EMBER_BAD_GLOW);
     expect("no numbers", answer[0], 0);
-    expect("read", read_sheet(length[0], EMBER_ROWS_MAX, EMBER_FIGURES_WORDS, EMBER_PATH_MAX, EMBER_CROSSPOINTS, EMBER_SHEET_WORDS), EMBER_DONE);
+    expect("read", read_sheet(length[0], EMBER_STORE_BYTES, EMBER_FIGURES_WORDS, EMBER_PATH_MAX, EMBER_CROSSPOINTS, EMBER_SHEET_WORDS), EMBER_DONE);
     expect("numbers", answer[0], EMBER_PATH_MAX);
+    expect("the message in the store", store[0], 0x60);
+    expect("bytes that no rule writes", store[16383], 0xaa);
     expect("the first", path[0], 2147483647u);
     expect("figures", (uint64_t)memcmp(figures, was, sizeof was), 0);
     expect("all connected", (uint64_t)memcmp(crosspoints, all, sizeof all), 0);

@@ -56,7 +56,7 @@ static void stores(void)
     static uint8_t longest[1 + 1025 + 1];
     fed("a keep-alive", alive, sizeof alive, EMBER_REQUEST, NULL, 0, alive + 1, 6);
     fed("a wrong CRC", bad_crc, sizeof bad_crc, EMBER_CRC, NULL, 0, bad_crc + 1, 6);
-    fed("bytes past a fault", faulty, sizeof faulty, EMBER_BYTE, NULL, 0, faulty + 1, 2);
+    fed("bytes past a fault", faulty, sizeof faulty, EMBER_BAD_BYTE, NULL, 0, faulty + 1, 2);
     fed("an escape left open", open_escape, sizeof open_escape, EMBER_DONE, NULL, 0, open_escape + 1, 1);
     fed("a message", piece, sizeof piece, EMBER_MESSAGE, piece + 10, 2, piece + 1, 13);
     fed("a stray byte", stray, sizeof stray, EMBER_STRAY, NULL, 0, NULL, 0);
@@ -101,9 +101,9 @@ static void readings(void)
         expect_words(#message, words, place, count, root);                                                                       \
     } while (0)
     READ(command, 1, EMBER_DONE, 0, 1, EMBER_ELEMENTS);
-    READ(command, 0, EMBER_ROOM, 0, 1, 0);
+    READ(command, 0, EMBER_NO_ROOM, 0, 1, 0);
     READ(streams, 1, EMBER_DONE, 0, 0, EMBER_STREAMS);
-    READ(node, 1, EMBER_NUMBER, 10, 0, 0);
+    READ(node, 1, EMBER_BAD_NUMBER, 10, 0, 0);
 }
 
 /* "first of all": EMBER_SETUP for a wrong count of crosspoints, also where the path, the mode or a figure is out of its range too. */

@@ -520,18 +520,11 @@ static void rows(void)
 static uint64_t call_desk(uint64_t *figures, uint64_t *path, size_t path_words, const ember_row *table, size_t count, uint64_t root, const uint8_t *message,
                           size_t bytes, uint8_t *crosspoints, uint8_t *answers, uint64_t *answer)
 {
-#ifdef EMBER_ANSWERS_MAX
     uint8_t *lent_answers = lend(EMBER_ANSWERS_MAX, NULL);
     uint64_t number;
     remember();
     number = done("ember_desk_call", ember_desk_call(figures, EMBER_FIGURES_WORDS, path, path_words, table, count, count, root, message, bytes, crosspoints,
                                                      EMBER_CROSSPOINTS, lent_answers, answer, EMBER_CALL_WORDS));
-#else
-    uint64_t *lent_answers = lend(8 * (count > 0 ? count : 1), NULL), number;
-    remember();
-    number = done("ember_desk_call", ember_desk_call(figures, EMBER_FIGURES_WORDS, path, path_words, table, count, count, root, message, bytes, crosspoints,
-                                                     EMBER_CROSSPOINTS, lent_answers, count, answer, EMBER_CALL_WORDS));
-#endif
     for (size_t i = 0; number == EMBER_DONE && i < answer[0]; i++)
         answers[i] = (uint8_t)lent_answers[i];
     return number;
@@ -540,19 +533,11 @@ static uint64_t call_desk(uint64_t *figures, uint64_t *path, size_t path_words, 
 static uint64_t call_turn(uint64_t *session, uint8_t *store, const uint8_t *chunk, size_t chunk_bytes, ember_row *table, size_t rows, uint64_t *figures,
                           uint64_t *path, size_t path_words, uint8_t *crosspoints, uint8_t *answers, uint64_t *answer)
 {
-#ifdef EMBER_ANSWERS_MAX
     uint8_t *lent_answers = lend(EMBER_ANSWERS_MAX, NULL);
     uint64_t number;
     remember();
     number = done("ember_turn", ember_turn(session, EMBER_SESSION_WORDS, store, EMBER_STORE_BYTES, chunk, chunk_bytes, table, rows, figures,
                                            EMBER_FIGURES_WORDS, path, path_words, crosspoints, EMBER_CROSSPOINTS, lent_answers, answer, EMBER_TURN_WORDS));
-#else
-    uint64_t *lent_answers = lend(8 * EMBER_ROWS_MAX, NULL), number;
-    remember();
-    number = done("ember_turn", ember_turn(session, EMBER_SESSION_WORDS, store, EMBER_STORE_BYTES, chunk, chunk_bytes, table, rows, figures,
-                                           EMBER_FIGURES_WORDS, path, path_words, crosspoints, EMBER_CROSSPOINTS, lent_answers, EMBER_ROWS_MAX, answer,
-                                           EMBER_TURN_WORDS));
-#endif
     for (size_t i = 0; number == EMBER_MESSAGE && i < answer[EMBER_TURN_ANSWERS]; i++)
         answers[i] = (uint8_t)lent_answers[i];
     return number;
@@ -560,16 +545,9 @@ static uint64_t call_turn(uint64_t *session, uint8_t *store, const uint8_t *chun
 
 static uint64_t call_sheet(const uint8_t *text, size_t bytes, uint8_t *store, uint64_t *figures, uint64_t *path, uint8_t *crosspoints, uint64_t *answer)
 {
-#ifdef EMBER_ANSWERS_MAX
     remember();
     return done("ember_sheet_read", ember_sheet_read(text, bytes, store, EMBER_STORE_BYTES, figures, EMBER_FIGURES_WORDS, path, EMBER_PATH_MAX, crosspoints,
                                                      EMBER_CROSSPOINTS, answer, EMBER_SHEET_WORDS));
-#else
-    ember_row *table = lend(EMBER_ROWS_MAX * sizeof *table, NULL);
-    remember();
-    return done("ember_sheet_read", ember_sheet_read(text, bytes, store, EMBER_STORE_BYTES, table, EMBER_ROWS_MAX, figures, EMBER_FIGURES_WORDS, path,
-                                                     EMBER_PATH_MAX, crosspoints, EMBER_CROSSPOINTS, answer, EMBER_SHEET_WORDS));
-#endif
 }
 
 static uint64_t desk_figures[EMBER_FIGURES_WORDS], desk_path[EMBER_PATH_MAX];

@@ -6,7 +6,7 @@ use crate::STORE;
 extern "C" {
     /// One turn. Lent: the session's four words (as `framing_feed` has them), the store, the chunk, the table, the desk (seven
     /// words: type, targets, sources, whether there is a total limit and which, whether there is one per target and which), its
-    /// path's numbers, its 4,096 cells, a word for each answer of the desk's call, and nine words that say what the calls
+    /// path's numbers, its 4,096 cells, 256 bytes for the answers of the desk's call, and nine words that say what the calls
     /// answered. Returned is the session's number; of the nine words the benchmark uses the second, the bytes consumed, the fourth,
     /// the tree reader's number (0 if it was not called), the eighth, the desk call's number, and the ninth, the count of its answers.
     fn ember_turn(
@@ -24,8 +24,7 @@ extern "C" {
         path_numbers: usize,
         cells: *mut u8,
         cell_count: usize,
-        answers: *mut u64,
-        answer_count: usize,
+        answers: *mut [u8; 256],
         said: *mut u64,
         said_words: usize,
     ) -> u64;
@@ -38,6 +37,7 @@ pub struct Proved {
     desk: [u64; 7],
     path: Vec<u64>,
     cells: Vec<u8>,
+    bytes: [u8; 256],
     answers: Vec<u64>,
 }
 
@@ -54,6 +54,7 @@ impl Proved {
             desk: [figures.kind, figures.targets, figures.sources, has_total, total, has_per_target, per_target],
             path: figures.path.clone(),
             cells: vec![0; CELLS],
+            bytes: [0; 256],
             answers: vec![0; ENTRIES],
         }
     }
@@ -79,8 +80,7 @@ impl Host for Proved {
                 self.path.len(),
                 self.cells.as_mut_ptr(),
                 self.cells.len(),
-                self.answers.as_mut_ptr(),
-                self.answers.len(),
+                &mut self.bytes,
                 said.as_mut_ptr(),
                 said.len(),
             )
@@ -89,6 +89,9 @@ impl Host for Proved {
         assert!(event != 1 && desk == 0);
         let tree = (event == 3).then_some(tree);
         let answers = (tree == Some(0)).then_some(answers as usize);
+        for (word, &byte) in self.answers.iter_mut().zip(&self.bytes[..answers.unwrap_or(0)]) {
+            *word = u64::from(byte);
+        }
         Turn { consumed: consumed as usize, event, tree, answers }
     }
 

@@ -6,7 +6,7 @@
  * wrong length or a word out of range with EMBER_SETUP. No call of this library allocates, keeps anything between calls (no
  * pointer either), reads a clock, starts a thread or calls anything but memcpy, memmove and memset: all memory is lent by the
  * caller, and two calls that share no memory may run at once. Measured, 32 KB of stack are enough for every call but
- * ember_sheet_write, and 64 KB for that.
+ * ember_sheet_write, which takes 64 KB, and ember_sheet_read, which takes 160 KB.
  *
  * What a call cannot test is a pointer. So a pointer and its count name memory of the caller's that is as long as the
  * count says, aligned for its type, and shared by no other argument of the call that is written to; where the count is 0
@@ -138,8 +138,10 @@ uint64_t ember_start(uint64_t *session, size_t session_words);
 
 /* Offers a chunk of the stream, of any length: consumes bytes up to and including the one that makes an event, or all of
  * them, and answers the event's number, 2 to 24, or EMBER_DONE. Offer the rest again, from the first byte that was not
- * consumed. EMBER_SETUP if session_words is not 4, store_bytes not 17,408, answer_words not 3, or the words no session's.
- * Never reads past the chunk, and never tells an event twice, however the stream is cut. */
+ * consumed. EMBER_SETUP if session_words is not 4, store_bytes not 17,408, answer_words not 3, or the words no session's: nothing
+ * was consumed or changed then. Over any calls on one session, refused ones among them, on whatever chunks: each event of the bytes
+ * consumed is told once and in order.
+ * Never reads past the chunk. */
 uint64_t ember_feed(uint64_t *session, size_t session_words, uint8_t *store, size_t store_bytes, const uint8_t *chunk,
                     size_t chunk_bytes, uint64_t *answer, size_t answer_words);
 
@@ -368,14 +370,17 @@ uint64_t ember_desk_request(const uint64_t *figures, size_t figures_words, uint6
 /* The answer of ember_desk_call, one word: how many answers there are, one for each connection. */
 #define EMBER_CALL_WORDS 1
 
+/* The answers to connections: always 256 bytes, enough for every message. Those that were given, in order, then zeros. */
+#define EMBER_ANSWERS_MAX 256
+
 /* Serves a message: takes the connections among the table's first `count` rows in order, and puts EMBER_DONE or 40 to 44 for
- * each into `answers`, one for each, also after a refused one. EMBER_DONE; EMBER_SETUP if the figures are none, the desk is not
- * legal, the rows make no tree that the reader accepts, answers_words is under count, or answer_words is not 1.
+ * each into `answers`, one for each, also after a refused one. EMBER_DONE; EMBER_SETUP if table_rows is over 256, message_bytes
+ * over 16,384, the figures are none, the desk is not legal, the rows make no tree that the reader accepts, or answer_words is not 1.
  * Never changes anything if it answers EMBER_SETUP, nor a crosspoint for a connection that is refused. */
 uint64_t ember_desk_call(const uint64_t *figures, size_t figures_words, const uint64_t *path, size_t path_words,
                          const uint64_t (*table)[EMBER_ROW_WORDS], size_t table_rows, size_t count, uint64_t root,
                          const uint8_t *message, size_t message_bytes, uint8_t *crosspoints, size_t crosspoint_bytes,
-                         uint64_t *answers, size_t answers_words, uint64_t *answer, size_t answer_words);
+                         uint8_t answers[EMBER_ANSWERS_MAX], uint64_t *answer, size_t answer_words);
 
 /* ---- A whole turn */
 
@@ -396,14 +401,16 @@ uint64_t ember_desk_call(const uint64_t *figures, size_t figures_words, const ui
 
 /* Takes a turn: the session's call on a chunk; if it gives EMBER_MESSAGE, the tree reader's call on that message; if that gives
  * EMBER_DONE, the desk's call on those entries. Answers the event's number, 2 to 24, or EMBER_DONE; offer the rest of the chunk
- * again. EMBER_SETUP for what ember_feed refuses, figures that are none, a table over 256 rows, answers_words under table_rows,
- * path_words not 1 to 16, crosspoint_bytes not 4,096, or answer_words not 9.
- * Never changes table, crosspoints or answers at any event but EMBER_MESSAGE, nor then unless the tree reader gives EMBER_DONE. */
+ * again. EMBER_SETUP for what ember_feed refuses, figures that are none, a table over 256 rows, path_words not 1 to 16,
+ * crosspoint_bytes not 4,096, or answer_words not 9: nothing was consumed or changed then. Else `answers` are those of this turn,
+ * all zeros where the desk was not called.
+ * Over any calls on one line and one legal desk, refused ones among them, on whatever chunks: what they tell is what the rules of
+ * framing, tree and desk tell for the bytes consumed, each event once and in order, and what they keep is what the rules keep.
+ * Never changes table or crosspoints at any event but EMBER_MESSAGE, nor then unless the tree reader gives EMBER_DONE. */
 uint64_t ember_turn(uint64_t *session, size_t session_words, uint8_t *store, size_t store_bytes, const uint8_t *chunk,
                     size_t chunk_bytes, uint64_t (*table)[EMBER_ROW_WORDS], size_t table_rows, const uint64_t *figures,
                     size_t figures_words, const uint64_t *path, size_t path_words, uint8_t *crosspoints,
-                    size_t crosspoint_bytes, uint64_t *answers, size_t answers_words, uint64_t *answer,
-                    size_t answer_words);
+                    size_t crosspoint_bytes, uint8_t answers[EMBER_ANSWERS_MAX], uint64_t *answer, size_t answer_words);
 
 /* ---- Route sheets: a desk as text, hexadecimal lines, a frame each */
 
@@ -424,13 +431,13 @@ uint64_t ember_sheet_write(const uint64_t *figures, size_t figures_words, const 
 /* Reads a sheet of any length: EMBER_DONE, and figures, path and crosspoints are those of its desk, which is legal; or the first refusal:
  * EMBER_BAD_BYTE for a bad line, 10 to 24, EMBER_BAD_GLOW unless it is one message of one qualified matrix and its connections, 30 to 38,
  * 41 to 45. ember_sheet_line (ember_line.h) says at which line, and which spellings are read. EMBER_SETUP if store_bytes is not 17,408,
- * table_rows not 256, figures_words not 7, path_words not 16, crosspoint_bytes not 4,096 or answer_words not 1. Store and table are
- * scratch: they may hold anything after it.
+ * figures_words not 7, path_words not 16, crosspoint_bytes not 4,096 or answer_words not 1. The store is as it was after EMBER_SETUP and
+ * a bad line; else as ember_feed leaves it that is fed the sheet's bytes, up to and including that of the first event from 10 up, or all
+ * of them: a line's own store is not lent to it, then.
  * Never changes figures, path or crosspoints unless it answers EMBER_DONE. */
-uint64_t ember_sheet_read(const uint8_t *text, size_t text_bytes, uint8_t *store, size_t store_bytes,
-                          uint64_t (*table)[EMBER_ROW_WORDS], size_t table_rows, uint64_t *figures, size_t figures_words,
-                          uint64_t *path, size_t path_words, uint8_t *crosspoints, size_t crosspoint_bytes,
-                          uint64_t *answer, size_t answer_words);
+uint64_t ember_sheet_read(const uint8_t *text, size_t text_bytes, uint8_t *store, size_t store_bytes, uint64_t *figures,
+                          size_t figures_words, uint64_t *path, size_t path_words, uint8_t *crosspoints,
+                          size_t crosspoint_bytes, uint64_t *answer, size_t answer_words);
 
 /* ---- The version of the installed library: 100 times major, and minor; EMBER_VERSION_NUMBER is this header's.
  * Never there in a library that `rt staticlib ember` left: `make install` puts it in. */

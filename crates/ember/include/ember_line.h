@@ -102,19 +102,9 @@ static inline uint64_t ember_line_turn(struct ember_line *line, const uint8_t *c
         if (line->event == EMBER_MESSAGE)
             told[EMBER_TURN_TREE] = ember_read(line->store, (size_t)told[EMBER_LENGTH], line->table, EMBER_ROWS_MAX, told + EMBER_TURN_PLACE, EMBER_READ_WORDS);
     } else {
-#ifdef EMBER_ANSWERS_MAX
         line->event = ember_turn(line->session, EMBER_SESSION_WORDS, line->store, sizeof line->store, chunk, chunk_bytes, line->table, EMBER_ROWS_MAX,
                                  line->figures, EMBER_FIGURES_WORDS, line->path, line->path_words, line->crosspoints, sizeof line->crosspoints,
                                  line->answers, told, EMBER_TURN_WORDS);
-#else
-        uint64_t answers[EMBER_ROWS_MAX];
-        size_t i;
-        line->event = ember_turn(line->session, EMBER_SESSION_WORDS, line->store, sizeof line->store, chunk, chunk_bytes, line->table, EMBER_ROWS_MAX,
-                                 line->figures, EMBER_FIGURES_WORDS, line->path, line->path_words, line->crosspoints, sizeof line->crosspoints, answers,
-                                 EMBER_ROWS_MAX, told, EMBER_TURN_WORDS);
-        for (i = 0; i < told[EMBER_TURN_ANSWERS]; i++)
-            line->answers[i] = (uint8_t)answers[i];
-#endif
     }
     line->consumed = line->event == EMBER_SETUP ? chunk_bytes : (size_t)told[EMBER_CONSUMED];
     line->discarded = told[EMBER_DISCARDED] != 0;
@@ -210,14 +200,8 @@ static inline uint64_t ember_line_sheet_read(struct ember_line *line, const uint
 {
     uint8_t store[EMBER_STORE_BYTES];
     uint64_t words[EMBER_SHEET_WORDS], number;
-#ifdef EMBER_ANSWERS_MAX
     number = ember_sheet_read(text, text_bytes, store, sizeof store, line->figures, EMBER_FIGURES_WORDS, line->path, EMBER_PATH_MAX, line->crosspoints,
                               sizeof line->crosspoints, words, EMBER_SHEET_WORDS);
-#else
-    number = ember_sheet_read(text, text_bytes, store, sizeof store, line->table, EMBER_ROWS_MAX, line->figures, EMBER_FIGURES_WORDS, line->path,
-                              EMBER_PATH_MAX, line->crosspoints, sizeof line->crosspoints, words, EMBER_SHEET_WORDS);
-    line->count = line->answer_count = 0;
-#endif
     if (number == EMBER_DONE)
         line->path_words = (size_t)words[0];
     return number;

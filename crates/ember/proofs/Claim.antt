@@ -1,13 +1,14 @@
--- THE CLAIM for `ember_turn`: whatever list of its calls is made, from a fresh session's words, any store of the right length and a desk in any legal state,
--- what they answer and leave tells what the rules tell for the bytes consumed so far, and keeps what they keep.
-use Prim.Native.Nat.{ℕ, zero, suc, _≤_}
-use mathlib.Core.Bool.{Bool, true, false}
+-- THE CLAIM for `ember_turn`: whatever list of its calls is made, refused ones among them, from a fresh session's words, any store of the right length and a desk
+-- in any legal state, what they answer and leave tells what the rules tell for the bytes consumed so far, and keeps what they keep. (Calls.antt ties it to the
+-- contract of `ember_turn`.)
+use Prim.Native.Nat.{ℕ, zero, suc}
+use mathlib.Core.Bool.{Bool, true, false, true≢false}
 use mathlib.Core.List.{List, [], _∷_, _++_}
 use mathlib.Core.Path.{_≡_, refl, sym, ap, subst, _∙_}
-use borrow.Author.Tests.{eqb-true, leb-true}
+use borrow.Author.Tests.{eqb-true, eqb-false}
 use native.Mathlib.Omega.{arith}
-use lib.Dec.{leb, eqb}
-use lib.ListN.{length, getD, take, drop}
+use lib.Dec.{eqb}
+use lib.ListN.{length, getD, take, drop, take-append-drop}
 use Rattle.integers.specs.Digits.{pick}
 use Rattle.integers.proofs.Radix.{Below}
 use Rattle.framing.specs.declared.Event.{Event}
@@ -16,25 +17,26 @@ use Rattle.framing.specs.declared.Fed.{Fed}
 use Rattle.framing.specs.declared.Session.{Session}
 use Rattle.framing.specs.Numbers.{storeLength}
 use Rattle.framing.specs.Rules.{begin}
-use Rattle.framing.specs.Session.{sessionOf, saidBy, Whole, answers, feeds}
+use Rattle.framing.specs.Session.{sessionOf, saidBy, legal, Legal, Whole, answers, feeds}
 use Rattle.framing.proofs.Calls.{some-call}
-use Rattle.session_words.specs.Words.{wordsOf, sessionAt}
+use Rattle.session_words.specs.Words.{wordsOf, sessionAt, isSession}
 use Rattle.framing_c.specs.Calls.{Called, accepts, told as framed, calls}
 use Rattle.session_words.proofs.Laws.{words-back}
 use Rattle.entries.specs.Entry.{Rows}
 use Rattle.crosspoints.specs.Figures.{both}
 use Rattle.crosspoints.specs.Crosspoints.{Cells}
-use Rattle.crosspoints.proofs.Laws.{both-left, both-right}
 use Rattle.turns.specs.declared.After.{After}
 use Rattle.turns.specs.Rules.{Desk, isLegal}
 use Rattle.turns.specs.Turns as claim
-use Rattle.turns.specs.Whole.{deskAt, Left, laterAt, laterOf, gave}
-use Rattle.framing.proofs.Laws.{number-apart}
+use Rattle.turns.specs.Turns.{none as no-more}
+use Rattle.turns.specs.Whole.{deskAt, Left, left, laterAt, laterOf, gave}
+use Rattle.framing.proofs.Laws.{number-apart, legal-true}
+use Rattle.framing.proofs.Sayable.{legal-answered}
 use Rattle.turns.proofs.Comes.{said-at, function-turn}
 use Rattle.turns.proofs.Claim.{claim as rules-claim}
 use Rattle.ember.specs.Words.{figuresAt, isFigures}
-use Rattle.ember.specs.Calls.{lengthsFit, next, Turn, told, turnAfter, turned, turns}
-use Rattle.ember.specs.Rounds.{Round, Rounds, none, round, Tells, AllTell, more}
+use Rattle.ember.specs.Calls.{lengthsFit, next, Turn, turn, told, turnAfter, turned, turns}
+use Rattle.ember.specs.Rounds.{Round, Rounds, none, round, refused, Tells, AllTell, more, silent}
 use Rattle.ember.specs.Rounds as rounds
 
 -- ---- what comes after an event, by its number
@@ -44,8 +46,8 @@ take-twice zero t = refl
 take-twice (suc n) [] = refl
 take-twice (suc n) (b ∷ t) = ap (λ (bs : List ℕ). b ∷ bs) (take-twice n t)
 
-module _ (d : Desk) (t : List ℕ) (table : Rows) (lent : List ℕ) where
-  pub next-later : (e : Event) → next (saidBy e t .number) (take (length (saidBy e t .message)) t) d table lent ≡ laterAt d e t table lent
+module _ (d : Desk) (t : List ℕ) (table : Rows) where
+  pub next-later : (e : Event) → next (saidBy e t .number) (take (length (saidBy e t .message)) t) d table ≡ laterAt d e t table
   unfolding next
   next-later ev.More = refl
   next-later ev.Setup = refl
@@ -57,16 +59,16 @@ module _ (d : Desk) (t : List ℕ) (table : Rows) (lent : List ℕ) where
 
 -- ---- what a call tells, where the session's call within it gave r and left the store t′
 
-module _ (d : Desk) (c : List ℕ) (table : Rows) (lent : List ℕ) (r : Fed) (t′ : List ℕ) where
+module _ (d : Desk) (c : List ℕ) (table : Rows) (r : Fed) (t′ : List ℕ) where
   -- what came after the session's call
   abbrev pub comes : Left
-  comes = laterAt d (r .event) t′ table lent
+  comes = laterAt d (r .event) t′ table
 
   abbrev pub comes-after : After
-  comes-after = said-at d lent (r .event) t′ table .0
+  comes-after = said-at d (r .event) t′ table .0
 
   pub tells-told : Tells (record { offered = c; left = told (framed (answers r t′)) comes })
-      (record { offered = c; fed = r; store = t′; later = laterOf comes-after (comes .table) (comes .lent) (comes .crosspoints) })
+      (record { offered = c; fed = r; store = t′; later = laterOf comes-after (comes .answers) (comes .table) (comes .crosspoints) })
   unfolding framed
   tells-told =
       record {
@@ -74,16 +76,35 @@ module _ (d : Desk) (c : List ℕ) (table : Rows) (lent : List ℕ) (r : Fed) (t
         store-is = refl;
         number-is = refl;
         later-is = (comes-after, refl);
-        words-are = ap (λ (w : Left). told (framed (answers r t′)) w .answer) (said-at d lent (r .event) t′ table .1);
+        words-are = ap (λ (w : Left). told (framed (answers r t′)) w .answer) (said-at d (r .event) t′ table .1);
       }
 
--- ---- lengths that fit: an answer is lent for each row
+-- ---- "1 leaves everything as it was"
 
-fit-enough : (rows lents cells path words : ℕ) → lengthsFit rows lents cells path words ≡ true → rows ≤ lents
-unfolding lengthsFit
-fit-enough rows lents cells path words h = leb-true _ _ (both-left _ _ (both-right (leb rows 256) _ (both-right (eqb words 9) _ h)))
+module _ (ws t c : List ℕ) (table : Rows) (fs path : List ℕ) (cells : Cells) (lent a : List ℕ) where
+  pub record AsWas (x : Turn) : Type 0 where
+    pub session-is : x .session ≡ ws
+    pub store-is : x .store ≡ t
+    pub table-is : x .table ≡ table
+    pub cells-are : x .crosspoints ≡ cells
+    pub answers-are : x .answers ≡ lent
+    pub words-are : x .answer ≡ a
 
--- ---- a call that is not answered with 1 is a turn
+  abbrev untouched : Turn
+  untouched = record { number = 1; session = ws; store = t; table = table; crosspoints = cells; answers = lent; answer = a }
+
+  all-same : {x : Turn} → untouched ≡ x → AsWas x
+  all-same e =
+      record {
+        session-is = sym (ap (λ (w : Turn). w .session) e);
+        store-is = sym (ap (λ (w : Turn). w .store) e);
+        table-is = sym (ap (λ (w : Turn). w .table) e);
+        cells-are = sym (ap (λ (w : Turn). w .crosspoints) e);
+        answers-are = sym (ap (λ (w : Turn). w .answers) e);
+        words-are = sym (ap (λ (w : Turn). w .answer) e);
+      }
+
+-- ---- a call that is not answered with 1 is a turn, and one that is leaves everything as it was
 
 module _ (ws t c : List ℕ) (table : Rows) (fs path : List ℕ) (cells : Cells) (lent a : List ℕ) where
   abbrev d : Desk
@@ -92,31 +113,29 @@ module _ (ws t c : List ℕ) (table : Rows) (fs path : List ℕ) (cells : Cells)
   record Taken (x : Turn) : Type 0 where
     pub fed : Fed
     pub after : After
-    pub enough : length table ≤ length lent
     pub feeds-is : feeds (sessionAt ws) t c ≡ answers fed (x .store)
-    pub later-is : laterAt d (fed .event) (x .store) table lent ≡ gave after (x .table) (x .answers) (x .crosspoints)
+    pub later-is : laterAt d (fed .event) (x .store) table ≡ gave after (x .answers) (x .table) (x .crosspoints)
     pub session-is : x .session ≡ wordsOf (fed .session)
     pub tells : Tells (record { offered = c; left = x })
-        (record { offered = c; fed = fed; store = x .store; later = laterOf after (x .table) (x .answers) (x .crosspoints) })
+        (record { offered = c; fed = fed; store = x .store; later = laterOf after (x .answers) (x .table) (x .crosspoints) })
 
-  module _ (r : Fed) (t′ : List ℕ) (enough : length table ≤ length lent) (q : feeds (sessionAt ws) t c ≡ answers r t′) where
+  module _ (r : Fed) (t′ : List ℕ) (q : feeds (sessionAt ws) t c ≡ answers r t′) where
     abbrev called : Called
     called = framed (answers r t′)
 
     abbrev y : Left
-    y = laterAt d (r .event) t′ table lent
+    y = laterAt d (r .event) t′ table
 
     taken-told : Taken (told called y)
     unfolding framed
     taken-told =
         record {
           fed = r;
-          after = comes-after d c table lent r t′;
-          enough = enough;
+          after = comes-after d c table r t′;
           feeds-is = q;
-          later-is = said-at d lent (r .event) t′ table .1;
+          later-is = said-at d (r .event) t′ table .1;
           session-is = refl;
-          tells = tells-told d c table lent r t′;
+          tells = tells-told d c table r t′;
         }
 
     taken-after : {x : Turn} → turnAfter called d table lent a ≡ x → (x .number ≡ 1 → ⊥) → Taken x
@@ -134,39 +153,67 @@ module _ (ws t c : List ℕ) (table : Rows) (fs path : List ℕ) (cells : Cells)
               answers = lent;
               answer = a;
             })
-            (told called (next (called .number) (take (getD (called .answer) 2 0) (called .store)) d table lent)) ≡ x
+            (told called (next (called .number) (take (getD (called .answer) 2 0) (called .store)) d table)) ≡ x
             → Taken x
         by true e k = absurd (n (sym (ap (λ (w : Turn). w .number) k) ∙ eqb-true _ _ e))
-        by false e k = subst Taken (ap (told called) (sym (next-later d t′ table lent (r .event))) ∙ k) taken-told
+        by false e k = subst Taken (ap (told called) (sym (next-later d t′ table (r .event))) ∙ k) taken-told
 
-  taken-called : {x : Turn} → length table ≤ length lent → turned ws t c d table lent a ≡ x → (x .number ≡ 1 → ⊥) → Taken x
-  unfolding turned calls
-  taken-called {x} enough g n = by (accepts ws (length t) 3) g
+  -- the session's call, which is not answered with 1 where words and lengths are right
+  accepted-legal : accepts ws (length t) 3 ≡ true → Legal (sessionAt ws) t
+  unfolding accepts
+  accepted-legal h = legal-true (sessionAt ws) t (go (isSession ws) h)
     where
-      by : (b : Bool)
-          → turnAfter (pick b (framed (feeds (sessionAt ws) t c)) (record { number = 1; session = ws; store = t; answer = 0 ∷ 0 ∷ 0 ∷ [] })) d table lent a ≡ x
-          → Taken x
-      by false k = absurd (n (sym (ap (λ (w : Turn). w .number) k)))
-      by true k =
+      go : (b : Bool) → pick b (legal (sessionAt ws) (length t)) false ≡ true → legal (sessionAt ws) (length t) ≡ true
+      go true k = k
+      go false k = absurd (true≢false (sym k))
+
+  after-number : (w : Whole) → turnAfter (framed w) d table lent a .number ≡ w .said .number
+  unfolding framed
+  after-number w = go (eqb (w .said .number) 1)
+    where
+      go : (b : Bool) → pick b (turn (framed w) (left no-more lent table cells) a)
+          (told (framed w) (next (framed w .number) (take (getD (framed w .answer) 2 0) (framed w .store)) d table)) .number ≡ w .said .number
+      go true = refl
+      go false = refl
+
+  abbrev refusal : Called
+  refusal = record { number = 1; session = ws; store = t; answer = 0 ∷ 0 ∷ 0 ∷ [] }
+
+  by-call : {x : Turn} → turned ws t c d table lent a ≡ x → ((x .number ≡ 1 → ⊥) → Taken x) × (x .number ≡ 1 → AsWas ws t c table fs path cells lent a x)
+  unfolding turned calls
+  by-call {x} g = by (accepts ws (length t) 3) refl g
+    where
+      by : (b : Bool) → accepts ws (length t) 3 ≡ b → turnAfter (pick b (framed (feeds (sessionAt ws) t c)) refusal) d table lent a ≡ x
+          → ((x .number ≡ 1 → ⊥) → Taken x) × (x .number ≡ 1 → AsWas ws t c table fs path cells lent a x)
+      by false e k = (λ n. absurd (n (sym (ap (λ (w : Turn). w .number) k))), λ n. all-same ws t c table fs path cells lent a k)
+      by true e k =
           let s = some-call (sessionAt ws) t c in
-          let e = s .1 .1 .1 in
-          taken-after (s .0) (s .1 .0) enough e (ap (λ (w : Whole). turnAfter (framed w) d table lent a) (sym e) ∙ k) n
+          let h = s .1 .1 .1 in (
+            λ n. taken-after (s .0) (s .1 .0) h (ap (λ (w : Whole). turnAfter (framed w) d table lent a) (sym h) ∙ k) n,
+            λ n. absurd (eqb-false _ _ (legal-answered (sessionAt ws) t c (accepted-legal e))
+                (sym (after-number (feeds (sessionAt ws) t c)) ∙ ap (λ (w : Turn). w .number) k ∙ n)),
+          )
 
   abbrev fit : Bool
-  fit = lengthsFit (length table) (length lent) (length cells) (length path) (length a)
+  fit = lengthsFit (length table) (length cells) (length path) (length a)
 
-  taken : (x : Turn) → turns ws t c table fs path cells lent a ≡ x → (x .number ≡ 1 → ⊥) → Taken x
+  by-turn : (x : Turn) → turns ws t c table fs path cells lent a ≡ x
+      → ((x .number ≡ 1 → ⊥) → Taken x) × (x .number ≡ 1 → AsWas ws t c table fs path cells lent a x)
   unfolding turns
-  taken x g n = by (both (isFigures fs) fit) refl g
+  by-turn x g = by (both (isFigures fs) fit) g
     where
-      by : (b : Bool) → both (isFigures fs) fit ≡ b
+      by : (b : Bool)
           → pick b (turned ws t c d table lent a)
           (record { number = 1; session = ws; store = t; table = table; crosspoints = cells; answers = lent; answer = a }) ≡ x
-          → Taken x
-      by false e k = absurd (n (sym (ap (λ (w : Turn). w .number) k)))
-      by true e k = taken-called (fit-enough _ _ _ _ _ (both-right (isFigures fs) _ e)) k n
+          → ((x .number ≡ 1 → ⊥) → Taken x) × (x .number ≡ 1 → AsWas ws t c table fs path cells lent a x)
+      by false k = (λ n. absurd (n (sym (ap (λ (w : Turn). w .number) k))), λ n. all-same ws t c table fs path cells lent a k)
+      by true k = by-call k
 
--- ---- so is every list of such calls
+  -- "1 leaves everything as it was, 0 consumed"
+  pub turn-as-was : (x : Turn) → turns ws t c table fs path cells lent a ≡ x → x .number ≡ 1 → AsWas ws t c table fs path cells lent a x
+  turn-as-was x g n = by-turn x g .1 n
+
+-- ---- every list of calls
 
 pub record Made (rows : ℕ) (fs path ws t : List ℕ) (cells : Cells) (bytes : List ℕ) (xs : List Round) (ws″ t″ : List ℕ) (cells″ : Cells)
     (rest : List ℕ) : Type 0 where
@@ -174,14 +221,33 @@ pub record Made (rows : ℕ) (fs path ws t : List ℕ) (cells : Cells) (bytes : 
   pub tell : AllTell xs list
   pub made : claim.Turns rows (sessionAt ws) t (deskAt (figuresAt fs) path cells) bytes list (sessionAt ws″) t″ (deskAt (figuresAt fs) path cells″) rest
 
+-- a call that is answered with 1, before others
+module _ {rows : ℕ} {fs path ws t : List ℕ} {cells : Cells} {bytes : List ℕ} {xs : List Round} {ws″ t″ : List ℕ} {cells″ : Cells} {rest : List ℕ} where
+  from-same : {ws′ t′ : List ℕ} {cells′ : Cells} → ws′ ≡ ws → t′ ≡ t → cells′ ≡ cells → Made rows fs path ws′ t′ cells′ bytes xs ws″ t″ cells″ rest
+      → Made rows fs path ws t cells bytes xs ws″ t″ cells″ rest
+  from-same {ws′} {t′} {cells′} e f g m =
+      subst (λ (v : Cells). Made rows fs path ws t v bytes xs ws″ t″ cells″ rest) g
+      (subst (λ (v : List ℕ). Made rows fs path ws v cells′ bytes xs ws″ t″ cells″ rest) f
+      (subst (λ (v : List ℕ). Made rows fs path v t′ cells′ bytes xs ws″ t″ cells″ rest) e m))
+
+  told-none : {r : Round} → r .left .number ≡ 1 → Made rows fs path ws t cells bytes xs ws″ t″ cells″ rest
+      → Made rows fs path ws t cells bytes (r ∷ xs) ws″ t″ cells″ rest
+  told-none n m = record { list = m .list; tell = silent n (m .tell); made = m .made }
+
+put-back : (n : ℕ) (xs : List ℕ) {ys : List ℕ} → ys ≡ take n xs → ys ++ drop n xs ≡ xs
+put-back n xs e = ap (λ (l : List ℕ). l ++ drop n xs) e ∙ take-append-drop n xs
+
 pub rounds-made : {rows : ℕ} {fs path ws t : List ℕ} {cells : Cells} {bytes : List ℕ} {xs : List Round} {ws″ t″ : List ℕ} {cells″ : Cells} {rest : List ℕ}
     → Rounds rows fs path ws t cells bytes xs ws″ t″ cells″ rest → Made rows fs path ws t cells bytes xs ws″ t″ cells″ rest
 rounds-made none = record { list = []; tell = rounds.none; made = claim.none }
+rounds-made {ws = ws} {t} {cells} (refused i j k c later table figures numbers lent a x e n left) =
+    let w = turn-as-was (take i ws) (take j t) c table figures numbers (take k cells) lent a x e n in
+    told-none n (from-same (put-back i ws (w .session-is)) (put-back j t (w .store-is)) (put-back k cells (w .cells-are)) (rounds-made left))
 rounds-made {rows} {fs} {path} {ws} {t} {cells} {ws″ = ws″} {t″} {cells″} {rest} (round c later table lent a x e n sized left) =
     joined (rounds-made left)
   where
     k : Taken ws t c table fs path cells lent a x
-    k = taken ws t c table fs path cells lent a x e n
+    k = by-turn ws t c table fs path cells lent a x e .0 n
 
     f : Fed
     f = k .fed
@@ -200,10 +266,10 @@ rounds-made {rows} {fs} {path} {ws} {t} {cells} {ws″ = ws″} {t″} {cells″
         let g = subst (λ (v : Session). onward v (getD (x .answer) 1 0) (m .list)) s (m .made) in
         let h = subst (λ (i : ℕ). onward (f .session) i (m .list)) p g in
         record {
-          list = record { offered = c; fed = f; store = x .store; later = laterOf (k .after) (x .table) (x .answers) (x .crosspoints) } ∷ m .list;
+          list = record { offered = c; fed = f; store = x .store; later = laterOf (k .after) (x .answers) (x .table) (x .crosspoints) } ∷ m .list;
           tell = more (k .tells) (m .tell);
-          made = function-turn c later table lent (record { fed = f; after = k .after }) (x .table) (x .answers) (x .crosspoints) sized
-              (subst (λ (i : ℕ). i ≤ length lent) sized (k .enough)) (k .feeds-is) (k .later-is) h;
+          made = function-turn c later table (record { fed = f; after = k .after; answers = x .answers }) (x .table) (x .crosspoints) sized (k .feeds-is)
+              (k .later-is) h;
         }
 
 -- ---- THE CLAIM

@@ -20,25 +20,25 @@ use Rattle.crosspoints.specs.Figures.{side, both}
 use Rattle.crosspoints.specs.Crosspoints.{Cells, Answer, answer}
 use Rattle.routing.specs.Request.{requested}
 use Rattle.desk_calls.specs.declared.Called as asked
-use Rattle.desk_calls.specs.declared.Called.the-variants.{Setup, Done}
 use Rattle.desk_calls.specs.Calls.{deskLegal, deskOpened, Outcome, called, told as answered}
 use Rattle.turns.specs.declared.After.{After}
 use Rattle.turns.specs.declared.After.the-variants as after
 use Rattle.turns.specs.Rules.{Desk}
 use Rattle.turns.specs.Turns.{none}
-use Rattle.turns.specs.Whole.{deskAt, Left, left, readTo, laterOf, gave}
+use Rattle.turns.specs.Whole.{deskAt, Left, left, unasked, readTo, laterOf, gave}
 use Rattle.framing_writer.specs.Written.{Outcome as Wrote}
 use Rattle.sheet_writer.specs.declared.Answer as written
 use Rattle.sheet_writer.specs.declared.Answer.the-variants as writtens
 use Rattle.sheet_writer.specs.Calls.{writesSheet, told as wroteAs}
 use Rattle.sheet_reader.specs.declared.Sheet.{Sheet}
 use Rattle.sheet_reader.specs.declared.Sheet.the-variants as sheets
-use Rattle.sheet_reader.specs.Calls.{sheetRead, kept, told as readAs}
+use Rattle.sheet_reader.specs.Calls as sheet
+use Rattle.sheet_reader.specs.Calls.{sheetRead, told as readAs}
 use Rattle.ember.specs.declared.after.Six.{Six}
 use Rattle.ember.specs.Words.{wordsOf, givenWord, limitWord, limitAt, figuresAt, isLimit, isFigures}
-use Rattle.ember.specs.Calls.{opens, legals, requests, DeskCall, deskCall, counted, deskCalls, lengthsFit, laterWords, treeWords, deskWords, next}
+use Rattle.ember.specs.Calls.{opens, legals, requests, DeskCall, deskCall, counted, deskCalls, lengthsFit, laterWords, treeWords, next}
 use Rattle.ember.specs.Calls.{Turn, turned, turns}
-use Rattle.ember.specs.Calls.{SheetPut, sheetPut, measured, sheetWrites, SheetCall, sheetCall, given, sheetReads, sheetLent, Holds}
+use Rattle.ember.specs.Calls.{SheetPut, sheetPut, measured, sheetWrites, SheetCall, sheetCall, given, sheetReads}
 use Rattle.ember.specs.Steps.{wordsIn, Words}
 
 -- ---- figures and words
@@ -139,7 +139,7 @@ module _ (fs path : List ℕ) (root : ℕ) (rows : Rows) (n : ℕ) (s lent cells
   desk-setup i m = rw (sym i ∙ m) refl
 
   pub desk-called : {b : Bool} {f : Figures} {o : Outcome} {x : DeskCall} → length words ≡ 1 → b ≡ isFigures fs → b ≡ true → f ≡ figuresAt fs
-      → called side f path root rows n s lent cells ≡ o → counted o words ≡ x → deskCalls fs path root rows n s lent cells words ≡ x
+      → called side f path root rows n s cells ≡ o → counted o lent words ≡ x → deskCalls fs path root rows n s lent cells words ≡ x
   unfolding deskCalls
   desk-called w i y e h g = rw (sym i ∙ y, eq-eqb _ _ w, ← e, h) g
 
@@ -148,15 +148,15 @@ set-one [] a h = absurd (omega arith)
 set-one (x ∷ []) a h = refl
 set-one (x ∷ y ∷ ys) a h = absurd (omega arith)
 
--- the count of answers, or 1
-module _ (a : List ℕ) {c : asked.Called} (lent : List ℕ) (cells : Cells) where
-  pub count-setup : c ≡ Setup → counted (answered c lent cells) a ≡ deskCall 1 lent cells a
+-- the answers and their count, or 1
+module _ (c : asked.Called) (lent a : List ℕ) (cells : Cells) where
+  pub put-setup : (c .number ≡ 0 → ⊥) → counted (answered c cells) lent a ≡ deskCall (c .number) lent cells a
   unfolding counted
-  count-setup e = rw e refl
+  put-setup h = rw (ne-eqb _ _ h) refl
 
-  pub count-done : {n x : ℕ} → length a ≡ 1 → c ≡ Done n → x ≡ n → counted (answered c lent cells) a ≡ deskCall 0 lent cells (set a 0 x)
+  pub put-done : {x : ℕ} → length a ≡ 1 → c .number ≡ 0 → x ≡ c .count → counted (answered c cells) lent a ≡ deskCall 0 (c .answers) cells (set a 0 x)
   unfolding counted
-  count-done {n} h e p = rw (e, p, set-one a n h) refl
+  put-done h e p = rw (eq-eqb _ _ e, p, set-one a (c .count) h) refl
 
 -- ---- what came after
 
@@ -177,25 +177,16 @@ module _ {a : tree.Answer} {r : Six} where
         → r ≡ record { tree = 0; place = 0; count = x; root = root; desk = 0; answers = 0 } → treeWords (saidBy a) ≡ wordsIn r
     tree-read e p k = rw (e, k, p) refl
 
-module _ (root count : ℕ) {c : asked.Called} {r : Six} where
-  pub served-setup : c ≡ Setup → r ≡ record { tree = 0; place = 0; count = count; root = root; desk = 1; answers = 0 }
-      → (lent : List ℕ) (cells : Cells) → deskWords root count (answered c lent cells) ≡ wordsIn r
-  served-setup e k lent cells = rw (e, k) refl
-
-  pub served-done : {n x : ℕ} → c ≡ Done n → x ≡ n → r ≡ record { tree = 0; place = 0; count = count; root = root; desk = 0; answers = x }
-      → (lent : List ℕ) (cells : Cells) → deskWords root count (answered c lent cells) ≡ wordsIn r
-  served-done e p k lent cells = rw (e, k, p) refl
-
 module _ {x : After} {r : Six} where
   pub later-nothing : x ≡ after.Nothing → r ≡ record { tree = 0; place = 0; count = 0; root = 0; desk = 0; answers = 0 } → Words x r
-  later-nothing e k table lent cells = rw (e, k) refl
+  later-nothing e k answers table cells = rw (e, k) refl
 
   pub later-refused : {a : tree.Answer} → x ≡ after.Refused a → treeWords (saidBy a) ≡ wordsIn r → Words x r
-  later-refused e k table lent cells = rw e k
+  later-refused e k answers table cells = rw e k
 
-  pub later-served : {root count w : ℕ} {c : asked.Called} → x ≡ after.Served root count c → w ≡ count
-      → ((lent : List ℕ) (cells : Cells) → deskWords root w (answered c lent cells) ≡ wordsIn r) → Words x r
-  later-served e p h table lent cells = rw (e, ← p) (h lent cells)
+  pub later-served : {root count number answered v w : ℕ} → x ≡ after.Served root count number answered → v ≡ count → w ≡ answered
+      → r ≡ record { tree = 0; place = 0; count = v; root = root; desk = number; answers = w } → Words x r
+  later-served e p q k answers table cells = rw (e, k, p, q) refl
 
 pub set-nine : (xs : List ℕ) (a b c d e f g h i : ℕ) → length xs ≡ 9
     → set (set (set (set (set (set (set (set (set xs 0 a) 1 b) 2 c) 3 d) 4 e) 5 f) 6 g) 7 h) 8 i
@@ -214,41 +205,36 @@ set-nine [] a b c d e f g h i k = absurd (omega arith)
 
 -- ---- a turn
 
-module _ (rows answers cells path words : ℕ) where
-  pub fit-answer : (words ≡ 9 → ⊥) → false ≡ lengthsFit rows answers cells path words
+module _ (rows cells path words : ℕ) where
+  pub fit-answer : (words ≡ 9 → ⊥) → false ≡ lengthsFit rows cells path words
   unfolding lengthsFit
   fit-answer h = simp (ne-eqb _ _ h)
 
   module _ (w : words ≡ 9) where
-    pub fit-rows : 256 < rows → false ≡ lengthsFit rows answers cells path words
+    pub fit-rows : 256 < rows → false ≡ lengthsFit rows cells path words
     unfolding lengthsFit
     fit-rows h = simp (eq-eqb _ _ w, lt-leb _ _ h)
 
     module _ (g : rows ≤ 256) where
-      pub fit-answers : answers < rows → false ≡ lengthsFit rows answers cells path words
+      pub fit-cells : (cells ≡ 4096 → ⊥) → false ≡ lengthsFit rows cells path words
       unfolding lengthsFit
-      fit-answers h = simp (eq-eqb _ _ w, le-leb _ _ g, lt-leb _ _ h)
+      fit-cells h = simp (eq-eqb _ _ w, le-leb _ _ g, ne-eqb _ _ h)
 
-      module _ (k : rows ≤ answers) where
-        pub fit-cells : (cells ≡ 4096 → ⊥) → false ≡ lengthsFit rows answers cells path words
+      module _ (c : cells ≡ 4096) where
+        pub fit-path : path < 1 → false ≡ lengthsFit rows cells path words
         unfolding lengthsFit
-        fit-cells h = simp (eq-eqb _ _ w, le-leb _ _ g, le-leb _ _ k, ne-eqb _ _ h)
+        fit-path h = simp (eq-eqb _ _ w, le-leb _ _ g, eq-eqb _ _ c, lt-leb _ _ h)
 
-        module _ (c : cells ≡ 4096) where
-          pub fit-path : path < 1 → false ≡ lengthsFit rows answers cells path words
-          unfolding lengthsFit
-          fit-path h = simp (eq-eqb _ _ w, le-leb _ _ g, le-leb _ _ k, eq-eqb _ _ c, lt-leb _ _ h)
+        pub fit-all : 1 ≤ path → leb path 16 ≡ lengthsFit rows cells path words
+        unfolding lengthsFit
+        fit-all h = simp (eq-eqb _ _ w, le-leb _ _ g, eq-eqb _ _ c, le-leb _ _ h)
 
-          pub fit-all : 1 ≤ path → leb path 16 ≡ lengthsFit rows answers cells path words
-          unfolding lengthsFit
-          fit-all h = simp (eq-eqb _ _ w, le-leb _ _ g, le-leb _ _ k, eq-eqb _ _ c, le-leb _ _ h)
-
-module _ (number : ℕ) (m : List ℕ) (d : Desk) (table : Rows) (lent : List ℕ) where
-  pub next-nothing : (number ≡ 3 → ⊥) → next number m d table lent ≡ left none table lent (d .crosspoints)
+module _ (number : ℕ) (m : List ℕ) (d : Desk) (table : Rows) where
+  pub next-nothing : (number ≡ 3 → ⊥) → next number m d table ≡ unasked none table (d .crosspoints)
   unfolding next
   next-nothing h = rw (ne-eqb _ _ h) refl
 
-  pub next-message : {x : Left} → number ≡ 3 → readTo d m table lent ≡ x → next number m d table lent ≡ x
+  pub next-message : {x : Left} → number ≡ 3 → readTo d m table ≡ x → next number m d table ≡ x
   unfolding next
   next-message h e = rw (eq-eqb _ _ h) e
 
@@ -267,16 +253,16 @@ module _ (ws t bytes : List ℕ) (d : Desk) (table : Rows) (lent a : List ℕ) {
   unfolding turned
   turned-setup h = rw (fed, h) refl
 
-  pub turned-on : (k : ℕ) (x : After) (table′ : Rows) (lent′ cells′ : List ℕ) {a′ : List ℕ} {six : Six} → (n ≡ 1 → ⊥) → length f′ ≡ 3
+  pub turned-on : (k : ℕ) (x : After) (given : List ℕ) (table′ : Rows) (cells′ : List ℕ) {a′ : List ℕ} {six : Six} → (n ≡ 1 → ⊥) → length f′ ≡ 3
       → take k t′ ≡ take (getD f′ 2 0) t′
-      → next n (take k t′) d table lent ≡ gave x table′ lent′ cells′
+      → next n (take k t′) d table ≡ gave x given table′ cells′
       → Words x six
       → a′ ≡ getD f′ 0 0 ∷ getD f′ 1 0 ∷ getD f′ 2 0 ∷ wordsIn six
       → turned ws t bytes d table lent a
-      ≡ record { number = n; session = ws′; store = t′; table = table′; crosspoints = cells′; answers = lent′; answer = a′ }
+      ≡ record { number = n; session = ws′; store = t′; table = table′; crosspoints = cells′; answers = given; answer = a′ }
   unfolding turned
-  turned-on k x table′ lent′ cells′ {a′} {six} h l i e w q =
-      rw (fed, ne-eqb _ _ h, ← i, e, w table′ lent′ cells′, three-back f′ (wordsIn six) l, q) refl
+  turned-on k x given table′ cells′ {a′} {six} h l i e w q =
+      rw (fed, ne-eqb _ _ h, ← i, e, w given table′ cells′, three-back f′ (wordsIn six) l, q) refl
 
 module _ (ws t bytes : List ℕ) (table : Rows) (fs path cells lent a : List ℕ) {b : Bool} (i : b ≡ isFigures fs) where
   pub turns-figures : b ≡ false → turns ws t bytes table fs path cells lent a
@@ -284,7 +270,7 @@ module _ (ws t bytes : List ℕ) (table : Rows) (fs path cells lent a : List ℕ
   unfolding turns
   turns-figures n = rw (sym i ∙ n) refl
 
-  module _ (y : b ≡ true) {k : Bool} (j : k ≡ lengthsFit (length table) (length lent) (length cells) (length path) (length a)) where
+  module _ (y : b ≡ true) {k : Bool} (j : k ≡ lengthsFit (length table) (length cells) (length path) (length a)) where
     pub turns-lengths : k ≡ false → turns ws t bytes table fs path cells lent a
         ≡ record { number = 1; session = ws; store = t; table = table; crosspoints = cells; answers = lent; answer = a }
     unfolding turns
@@ -299,12 +285,11 @@ never : false ≡ true → ⊥
 never g = let z : _≡_ {A = ℕ} 0 1 = cc in omega arith
 
 -- lengths that fit: the answer has nine words
-pub fit-words : (rows answers cells path words : ℕ) → lengthsFit rows answers cells path words ≡ true → words ≡ 9
+pub fit-words : (rows cells path words : ℕ) → lengthsFit rows cells path words ≡ true → words ≡ 9
 unfolding lengthsFit
-fit-words rows answers cells path words h = by (eqb words 9) refl h
+fit-words rows cells path words h = by (eqb words 9) refl h
   where
-    by : (t : Bool) → eqb words 9 ≡ t
-        → both t (both (leb rows 256) (both (leb rows answers) (both (eqb cells 4096) (both (leb 1 path) (leb path 16))))) ≡ true → words ≡ 9
+    by : (t : Bool) → eqb words 9 ≡ t → both t (both (leb rows 256) (both (eqb cells 4096) (both (leb 1 path) (leb path 16)))) ≡ true → words ≡ 9
     by true e g = eqb-true _ _ e
     by false e g = absurd (never g)
 
@@ -344,17 +329,17 @@ module _ (a : List ℕ) {x : written.Answer} (out : List ℕ) where
   unfolding measured
   wrote-done {n} h e p = rw (e, p, set-one a n h) refl
 
-module _ (fs a : List ℕ) {x : Sheet} (store : List ℕ) (table : Rows) (path : List ℕ) (cells : Cells) where
-  pub read-setup : x ≡ sheets.Setup → given (readAs x store table path cells) fs a ≡ sheetCall 1 fs path cells a
+module _ (fs a : List ℕ) {x : Sheet} (store path : List ℕ) (cells : Cells) where
+  pub read-setup : x ≡ sheets.Setup → given (readAs x store path cells) fs a ≡ sheetCall 1 store fs path cells a
   unfolding given
   read-setup e = rw e refl
 
-  pub read-refused : {n : ℕ} → length a ≡ 1 → x ≡ sheets.Refused n → given (readAs x store table path cells) fs a ≡ sheetCall n fs path cells (set a 0 0)
+  pub read-refused : {n : ℕ} → length a ≡ 1 → x ≡ sheets.Refused n → given (readAs x store path cells) fs a ≡ sheetCall n store fs path cells (set a 0 0)
   unfolding given
   read-refused h e = rw (e, set-one a 0 h) refl
 
   pub read-desk : {f : Figures} {n w : ℕ} {fs′ : List ℕ} → length a ≡ 1 → x ≡ sheets.Read f n → fs′ ≡ wordsOf f → w ≡ n
-      → given (readAs x store table path cells) fs a ≡ sheetCall 0 fs′ path cells (set a 0 w)
+      → given (readAs x store path cells) fs a ≡ sheetCall 0 store fs′ path cells (set a 0 w)
   unfolding given
   read-desk {f} {n} h e i p = rw (e, i, p, set-one a n h) refl
 
@@ -372,28 +357,16 @@ module _ (fs path cells out words : List ℕ) where
   unfolding sheetWrites
   sheet-wrote w i y e h g = rw (sym i ∙ y, eq-eqb _ _ w, ← e, h) g
 
-holds-told : (x : Sheet) (store : List ℕ) (table : Rows) (path : List ℕ) (cells : Cells) → Holds (readAs x store table path cells .lent) store table
-holds-told sheets.Setup store table path cells = (refl, refl)
-holds-told (sheets.Refused n) store table path cells = tt
-holds-told (sheets.Read f n) store table path cells = tt
+module _ (text store fs path : List ℕ) (cells : Cells) (words : List ℕ) where
+  pub sheet-no-figures : (length fs ≡ 7 → ⊥) → sheetReads text store fs path cells words ≡ sheetCall 1 store fs path cells words
+  unfolding sheetReads
+  sheet-no-figures h = rw (ne-eqb _ _ h) refl
 
-module _ (text store : List ℕ) (table : Rows) (fs path : List ℕ) (cells : Cells) (words : List ℕ) where
-  abbrev Told : ℕ → List ℕ → List ℕ → Cells → List ℕ → List ℕ → Rows → Type 0
-  Told r fs′ path′ cells′ words′ store′ table′ =
-      (sheetReads text store table fs path cells words ≡ sheetCall r fs′ path′ cells′ words′)
-      × Holds (sheetLent text store table fs path cells words) store′ table′
+  pub sheet-no-words : (length words ≡ 1 → ⊥) → sheetReads text store fs path cells words ≡ sheetCall 1 store fs path cells words
+  unfolding sheetReads
+  sheet-no-words h = rw (ne-eqb _ _ h, both-no (eqb (length fs) 7)) refl
 
-  pub sheet-no-figures : (length fs ≡ 7 → ⊥) → Told 1 fs path cells words store table
-  unfolding sheetReads sheetLent
-  sheet-no-figures h = rw (ne-eqb _ _ h) (refl, (refl, refl))
-
-  pub sheet-no-words : (length words ≡ 1 → ⊥) → Told 1 fs path cells words store table
-  unfolding sheetReads sheetLent
-  sheet-no-words h = rw (ne-eqb _ _ h, both-no (eqb (length fs) 7)) (refl, (refl, refl))
-
-  pub sheet-read : (x : Sheet) (store′ : List ℕ) (table′ : Rows) (path′ : List ℕ) (cells′ : Cells) {r : ℕ} {fs′ words′ : List ℕ} → length fs ≡ 7 → length words ≡ 1
-      → sheetRead side text store table path cells ≡ readAs x store′ table′ path′ cells′
-      → given (readAs x store′ table′ path′ cells′) fs words ≡ sheetCall r fs′ path′ cells′ words′
-      → Told r fs′ path′ cells′ words′ store′ table′
-  unfolding sheetReads sheetLent
-  sheet-read x store′ table′ path′ cells′ h k e g = rw (eq-eqb _ _ h, eq-eqb _ _ k, e) (g, holds-told x store′ table′ path′ cells′)
+  pub sheet-read : {o : sheet.Outcome} {x : SheetCall} → length fs ≡ 7 → length words ≡ 1 → sheetRead side text store path cells ≡ o → given o fs words ≡ x
+      → sheetReads text store fs path cells words ≡ x
+  unfolding sheetReads
+  sheet-read h k e g = rw (eq-eqb _ _ h, eq-eqb _ _ k, e) g

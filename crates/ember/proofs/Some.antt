@@ -50,10 +50,9 @@ path-some : (path : List ℕ) → pathFits path ≡ true → 1 ≤ length path
 unfolding pathFits
 path-some path h = leb-true _ _ (both-left _ _ (both-left _ (allNumbers path) h))
 
-fit : (rows lents cells path words : ℕ) → words ≡ 9 → rows ≤ 256 → rows ≤ lents → cells ≡ 4096 → 1 ≤ path → path ≤ 16
-    → lengthsFit rows lents cells path words ≡ true
+fit : (rows cells path words : ℕ) → words ≡ 9 → rows ≤ 256 → cells ≡ 4096 → 1 ≤ path → path ≤ 16 → lengthsFit rows cells path words ≡ true
 unfolding lengthsFit
-fit rows lents cells path words a b c d e f = rw (eq-eqb words 9 a, le-leb _ _ b, le-leb _ _ c, eq-eqb cells 4096 d, le-leb _ _ e, le-leb _ _ f) refl
+fit rows cells path words a b d e f = rw (eq-eqb words 9 a, le-leb _ _ b, eq-eqb cells 4096 d, le-leb _ _ e, le-leb _ _ f) refl
 
 -- ---- a call with a legal session and a legal desk is a turn
 
@@ -73,30 +72,28 @@ module _ (s : Session) (t c : List ℕ) (table : Rows) (fs path : List ℕ) (cel
   not-one : eqb (saidBy (r .event) t′ .number) 1 ≡ false
   not-one = subst (λ (w : Whole). eqb (w .said .number) 1 ≡ false) e (legal-answered s t c l)
 
-  after-is : turnAfter (framed (answers r t′)) d table lent a ≡ told (framed (answers r t′)) (comes d c table lent r t′)
+  after-is : turnAfter (framed (answers r t′)) d table lent a ≡ told (framed (answers r t′)) (comes d c table r t′)
   unfolding framed
-  after-is = rw (not-one, next-later d t′ table lent (r .event)) refl
+  after-is = rw (not-one, next-later d t′ table (r .event)) refl
 
-  made-told : isFigures fs ≡ true → lengthsFit (length table) (length lent) (length cells) (length path) (length a) ≡ true
-      → turns (wordsOf s) t c table fs path cells lent a ≡ told (framed (answers r t′)) (comes d c table lent r t′)
+  made-told : isFigures fs ≡ true → lengthsFit (length table) (length cells) (length path) (length a) ≡ true
+      → turns (wordsOf s) t c table fs path cells lent a ≡ told (framed (answers r t′)) (comes d c table r t′)
   unfolding turns turned
   made-told g h = rw (g, h, calls-are) after-is
 
 -- ---- so there are lists of them: a table, answers and the answer's words lent at each call
 
 module _ (rows : ℕ) (most : rows ≤ 256) (tables : ℕ → Rows) (sized : (i : ℕ) → length (tables i) ≡ rows) (lents : ℕ → List ℕ)
-    (enough : (i : ℕ) → rows ≤ length (lents i)) (words : ℕ → List ℕ) (nine : (i : ℕ) → length (words i) ≡ 9) (fs path : List ℕ)
-    (figures : isFigures fs ≡ true) where
+    (words : ℕ → List ℕ) (nine : (i : ℕ) → length (words i) ≡ 9) (fs path : List ℕ) (figures : isFigures fs ≡ true) where
   abbrev desk : Cells → Desk
   desk cells = deskAt (figuresAt fs) path cells
 
   lengths : (i : ℕ) (cells : Cells) → isLegal (desk cells) ≡ true
-      → lengthsFit (length (tables i)) (length (lents i)) (length cells) (length path) (length (words i)) ≡ true
+      → lengthsFit (length (tables i)) (length cells) (length path) (length (words i)) ≡ true
   lengths i cells g =
       let f = desk-fits side (figuresAt fs) path cells g in
       let n : length (tables i) ≡ rows = sized i in
-      let m : rows ≤ length (lents i) = enough i in
-      fit _ _ _ _ _ (nine i) (omega arith) (omega arith) (legal-length side (figuresAt fs) cells (desk-legal side (figuresAt fs) path cells g)) (path-some path f)
+      fit _ _ _ _ (nine i) (omega arith) (legal-length side (figuresAt fs) cells (desk-legal side (figuresAt fs) path cells g)) (path-some path f)
       (path-short path f)
 
   record Some (s : Session) (t : List ℕ) (cells : Cells) (rest : List ℕ) (cs : List offers.Turn) (s″ : Session) (t″ rest″ : List ℕ) : Type 0 where
@@ -115,22 +112,22 @@ module _ (rows : ℕ) (most : rows ≤ 256) (tables : ℕ → Rows) (sized : (i 
       record { made = []; list = []; cells″ = cells; calls-made = none; turns-made = claim.none; tell = rounds.none; same = refl }
   some {s} {t = t} i cells g l (offers.turn {t′ = t′} c later r e left) =
       let d = desk cells in
-      let y = comes d c (tables i) (lents i) r t′ in
-      let z = comes-after d c (tables i) (lents i) r t′ in
+      let y = comes d c (tables i) r t′ in
+      let z = comes-after d c (tables i) r t′ in
       let x = told (framed (answers r t′)) y in
       let q = made-told s t c (tables i) fs path cells (lents i) (words i) r t′ l e figures (lengths i cells g) in
       let n = not-one s t c (tables i) fs path cells (lents i) (words i) r t′ l e in
-      let legal′ = comes-legal (comes-at rows d t′ (tables i) (sized i) (lents i) (enough i) (r .event)) g in
+      let legal′ = comes-legal (comes-at rows d t′ (tables i) (sized i) (r .event)) g in
       let m = some (suc i) (y .crosspoints) legal′ (call-ran r e l .legal) left in
       record {
         made = record { offered = c; left = x } ∷ m .made;
-        list = record { offered = c; fed = r; store = t′; later = laterOf z (y .table) (y .lent) (y .crosspoints) } ∷ m .list;
+        list = record { offered = c; fed = r; store = t′; later = laterOf z (y .answers) (y .table) (y .crosspoints) } ∷ m .list;
         cells″ = m .cells″;
         calls-made = round c later (tables i) (lents i) (words i) x q (one-not _ n) (sized i) (m .calls-made);
         turns-made =
-            function-turn c later (tables i) (lents i) (record { fed = r; after = z }) (y .table) (y .lent) (y .crosspoints) (sized i) (enough i) e
-            (said-at d (lents i) (r .event) t′ (tables i) .1) (m .turns-made);
-        tell = more (tells-told d c (tables i) (lents i) r t′) (m .tell);
+            function-turn c later (tables i) (record { fed = r; after = z; answers = y .answers }) (y .table) (y .crosspoints) (sized i) e
+            (said-at d (r .event) t′ (tables i) .1) (m .turns-made);
+        tell = more (tells-told d c (tables i) r t′) (m .tell);
         same = ap (λ (xs : List offers.Turn). record { offered = c; fed = r; store = t′ } ∷ xs) (m .same);
       }
     where

@@ -16,11 +16,11 @@ use Rattle.routing.specs.Request.{requested}
 use Rattle.desk_calls.specs.Calls.{deskLegal, deskOpened, Outcome, called}
 use Rattle.turns.specs.Rules.{Desk}
 use Rattle.turns.specs.Turns.{Later, none, read, desk}
-use Rattle.turns.specs.Whole.{deskAt, Left, left, readTo}
+use Rattle.turns.specs.Whole.{deskAt, Left, left, unasked, readTo}
 use Rattle.framing_writer.specs.Written.{Outcome as Wrote}
 use Rattle.sheet_writer.specs.Calls.{writesSheet}
 use Rattle.sheet_reader.specs.Calls as sheet
-use Rattle.sheet_reader.specs.Calls.{sheetRead, scratch, kept}
+use Rattle.sheet_reader.specs.Calls.{sheetRead}
 use Rattle.ember.specs.Words.{wordsOf, figuresAt, isFigures}
 
 -- ---- the desk; words that are no figures are 1, with everything as it was
@@ -36,7 +36,7 @@ unfoldable pub requests : List ℕ → ℕ → List ℕ → ℕ → Cells → An
 requests fs target sources operation cells =
     pick (isFigures fs) (requested side (figuresAt fs) target sources operation cells) (answer 1 cells)
 
--- The desk's call: a number, the lent answers, the crosspoints, and one word for how many answers there are.
+-- The desk's call: a number, the 256 bytes lent for answers, the crosspoints, and one word for how many answers there are.
 pub record DeskCall : Type 0 where
   pub number : ℕ
   pub answers : List ℕ
@@ -46,28 +46,28 @@ pub record DeskCall : Type 0 where
 abbrev pub deskCall : ℕ → List ℕ → Cells → List ℕ → DeskCall
 deskCall number answers cells words = record { number = number; answers = answers; cells = cells; answer = words }
 
--- "1 leaves everything as it was"
-unfoldable pub counted : Outcome → List ℕ → DeskCall
-counted o words = deskCall (o .number) (o .answers) (o .cells) (pick (eqb (o .number) 0) (o .count ∷ []) words)
+-- the answers in order, then zeros; "1 leaves everything as it was"
+unfoldable pub counted : Outcome → List ℕ → List ℕ → DeskCall
+counted o lent words =
+    pick (eqb (o .number) 0) (deskCall 0 (o .answers) (o .cells) (o .count ∷ [])) (deskCall (o .number) lent (o .cells) words)
 
 -- an answer of other than one word is 1 too
 unfoldable pub deskCalls : List ℕ → List ℕ → ℕ → Rows → ℕ → List ℕ → List ℕ → Cells → List ℕ → DeskCall
 deskCalls fs path root rows n s lent cells words =
     pick (both (isFigures fs) (eqb (length words) 1))
-    (counted (called side (figuresAt fs) path root rows n s lent cells) words)
+    (counted (called side (figuresAt fs) path root rows n s cells) lent words)
     (deskCall 1 lent cells words)
 
 -- ---- a whole turn
 
--- 1 SETUP, first of all: words that are no figures, and lengths: a table over 256 rows, fewer answers than rows, crosspoints that are not 4,096, a path that has
--- not 1 to 16 numbers, an answer that is not nine words
-unfoldable pub lengthsFit : ℕ → ℕ → ℕ → ℕ → ℕ → Bool
-lengthsFit rows answers cells path words =
+-- 1 SETUP, first of all: words that are no figures, and lengths: a table over 256 rows, crosspoints that are not 4,096, a path that has not 1 to 16 numbers, an
+-- answer that is not nine words
+unfoldable pub lengthsFit : ℕ → ℕ → ℕ → ℕ → Bool
+lengthsFit rows cells path words =
     both (eqb words 9)
     (both (leb rows 256)
-    (both (leb rows answers)
     (both (eqb cells 4096)
-    (both (leb 1 path) (leb path 16)))))
+    (both (leb 1 path) (leb path 16))))
 
 -- What came after the session's call, in six words: the tree's number, its place, its count and Root's kind, the desk's number, and its count of answers.
 abbrev pub treeWords : Said → List ℕ
@@ -82,10 +82,10 @@ laterWords (read a table) = treeWords (saidBy a)
 laterWords (desk root count table o) = deskWords root count o
 
 -- "Only a finished message goes on to the tree reader": the store's first bytes
-unfoldable pub next : ℕ → List ℕ → Desk → Rows → List ℕ → Left
-next number m d table lent = pick (eqb number 3) (readTo d m table lent) (left none table lent (d .crosspoints))
+unfoldable pub next : ℕ → List ℕ → Desk → Rows → Left
+next number m d table = pick (eqb number 3) (readTo d m table) (unasked none table (d .crosspoints))
 
--- A turn: the number and all that is lent, after it.
+-- A turn: the number and all that is lent, after it. The 256 bytes for answers hold those of this turn in order, then zeros.
 pub record Turn : Type 0 where
   pub number : ℕ
   pub session : List ℕ
@@ -103,7 +103,7 @@ turn c x words =
       store = c .store;
       table = x .table;
       crosspoints = x .crosspoints;
-      answers = x .lent;
+      answers = x .answers;
       answer = words;
     }
 
@@ -114,15 +114,15 @@ told c x = turn c x (c .answer ++ laterWords (x .later))
 -- after the session's call: "1 leaves everything as it was"
 abbrev pub turnAfter : Called → Desk → Rows → List ℕ → List ℕ → Turn
 turnAfter c d table lent a =
-    pick (eqb (c .number) 1) (turn c (left none table lent (d .crosspoints)) a)
-    (told c (next (c .number) (take (getD (c .answer) 2 0) (c .store)) d table lent))
+    pick (eqb (c .number) 1) (turn c (left none lent table (d .crosspoints)) a)
+    (told c (next (c .number) (take (getD (c .answer) 2 0) (c .store)) d table))
 
 unfoldable pub turned : List ℕ → List ℕ → List ℕ → Desk → Rows → List ℕ → List ℕ → Turn
 turned ws t bytes d table lent a = turnAfter (calls ws t bytes (0 ∷ 0 ∷ 0 ∷ [])) d table lent a
 
 unfoldable pub turns : List ℕ → List ℕ → List ℕ → Rows → List ℕ → List ℕ → Cells → List ℕ → List ℕ → Turn
 turns ws t bytes table fs path cells lent a =
-    pick (both (isFigures fs) (lengthsFit (length table) (length lent) (length cells) (length path) (length a)))
+    pick (both (isFigures fs) (lengthsFit (length table) (length cells) (length path) (length a)))
     (turned ws t bytes (deskAt (figuresAt fs) path cells) table lent a)
     (record { number = 1; session = ws; store = t; table = table; crosspoints = cells; answers = lent; answer = a })
 
@@ -146,44 +146,34 @@ unfoldable pub sheetWrites : List ℕ → List ℕ → Cells → List ℕ → Li
 sheetWrites fs path cells out words =
     pick (both (isFigures fs) (eqb (length words) 1)) (measured (writesSheet side (figuresAt fs) path cells out) words) (sheetPut 1 out words)
 
--- Reading: a number, the figures' words, the path, the crosspoints, and one word for how many numbers the path has.
+-- Reading: a number, the store, the figures' words, the path, the crosspoints, and one word for how many numbers the path has.
 pub record SheetCall : Type 0 where
   pub number : ℕ
+  pub store : List ℕ
   pub figures : List ℕ
   pub path : List ℕ
   pub cells : Cells
   pub answer : List ℕ
 
-abbrev pub sheetCall : ℕ → List ℕ → List ℕ → Cells → List ℕ → SheetCall
-sheetCall number fs path cells words = record { number = number; figures = fs; path = path; cells = cells; answer = words }
+abbrev pub sheetCall : ℕ → List ℕ → List ℕ → List ℕ → Cells → List ℕ → SheetCall
+sheetCall number store fs path cells words = record { number = number; store = store; figures = fs; path = path; cells = cells; answer = words }
 
 abbrev pub figuresOf : sheet.Given → List ℕ → List ℕ
+figuresOf sheet.setup fs = fs
 figuresOf sheet.none fs = fs
 figuresOf (sheet.desk f n) fs = wordsOf f
 
-abbrev pub lengthOf : sheet.Given → ℕ
-lengthOf sheet.none = 0
-lengthOf (sheet.desk f n) = n
-
--- after SETUP, which keeps store and table, the answer's word stays too
-abbrev pub answerOf : sheet.Lent → List ℕ → ℕ → List ℕ
-answerOf scratch words n = n ∷ []
-answerOf (kept s t) words n = words
+-- after SETUP, "which leaves everything as it was", the answer's word stays too
+abbrev pub answerOf : sheet.Given → List ℕ → List ℕ
+answerOf sheet.setup words = words
+answerOf sheet.none words = 0 ∷ []
+answerOf (sheet.desk f n) words = n ∷ []
 
 unfoldable pub given : sheet.Outcome → List ℕ → List ℕ → SheetCall
-given o fs words = sheetCall (o .number) (figuresOf (o .given) fs) (o .path) (o .cells) (answerOf (o .lent) words (lengthOf (o .given)))
+given o fs words = sheetCall (o .number) (o .store) (figuresOf (o .given) fs) (o .path) (o .cells) (answerOf (o .given) words)
 
 -- figures that have not seven words are 1, and so is an answer of other than one word
-unfoldable pub sheetReads : List ℕ → List ℕ → Rows → List ℕ → List ℕ → Cells → List ℕ → SheetCall
-sheetReads text store table fs path cells words =
-    pick (both (eqb (length fs) 7) (eqb (length words) 1)) (given (sheetRead side text store table path cells) fs words)
-    (sheetCall 1 fs path cells words)
-
--- What store and table hold after it: after SETUP as they were, else anything.
-unfoldable pub sheetLent : List ℕ → List ℕ → Rows → List ℕ → List ℕ → Cells → List ℕ → sheet.Lent
-sheetLent text store table fs path cells words =
-    pick (both (eqb (length fs) 7) (eqb (length words) 1)) (sheetRead side text store table path cells .lent) (kept store table)
-
-abbrev pub Holds : sheet.Lent → List ℕ → Rows → Type 0
-Holds scratch store table = Unit {0}
-Holds (kept s t) store table = (s ≡ store) × (t ≡ table)
+unfoldable pub sheetReads : List ℕ → List ℕ → List ℕ → List ℕ → Cells → List ℕ → SheetCall
+sheetReads text store fs path cells words =
+    pick (both (eqb (length fs) 7) (eqb (length words) 1)) (given (sheetRead side text store path cells) fs words)
+    (sheetCall 1 store fs path cells words)

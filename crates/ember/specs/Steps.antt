@@ -14,4 +14,4 @@ wordsIn x = x .tree ∷ x .place ∷ x .count ∷ x .root ∷ x .desk ∷ x .ans
 
 -- six words that are those of what came after
 abbrev pub Words : After → Six → Type 0
-Words x r = (table : Rows) (lent : List ℕ) (cells : Cells) → laterWords (laterOf x table lent cells) ≡ wordsIn r
+Words x r = (answers : List ℕ) (table : Rows) (cells : Cells) → laterWords (laterOf x answers table cells) ≡ wordsIn r

@@ -1,15 +1,9 @@
 // What came after the session's call, as six words.
-use desk_calls::Called;
 use glow::Answer;
 use turns::After;
 ghost use mathlib.Core.Path.{_≡_};
-ghost use mathlib.Core.List.{List};
-ghost use Prim.Native.Nat.{ℕ};
 ghost use Rattle.glow.specs.Message.{saidBy};
-ghost use Rattle.entries.specs.Entry.{Rows};
-ghost use Rattle.crosspoints.specs.Crosspoints.{Cells};
-ghost use Rattle.desk_calls.specs.Calls.{told};
-ghost use Rattle.ember.specs.Calls.{treeWords, deskWords};
+ghost use Rattle.ember.specs.Calls.{treeWords};
 ghost use Rattle.ember.specs.Steps.{wordsIn, Words};
 
 pub struct Six {
@@ -46,16 +40,6 @@ fn refused(a: Answer) -> Six
     }
 }
 
-// The tree reader's 0, and the desk's answer.
-fn served(root: u64, count: u64, called: Called) -> Six
-    ensures { λ r. ⌜ ((lent : List ℕ) (cells : Cells) → deskWords root count (told called lent cells) ≡ wordsIn r) ⌝ }
-{
-    match called {
-        Called::Setup => make(0, 0, count, root, 1, 0),
-        Called::Done(n) => make(0, 0, count, root, 0, session_words::word(n)),
-    }
-}
-
 pub(crate) fn later(x: After) -> Six
     ensures { λ r. ⌜ Words x r ⌝ }
 {
@@ -65,7 +49,15 @@ pub(crate) fn later(x: After) -> Six
         After::Served {
             root,
             count,
-            called,
-        } => served(root, session_words::word(count), called),
+            number,
+            answered,
+        } => make(
+            0,
+            0,
+            session_words::word(count),
+            root,
+            number,
+            session_words::word(answered),
+        ),
     }
 }

@@ -7,6 +7,7 @@ use after::Six;
 use crosspoints::Figures;
 use desk_calls::Called;
 use turns::After;
+use turns::Handled;
 ghost use mathlib.Core.Path.{_≡_};
 ghost use mathlib.Core.List.{List, [], _∷_};
 ghost use Prim.Native.Nat.{ℕ, _≤_};
@@ -18,7 +19,7 @@ ghost use Rattle.crosspoints.specs.Crosspoints.{Cells, answer as answered};
 ghost use Rattle.desk_calls.specs.Calls.{told};
 ghost use Rattle.turns.specs.Whole.{deskAt, gave};
 ghost use Rattle.ember.specs.Calls.{opens, legals, requests, counted, deskCall, deskCalls, lengthsFit, next, turned, turns};
-ghost use Rattle.ember.specs.Calls.{sheetPut, sheetWrites, sheetCall, sheetReads, sheetLent, Holds};
+ghost use Rattle.ember.specs.Calls.{sheetPut, sheetWrites, sheetCall, sheetReads};
 ghost use Rattle.ember.specs.Steps.{wordsIn};
 
 // ---- the session and the writer of frames
@@ -160,7 +161,7 @@ pub extern "C" fn ember_desk_request(
         ≡ answered r (now (crosspoints .exit)) ⌝ }
 {
     if words::is_figures(figures) {
-        return routing::request(
+        return desk_calls::request(
             words::figures_at(figures),
             target,
             sources,
@@ -171,18 +172,19 @@ pub extern "C" fn ember_desk_request(
     1
 }
 
-// What the desk's call answered: 0 and how many answers there are, or 1.
-fn count_answers(called: Called, answer: &mut [u64]) -> u64
+// What the desk's call answered: 0, the answers and how many there are; or 1.
+fn put_answers(called: Called, answers: &mut [u8; 256], answer: &mut [u64]) -> u64
     requires { ⌜ length (now answer) ≡ 1 ⌝ }
-    ensures { λ r. ⌜ ((lent : List ℕ) (cells : Cells) → counted (told called lent cells) (now (answer .entry)) ≡ deskCall r lent cells (now (answer .exit))) ⌝ }
+    ensures { λ r. ⌜ ((cells : Cells) → counted (told called cells) (now (answers .entry)) (now (answer .entry))
+        ≡ deskCall r (now (answers .exit)) cells (now (answer .exit))) ⌝ }
 {
-    match called {
-        Called::Setup => 1,
-        Called::Done(n) => {
-            answer[0] = session_words::word(n);
-            0
-        }
+    if called.number != 0 {
+        return called.number;
     }
+    let given = called.answers;
+    *answers = given;
+    answer[0] = session_words::word(called.count);
+    0
 }
 
 // The desk's call on the first `count` rows, with the message beside them.
@@ -195,7 +197,7 @@ pub extern "C" fn ember_desk_call(
     root: u64,
     message: &[u8],
     crosspoints: &mut [u8],
-    answers: &mut [u64],
+    answers: &mut [u8; 256],
     answer: &mut [u64],
 ) -> u64
     ensures { λ r. ⌜ deskCalls (now (figures .entry)) (now (path .entry)) root (now (rows .entry)) count (now (message .entry)) (now (answers .entry))
@@ -214,25 +216,21 @@ pub extern "C" fn ember_desk_call(
             root,
             message,
             crosspoints,
-            answers,
         );
-        return count_answers(called, answer);
+        return put_answers(called, answers, answer);
     }
     1
 }
 
 // ---- a whole turn
 
-fn lengths_fit(rows: usize, answers: usize, cells: usize, path: usize, words: usize) -> bool
-    ensures { λ r. ⌜ r ≡ lengthsFit rows answers cells path words ⌝ }
+fn lengths_fit(rows: usize, cells: usize, path: usize, words: usize) -> bool
+    ensures { λ r. ⌜ r ≡ lengthsFit rows cells path words ⌝ }
 {
     if words != 9 {
         return false;
     }
     if 256 < rows {
-        return false;
-    }
-    if answers < rows {
         return false;
     }
     if cells != 4096 {
@@ -264,15 +262,18 @@ fn follow(
     f: Figures,
     path: &[u64],
     crosspoints: &mut [u8],
-    answers: &mut [u64],
-) -> After
-    ensures { λ r. ⌜ next number (now (m .entry)) (deskAt f (now (path .entry)) (now (crosspoints .entry))) (now (table .entry)) (now (answers .entry))
-        ≡ gave r (now (table .exit)) (now (answers .exit)) (now (crosspoints .exit)) ⌝ }
+) -> Handled
+    ensures { λ r. ⌜ next number (now (m .entry)) (deskAt f (now (path .entry)) (now (crosspoints .entry))) (now (table .entry))
+        ≡ gave (r .after) (r .answers) (now (table .exit)) (now (crosspoints .exit)) ⌝ }
 {
     if number != 3 {
-        return After::Nothing;
+        let answers = [0u8; 256];
+        return Handled {
+            after: After::Nothing,
+            answers,
+        };
     }
-    turns::message(m, table, f, path, crosspoints, answers)
+    turns::message(m, table, f, path, crosspoints)
 }
 
 fn put_answer(answer: &mut [u64], discarded: u64, consumed: u64, length: u64, x: Six)
@@ -299,7 +300,7 @@ fn go(
     f: Figures,
     path: &[u64],
     crosspoints: &mut [u8],
-    answers: &mut [u64],
+    answers: &mut [u8; 256],
     answer: &mut [u64],
 ) -> u64
     requires { ⌜ length (now answer) ≡ 9 ⌝ }
@@ -321,8 +322,11 @@ fn go(
         return 1;
     }
     let n = front(store, fed[2]);
-    let x = follow(number, &store[..n], table, f, path, crosspoints, answers);
-    let six = after::later(x);
+    let x = follow(number, &store[..n], table, f, path, crosspoints);
+    let given = x.answers;
+    *answers = given;
+    let came = x.after;
+    let six = after::later(came);
     put_answer(answer, fed[0], fed[1], fed[2], six);
     number
 }
@@ -337,7 +341,7 @@ pub extern "C" fn ember_turn(
     figures: &[u64],
     path: &[u64],
     crosspoints: &mut [u8],
-    answers: &mut [u64],
+    answers: &mut [u8; 256],
     answer: &mut [u64],
 ) -> u64
     ensures { λ r. ⌜ turns (now (session .entry)) (now (store .entry)) (now (chunk .entry)) (now (table .entry)) (now (figures .entry))
@@ -353,13 +357,7 @@ pub extern "C" fn ember_turn(
         } ⌝ }
 {
     if words::is_figures(figures) {
-        if lengths_fit(
-            table.len(),
-            answers.len(),
-            crosspoints.len(),
-            path.len(),
-            answer.len(),
-        ) {
+        if lengths_fit(table.len(), crosspoints.len(), path.len(), answer.len()) {
             return go(
                 session,
                 store,
@@ -402,23 +400,19 @@ pub extern "C" fn ember_sheet_write(
 }
 
 // Reads a sheet: 0 and a desk, its figures, path and crosspoints, with the path's length in the answer's one word; or the first refusal, and they stay as
-// they were.
+// they were. The store is what the sheet's bytes leave there (crates/sheet_stream).
 #[no_mangle]
 pub extern "C" fn ember_sheet_read(
     text: &[u8],
     store: &mut [u8],
-    table: &mut [[u64; 50]],
     figures: &mut [u64],
     path: &mut [u64],
     crosspoints: &mut [u8],
     answer: &mut [u64],
 ) -> u64
-    ensures { λ r. ⌜ sheetReads (now (text .entry)) (now (store .entry)) (now (table .entry)) (now (figures .entry)) (now (path .entry))
-        (now (crosspoints .entry)) (now (answer .entry))
-        ≡ sheetCall r (now (figures .exit)) (now (path .exit)) (now (crosspoints .exit)) (now (answer .exit)) ⌝ }
-    ensures { λ _. ⌜ Holds (sheetLent (now (text .entry)) (now (store .entry)) (now (table .entry)) (now (figures .entry)) (now (path .entry))
-        (now (crosspoints .entry)) (now (answer .entry)))
-        (now (store .exit)) (now (table .exit)) ⌝ }
+    ensures { λ r. ⌜ sheetReads (now (text .entry)) (now (store .entry)) (now (figures .entry)) (now (path .entry)) (now (crosspoints .entry))
+        (now (answer .entry))
+        ≡ sheetCall r (now (store .exit)) (now (figures .exit)) (now (path .exit)) (now (crosspoints .exit)) (now (answer .exit)) ⌝ }
 {
     if figures.len() != 7 {
         return 1;
@@ -426,6 +420,6 @@ pub extern "C" fn ember_sheet_read(
     if answer.len() != 1 {
         return 1;
     }
-    let x = sheet_reader::read(text, store, table, path, crosspoints);
+    let x = sheet_reader::read(text, store, path, crosspoints);
     sheet::read(x, figures, answer)
 }

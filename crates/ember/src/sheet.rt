@@ -5,7 +5,6 @@ ghost use mathlib.Core.Path.{_≡_};
 ghost use mathlib.Core.List.{List};
 ghost use Prim.Native.Nat.{ℕ};
 ghost use lib.ListN.{length};
-ghost use Rattle.entries.specs.Entry.{Rows};
 ghost use Rattle.crosspoints.specs.Crosspoints.{Cells};
 ghost use Rattle.sheet_writer.specs.Calls.{told as wroteAs};
 ghost use Rattle.sheet_reader.specs.Calls.{told as readAs};
@@ -33,8 +32,8 @@ pub(crate) fn wrote(a: Answer, answer: &mut [u64]) -> u64
 pub(crate) fn read(x: Sheet, figures: &mut [u64], answer: &mut [u64]) -> u64
     requires { ⌜ length (now figures) ≡ 7 ⌝ }
     requires { ⌜ length (now answer) ≡ 1 ⌝ }
-    ensures { λ r. ⌜ ((store : List ℕ) (table : Rows) (path : List ℕ) (cells : Cells) → given (readAs x store table path cells) (now (figures .entry)) (now (answer .entry))
-        ≡ sheetCall r (now (figures .exit)) path cells (now (answer .exit))) ⌝ }
+    ensures { λ r. ⌜ ((store path : List ℕ) (cells : Cells) → given (readAs x store path cells) (now (figures .entry)) (now (answer .entry))
+        ≡ sheetCall r store (now (figures .exit)) path cells (now (answer .exit))) ⌝ }
 {
     match x {
         Sheet::Setup => 1,

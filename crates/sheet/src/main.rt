@@ -39,14 +39,8 @@ fn write_with(f: Figures, path: &[u64], n: usize, cells: &[u8]) {
     }
 }
 
-fn read(
-    text: &[u8],
-    store: &mut [u8],
-    table: &mut [[u64; 50]],
-    path: &mut [u64],
-    cells: &mut [u8],
-) {
-    match sheet_reader::read(text, store, table, path, cells) {
+fn read(text: &[u8], store: &mut [u8], path: &mut [u64], cells: &mut [u8]) {
+    match sheet_reader::read(text, store, path, cells) {
         Sheet::Setup => number(1),
         Sheet::Refused { number: n } => number(n),
         Sheet::Read { figures, length } => write_with(figures, path, length, cells),
@@ -54,20 +48,13 @@ fn read(
 }
 
 // Reads the sheet that the first n bytes are.
-fn take(
-    text: &[u8],
-    n: usize,
-    store: &mut [u8],
-    table: &mut [[u64; 50]],
-    path: &mut [u64],
-    cells: &mut [u8],
-) {
+fn take(text: &[u8], n: usize, store: &mut [u8], path: &mut [u64], cells: &mut [u8]) {
     if 600000 < n {
         print::say(b"too long\n");
         return;
     }
     if n <= text.len() {
-        read(&text[..n], store, table, path, cells);
+        read(&text[..n], store, path, cells);
     }
 }
 
@@ -83,12 +70,10 @@ fn main() {
     let text: &mut [u8] = &mut space;
     let mut bytes = [0u8; 17408];
     let store: &mut [u8] = &mut bytes;
-    let mut rows = [[0u64; 50]; 256];
-    let table: &mut [[u64; 50]] = &mut rows;
     let mut steps = [0u64; 16];
     let path: &mut [u64] = &mut steps;
     let mut points = [0u8; 4096];
     let cells: &mut [u8] = &mut points;
     let n = io::read_full(STDIN_FILENO, text);
-    take(text, n, store, table, path, cells);
+    take(text, n, store, path, cells);
 }

@@ -1,11 +1,11 @@
 -- A desk from entries: opened, its connections applied, handed over.
-use Prim.Native.Nat.{ℕ, _*_, _≤_, _<_}
+use Prim.Native.Nat.{ℕ, _-_, _*_, _≤_, _<_}
 use mathlib.Core.Path.{_≡_, refl, sym, ap, subst, _∙_}
 use mathlib.Core.List.{List, [], _∷_, _++_, append-nil}
 use mathlib.Core.Bool.{Bool, true, false, true≢false}
 use native.Mathlib.Omega.{arith}
 use borrow.Author.Tests.{eq-eqb, ne-eqb}
-use lib.ListN.{length, take, drop, getD, length-append, drop-of-length-le}
+use lib.ListN.{length, take, drop, getD, length-take, drop-of-length-le}
 use lib.Seq.{take-at}
 use lib.Dec.{eqb}
 use Rattle.integers.specs.Digits.{pick}
@@ -19,12 +19,11 @@ use Rattle.crosspoints.specs.Figures.{both, figuresFit}
 use Rattle.crosspoints.specs.Crosspoints.{Cells, clear, Answer, answer, opened}
 use Rattle.crosspoints.proofs.Counts.{clear-length}
 use Rattle.desk_calls.specs.declared.Called.{Called}
-use Rattle.desk_calls.specs.declared.Called.the-variants.{Setup as Unready, Done}
 use Rattle.tree_sizes.specs.Sizes.{rowCell}
-use Rattle.desk_calls.specs.Connections.{octetsOf, numbersIn, nobody}
-use Rattle.desk_calls.specs.Calls.{pathFits, deskLegal, deskOpened, Served, handled, Outcome, laid, called, told as answered}
-use Rattle.desk_calls.proofs.Items.{in-at}
-use Rattle.desk_calls.proofs.Setup.{ready-from, path-short, opened-not}
+use Rattle.connections.specs.Connections.{octetsOf, numbersIn, nobody}
+use Rattle.desk_calls.specs.Calls.{pathFits, deskLegal, deskOpened, Served, handled, Outcome, filled, laid, called, told as answered}
+use Rattle.connections.proofs.Items.{in-at}
+use Rattle.desk_calls.proofs.Setup.{ready-from, called-ready, path-short, opened-not}
 use Rattle.desk_calls.proofs.Claims.{desk-opened-legal}
 use Rattle.sheets.specs.Reading as reading
 use Rattle.sheets.specs.Reading.{refused, firstRefused, applied, begun, opens, figuresIn, modeIn, pathIn, ofEntries}
@@ -66,64 +65,56 @@ module _ (w : ℕ) (f : Figures) (path : List ℕ) (mode : ℕ) (es : List Item)
 
 -- ---- its connections
 
--- what a call that answers the connections lays over the answers lent
-laid-done : (z : Served) (lent : List ℕ) (r : Called) (lent′ : List ℕ) (cells′ : Cells) (k : ℕ) → laid z lent ≡ answered r lent′ cells′ → r ≡ Done k
-    → (take k lent′ ≡ z .answers) × ((z .cells ≡ cells′) × (k ≤ length lent′))
-unfolding laid
-laid-done z lent r lent′ cells′ k q h =
-    let e = q ∙ ap (λ (x : Called). answered x lent′ cells′) h in
-    let n : length (z .answers) ≡ k = ap (λ (o : Outcome). o .count) e in
-    let l : z .answers ++ drop (length (z .answers)) lent ≡ lent′ = ap (λ (o : Outcome). o .answers) e in
-    let a = length-append (z .answers) (drop (length (z .answers)) lent) in
-    let b = ap length l in (
-      ap (take k) (sym l) ∙ take-at (z .answers) (drop (length (z .answers)) lent) k n,
-      (ap (λ (o : Outcome). o .cells) e, omega arith),
+-- the answers that a call gives
+laid-tells : (z : Served) (r : Called) (cells′ : Cells) → laid z ≡ answered r cells′
+    → (take (r .count) (r .answers) ≡ z .answers) × ((z .cells ≡ cells′) × (length (z .answers) ≡ r .count))
+unfolding laid filled
+laid-tells z r cells′ q =
+    let n : length (z .answers) ≡ r .count = ap (λ (o : Outcome). o .count) q in
+    let l : z .answers ++ clear (256 - length (z .answers)) ≡ r .answers = ap (λ (o : Outcome). o .answers) q in (
+      ap (take (r .count)) (sym l) ∙ take-at (z .answers) (clear (256 - length (z .answers))) (r .count) n,
+      (ap (λ (o : Outcome). o .cells) q, n),
     )
-
-laid-not : (z : Served) (lent lent′ : List ℕ) (cells′ : Cells) → laid z lent ≡ answered Unready lent′ cells′ → ⊥
-unfolding laid
-laid-not z lent lent′ cells′ q = let n : _≡_ {A = ℕ} 0 1 = ap (λ (o : Outcome). o .number) q in omega arith
-
-isDone : Called → Bool
-isDone Unready = false
-isDone (Done n) = true
 
 module _ (w : ℕ) (f : Figures) (path : List ℕ) (mode : ℕ) (cells : Cells) (sized : length cells ≡ w * w) (x : ℕ) (after : Cells)
     (e : deskOpened w f path mode cells ≡ answer x after) (z : x ≡ 0)
-    (root : ℕ) (rows : Rows) (n : ℕ) (s lent : List ℕ) (enough : n ≤ length lent) (within : n ≤ length rows)
-    (tree : accepted root (itemsIn s rows n) ≡ true) (r : Called) (lent′ : List ℕ) (cells′ : Cells)
-    (q : called w f path root rows n s lent after ≡ answered r lent′ cells′) where
+    (root : ℕ) (rows : Rows) (n : ℕ) (s : List ℕ) (few : length rows ≤ 256) (short : length s ≤ 16384) (within : n ≤ length rows)
+    (tree : accepted root (itemsIn s rows n) ≡ true) (r : Called) (cells′ : Cells)
+    (q : called w f path root rows n s after ≡ answered r cells′) where
   abbrev es : List Item
   es = itemsIn s rows n
 
-  served-laid : laid (handled w f path es after) lent ≡ answered r lent′ cells′
-  served-laid = sym (ready-from w f path root rows n s lent after enough (opens-legal w f path mode es cells sized x after e z) within tree) ∙ q
+  told : (take (r .count) (r .answers) ≡ handled w f path es after .answers)
+      × ((handled w f path es after .cells ≡ cells′) × (length (handled w f path es after .answers) ≡ r .count))
+  told =
+      laid-tells (handled w f path es after) r cells′
+      (sym (called-ready w f path root rows n s after
+      (ready-from w f path root rows n s after few short (opens-legal w f path mode es cells sized x after e z) within tree)) ∙ q)
 
-  pub never-setup : r ≡ Unready → ⊥
-  never-setup h = laid-not (handled w f path es after) lent lent′ cells′ (served-laid ∙ ap (λ (c : Called). answered c lent′ cells′) h)
+  -- an answer for each connection
+  pub done-length : length (take (r .count) (r .answers)) ≡ r .count
+  done-length = ap length (told .0) ∙ told .1 .1
 
-  module _ (k : ℕ) (h : r ≡ Done k) where
-    pub done-few : k ≤ length lent′
-    done-few = laid-done (handled w f path es after) lent r lent′ cells′ k served-laid h .1 .1
+  pub done-within : r .count ≤ length (r .answers)
+  done-within = let a = length-take (r .count) (r .answers) in let b = done-length in omega (arith, a, b)
 
-    pub opens-done : (m : ℕ) → firstRefused (take k lent′) ≡ m → opens w f path mode es ≡ sheetBy m f path cells′
-    unfolding applied sheetBy
-    opens-done m g =
-        let d = laid-done (handled w f path es after) lent r lent′ cells′ k served-laid h in
-        let a : firstRefused (handled w f path es after .answers) ≡ m = ap firstRefused (sym (d .0)) ∙ g in
-        opens-applied w f path mode es cells sized x after e z ∙ rw (a, d .1 .0)
+  pub opens-done : (m : ℕ) → firstRefused (take (r .count) (r .answers)) ≡ m → opens w f path mode es ≡ sheetBy m f path cells′
+  unfolding applied sheetBy
+  opens-done m g =
+      let a : firstRefused (handled w f path es after .answers) ≡ m = ap firstRefused (sym (told .0)) ∙ g in
+      opens-applied w f path mode es cells sized x after e z ∙ rw (a, told .1 .0)
 
 -- ---- handed over
 
 module _ (n : ℕ) (f : Figures) (numbers : List ℕ) (cells path lent : List ℕ) where
   pub hands-refused : (n ≡ 0 → ⊥) → Tells (sheetBy n f numbers cells) path lent (Refused n) path lent
   unfolding sheetBy
-  hands-refused h store table = rw (ne-eqb _ _ h)
+  hands-refused h store = rw (ne-eqb _ _ h)
 
   pub hands-desk : n ≡ 0 → (path′ lent′ : List ℕ) → path′ ≡ numbers ++ drop (length numbers) path → lent′ ≡ cells ++ drop (length cells) lent
       → length cells ≡ length lent → Tells (sheetBy n f numbers cells) path lent (Read f (length numbers)) path′ lent′
   unfolding sheetBy
-  hands-desk h path′ lent′ a b l store table =
+  hands-desk h path′ lent′ a b l store =
       let m : length lent ≤ length cells = omega arith in
       let d : lent′ ≡ cells = b ∙ ap (λ (x : List ℕ). cells ++ x) (drop-of-length-le lent m) ∙ append-nil cells in
       rw (eq-eqb _ _ h, a, d)
@@ -142,7 +133,7 @@ entries-are w [] h = absurd (true≢false (sym h))
 entries-are w (e ∷ es) h = rw h
 
 pub tells-not : (w : ℕ) (es : List Item) (path cells : List ℕ) → isSheet es ≡ false → Tells (ofEntries w es) path cells (Refused 33) path cells
-tells-not w es path cells h store table = ap (λ (x : reading.Sheet). leaves x path cells) (entries-not w es h)
+tells-not w es path cells h store = ap (λ (x : reading.Sheet). leaves x store path cells) (entries-not w es h)
 
 too-long : (path : List ℕ) → 16 < length path → pathFits path ≡ false
 too-long path h = go (pathFits path) refl
@@ -169,11 +160,11 @@ module _ (w : ℕ) (s : List ℕ) (rows : Rows) (n : ℕ) (h : n ≤ length rows
     -- a path of more than sixteen numbers
     pub tells-long : 16 < r → (path cells : List ℕ) → Tells (ofEntries w (itemsIn s rows n)) path cells (Refused 45) path cells
     unfolding opens begun
-    tells-long k path cells store table =
+    tells-long k path cells store =
         let l = t .more k in
         let m : 16 < length (pathIn first) = subst (λ (p : List ℕ). 16 < length p) (sym path-first) l in
         let o = opened-not w (figuresIn first) (pathIn first) (modeIn first) (clear (w * w)) (too-long (pathIn first) m) (clear-length (w * w)) in
-        ap (λ (x : reading.Sheet). leaves x path cells)
+        ap (λ (x : reading.Sheet). leaves x store path cells)
         (opens-first ∙ ap (begun w (figuresIn first) (pathIn first) (itemsIn s rows n)) o)
 
     -- what opening and applying gives is handed over
@@ -182,12 +173,12 @@ module _ (w : ℕ) (s : List ℕ) (rows : Rows) (n : ℕ) (h : n ≤ length rows
         → opens w f (take r list) mode (itemsIn s rows n) ≡ sheetBy number f (take r list) inner
         → (path cells : List ℕ) (x : Sheet) (path′ cells′ : List ℕ) → Tells (sheetBy number f (take r list) inner) path cells x path′ cells′
         → Tells (ofEntries w (itemsIn s rows n)) path cells x path′ cells′
-    tells-opened k f mode number inner a b o path cells x path′ cells′ g store table =
+    tells-opened k f mode number inner a b o path cells x path′ cells′ g store =
         let p : pathIn first ≡ take r list = path-first ∙ sym (t .all k) in
-        ap (λ (y : reading.Sheet). leaves y path cells)
+        ap (λ (y : reading.Sheet). leaves y store path cells)
         (opens-first
         ∙ ap (λ (y : Figures). opens w y (pathIn first) (modeIn first) (itemsIn s rows n)) (a s)
         ∙ ap (λ (y : List ℕ). opens w f y (modeIn first) (itemsIn s rows n)) p
         ∙ ap (λ (y : ℕ). opens w f (take r list) y (itemsIn s rows n)) (b s)
         ∙ o)
-        ∙ g store table
+        ∙ g store

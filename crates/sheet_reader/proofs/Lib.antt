@@ -4,3 +4,4 @@ pub mod Desks
 pub mod Messages
 pub mod Whole
 pub mod Theorems
+pub mod Numbered

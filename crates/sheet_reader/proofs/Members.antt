@@ -16,8 +16,8 @@ use Rattle.forest.specs.Rows.{cellsFrom, entriesOf, itemsIn}
 use Rattle.crosspoints.specs.declared.Limit.{Limit}
 use Rattle.crosspoints.specs.declared.Limit.the-variants.{Absent, Most}
 use Rattle.tree_sizes.specs.Sizes.{rowCell}
-use Rattle.desk_calls.specs.Connections.{numberOf, memberOf, nobody}
-use Rattle.desk_calls.proofs.Items.{in-length, in-kind}
+use Rattle.connections.specs.Connections.{numberOf, memberOf, nobody}
+use Rattle.connections.proofs.Items.{in-length, in-kind}
 use Rattle.sheets.specs.Reading.{limitIn, figuresIn, modeIn, allLinks}
 use Rattle.sheet_reader.specs.Steps.{firstOf, isSheet}
 

@@ -16,6 +16,7 @@ use Rattle.glow.specs.declared.Answer.{Answer}
 use Rattle.glow.specs.declared.Answer.the-variants as glow
 use Rattle.walk.specs.Walk.{walk}
 use Rattle.glow.specs.Message.{Result, result, readOf, readAt, setup}
+use Rattle.glow.proofs.Answers.{rows-kept}
 use Rattle.forest.specs.Content.{itemsOf}
 use Rattle.forest.specs.Rows.{itemsIn}
 use Rattle.tree_sizes.specs.Accepted.{accepted}
@@ -93,12 +94,12 @@ module _ (w : ℕ) (m : List ℕ) (table : Rows) (few : length m ≤ 16384) (siz
 
   module _ (a : Answer) (after : Rows) (q : readAt m table ≡ result a after) (path cells : List ℕ) where
     pub tells-refused : (number place : ℕ) → a ≡ glow.Refused number place → Tells (ofMessage w m) path cells (Refused number) path cells
-    tells-refused number place h store rows =
-        ap (λ (x : reading.Sheet). leaves x path cells) (by-answer a after q ∙ ap (λ (x : Answer). sheetFor x (walk m .out .entries)) h)
+    tells-refused number place h store =
+        ap (λ (x : reading.Sheet). leaves x store path cells) (by-answer a after q ∙ ap (λ (x : Answer). sheetFor x (walk m .out .entries)) h)
 
     pub tells-room : (count : ℕ) → a ≡ glow.Room count → Tells (ofMessage w m) path cells (Refused 38) path cells
-    tells-room count h store rows =
-        ap (λ (x : reading.Sheet). leaves x path cells) (by-answer a after q ∙ ap (λ (x : Answer). sheetFor x (walk m .out .entries)) h)
+    tells-room count h store =
+        ap (λ (x : reading.Sheet). leaves x store path cells) (by-answer a after q ∙ ap (λ (x : Answer). sheetFor x (walk m .out .entries)) h)
 
     -- after 0 the entries are those in the first rows
     module _ (root count : ℕ) (h : a ≡ glow.Read root count) (octets : Below 256 m) where
@@ -123,14 +124,15 @@ module _ (w : ℕ) (m : List ℕ) (table : Rows) (few : length m ≤ 16384) (siz
       pub entries-accepted : accepted root (itemsIn m after count) ≡ true
       entries-accepted = subst (λ (x : Rows). accepted root (itemsIn m x count) ≡ true) rows-are (read-accepted m octets table root count answers)
 
-      pub entries-few : (count ≤ 256) × (count ≤ length after)
-      entries-few =
-          let k = in-rows m table answers in
-          (k .1, subst (λ (x : Rows). count ≤ length x) rows-are (k .0))
+      pub entries-few : count ≤ length after
+      entries-few = subst (λ (x : Rows). count ≤ length x) rows-are (in-rows m table answers .0)
+
+      pub rows-few : length after ≤ 256
+      rows-few = let l : length after ≡ length table = ap length (sym rows-are) ∙ rows-kept m table in omega (arith, l, sized)
 
       pub tells-entries : (x : Sheet) (path′ cells′ : List ℕ) → Tells (ofEntries w (itemsIn m after count)) path cells x path′ cells′
           → Tells (ofMessage w m) path cells x path′ cells′
-      tells-entries x path′ cells′ t store rows =
-          ap (λ (y : reading.Sheet). leaves y path cells)
+      tells-entries x path′ cells′ t store =
+          ap (λ (y : reading.Sheet). leaves y store path cells)
           (by-answer a after q ∙ ap (λ (y : Answer). sheetFor y (walk m .out .entries)) h ∙ ap (ofEntries w) (sym entries-in))
-          ∙ t store rows
+          ∙ t store

@@ -9,8 +9,8 @@ use lib.Seq.{drop-cons, take-suc, take-suc-set, append-snoc, set-at, length-take
 use Rattle.entries.specs.declared.Cell.{Cell}
 use Rattle.forest.specs.Content.{contentOf}
 use Rattle.identifiers.specs.Identifier.{arcsFrom}
-use Rattle.desk_calls.specs.Connections.{octetsOf, numbersIn}
-use Rattle.desk_calls.proofs.Items.{part-is}
+use Rattle.connections.specs.Connections.{octetsOf, numbersIn}
+use Rattle.connections.proofs.Items.{part-is}
 use Rattle.sheets.specs.Reading.{firstRefused}
 use Rattle.sheet_reader.specs.Steps.{Taken}
 

@@ -1,5 +1,5 @@
--- The theorems of the route sheet reader, over the equation of its contract (`sheetRead side text store table path cells ≡ told r ..`): the sheet of every
--- legal desk is read back as that desk, a desk that was read is legal, and a refusal leaves path and crosspoints as they were.
+-- The theorems of the route sheet reader, over the equation of its contract (`sheetRead side text store path cells ≡ told r ..`): the sheet of every legal desk
+-- is read back as that desk, a desk that was read is legal, a refusal leaves path and crosspoints as they were, and SETUP and a bad line the store too.
 use Prim.Native.Nat.{ℕ, _*_}
 use mathlib.Core.Path.{_≡_, refl, sym, ap, _∙_}
 use mathlib.Core.List.{List, [], _∷_, _++_}
@@ -12,7 +12,7 @@ use lib.Seq.{take-at, drop-at}
 use Rattle.containers.specs.declared.Onto.{Onto}
 use Rattle.containers.specs.declared.Onto.the-variants.{Next, Refused as Stopped}
 use Rattle.containers.proofs.Heads.{pick-by}
-use Rattle.entries.specs.Entry.{Entries, Rows}
+use Rattle.entries.specs.Entry.{Entries}
 use Rattle.forest.specs.Content.{Item, itemsOf}
 use Rattle.walk.specs.Walk.{walk}
 use Rattle.crosspoints.specs.declared.Figures.{Figures}
@@ -22,27 +22,28 @@ use Rattle.desk_calls.specs.Calls.{deskLegal, deskOpened, handled}
 use Rattle.desk_calls.proofs.Setup.{desk-fits, desk-legal, desk-rest}
 use Rattle.desk_calls.proofs.Claims.{desk-opened-legal, handled-legal}
 use Rattle.sheets.specs.Sheet.{Desk, desk, sheetOf}
-use Rattle.sheets.specs.Lines.{linesIn}
+use Rattle.sheets.specs.Lines.{Stream, linesIn, isBad}
 use Rattle.sheets.specs.Reading as reading
 use Rattle.sheets.specs.Reading.{Held, refusal, message, refused, firstRefused, applied, begun, opens, figuresIn, pathIn, modeIn, allLinks, ofEntries}
 use Rattle.sheets.specs.Reading.{ofAnswer, ofMessage, heldIn, ofHeld, readSheet}
 use Rattle.sheets.proofs.Theorems.{sheet-read}
+use Rattle.sheet_stream.specs.Finding.{storeAfter}
+use Rattle.sheet_stream.proofs.Lines.{lines-bad}
 use Rattle.sheet_reader.specs.declared.Sheet.{Sheet}
 use Rattle.sheet_reader.specs.declared.Sheet.the-variants.{Setup, Refused, Read}
-use Rattle.sheet_reader.specs.Calls.{Given, Outcome, outcome, none, scratch, kept, leaves, isReady, sheetRead, told}
+use Rattle.sheet_reader.specs.Calls.{Given, Outcome, outcome, setup, none, leaves, isReady, sheetRead, told}
 use Rattle.sheet_reader.specs.Calls as calls
 
 -- What is lent has the lengths that the reader asks.
-pub record Ready (s : List ℕ) (t : Rows) (p c : List ℕ) : Type 0 where
+pub record Ready (s p c : List ℕ) : Type 0 where
   pub store : length s ≡ 17408
-  pub table : length t ≡ 256
   pub path : length p ≡ 16
   pub cells : length c ≡ 4096
 
-ready-reads : (text store : List ℕ) (table : Rows) (path cells : List ℕ) → Ready store table path cells
-    → sheetRead side text store table path cells ≡ leaves (readSheet side text) path cells
+ready-reads : (text store path cells : List ℕ) → Ready store path cells
+    → sheetRead side text store path cells ≡ leaves (readSheet side text) (storeAfter (linesIn text) store) path cells
 unfolding sheetRead isReady
-ready-reads text store table path cells h = rw (eq-eqb _ _ (h .store), eq-eqb _ _ (h .table), eq-eqb _ _ (h .path), eq-eqb _ _ (h .cells))
+ready-reads text store path cells h = rw (eq-eqb _ _ (h .store), eq-eqb _ _ (h .path), eq-eqb _ _ (h .cells))
 
 -- A desk is answered: its figures, with the limits as given; its path in the first words of the lent one, the others as they were; its crosspoints.
 pub record ReadAs (d : Desk) (r : Sheet) (before after left : List ℕ) : Type 0 where
@@ -52,24 +53,26 @@ pub record ReadAs (d : Desk) (r : Sheet) (before after left : List ℕ) : Type 0
   pub cells : left ≡ d .cells
 
 abbrev figuresOr : Figures → Given → Figures
+figuresOr f setup = f
 figuresOr f none = f
 figuresOr f (calls.desk g n) = g
 
 abbrev lengthOr : Given → ℕ
+lengthOr setup = 0
 lengthOr none = 0
 lengthOr (calls.desk g n) = n
 
-read-as : (d : Desk) (path : List ℕ) (cells : Cells) (r : Sheet) (store′ : List ℕ) (table′ : Rows) (path′ : List ℕ) (cells′ : Cells)
-    → leaves (reading.read d) path cells ≡ told r store′ table′ path′ cells′ → ReadAs d r path path′ cells′
-read-as d path cells Setup store′ table′ path′ cells′ e =
-    let x : scratch ≡ kept store′ table′ = ap (λ (o : Outcome). o .lent) e in
+read-as : (d : Desk) (store path : List ℕ) (cells : Cells) (r : Sheet) (store′ path′ : List ℕ) (cells′ : Cells)
+    → leaves (reading.read d) store path cells ≡ told r store′ path′ cells′ → ReadAs d r path path′ cells′
+read-as d store path cells Setup store′ path′ cells′ e =
+    let x : calls.desk (d .figures) (length (d .path)) ≡ setup = ap (λ (o : Outcome). o .given) e in
     let z : _≡_ {A = ℕ} 0 1 = cc in
     absurd (omega arith)
-read-as d path cells (Refused n) store′ table′ path′ cells′ e =
+read-as d store path cells (Refused n) store′ path′ cells′ e =
     let x : calls.desk (d .figures) (length (d .path)) ≡ none = ap (λ (o : Outcome). o .given) e in
     let z : _≡_ {A = ℕ} 0 1 = cc in
     absurd (omega arith)
-read-as d path cells (Read f n) store′ table′ path′ cells′ e =
+read-as d store path cells (Read f n) store′ path′ cells′ e =
     let g : d .figures ≡ f = ap (λ (o : Outcome). figuresOr f (o .given)) e in
     let k : length (d .path) ≡ n = ap (λ (o : Outcome). lengthOr (o .given)) e in
     let p : d .path ++ drop (length (d .path)) path ≡ path′ = ap (λ (o : Outcome). o .path) e in
@@ -80,15 +83,15 @@ read-as d path cells (Read f n) store′ table′ path′ cells′ e =
       cells = sym (ap (λ (o : Outcome). o .cells) e);
     }
 
-module _ (text store : List ℕ) (table : Rows) (path : List ℕ) (cells : Cells) (lent : Ready store table path cells) (r : Sheet)
-    (store′ : List ℕ) (table′ : Rows) (path′ : List ℕ) (cells′ : Cells)
-    (call : sheetRead side text store table path cells ≡ told r store′ table′ path′ cells′) where
+module _ (text store path : List ℕ) (cells : Cells) (lent : Ready store path cells) (r : Sheet)
+    (store′ path′ : List ℕ) (cells′ : Cells)
+    (call : sheetRead side text store path cells ≡ told r store′ path′ cells′) where
   -- 1. The sheet of a legal desk is read back as that desk.
   pub read-back : (d : Desk) → deskLegal side (d .figures) (d .path) (d .cells) ≡ true → text ≡ sheetOf side d → ReadAs d r path path′ cells′
   read-back d ok e =
-      read-as d path cells r store′ table′ path′ cells′
-      (sym (ready-reads text store table path cells lent
-      ∙ ap (λ (x : reading.Sheet). leaves x path cells) (ap (readSheet side) e ∙ sheet-read d ok))
+      read-as d (storeAfter (linesIn text) store) path cells r store′ path′ cells′
+      (sym (ready-reads text store path cells lent
+      ∙ ap (λ (x : reading.Sheet). leaves x (storeAfter (linesIn text) store) path cells) (ap (readSheet side) e ∙ sheet-read d ok))
       ∙ call)
 
 -- 2. A desk that was read is legal.
@@ -134,14 +137,14 @@ unfolding readSheet
 read-legal text = held-legal (heldIn (linesIn text))
 
 -- what an answer that names a desk tells
-by-sheet : (x : reading.Sheet) → Legal x → (path : List ℕ) (cells : Cells) (f : Figures) (n : ℕ) (store′ : List ℕ) (table′ : Rows) (path′ : List ℕ) (cells′ : Cells)
-    → leaves x path cells ≡ told (Read f n) store′ table′ path′ cells′ → deskLegal side f (take n path′) cells′ ≡ true
-by-sheet (refused k) l path cells f n store′ table′ path′ cells′ e =
+by-sheet : (x : reading.Sheet) → Legal x → (store path : List ℕ) (cells : Cells) (f : Figures) (n : ℕ) (store′ path′ : List ℕ) (cells′ : Cells)
+    → leaves x store path cells ≡ told (Read f n) store′ path′ cells′ → deskLegal side f (take n path′) cells′ ≡ true
+by-sheet (refused k) l store path cells f n store′ path′ cells′ e =
     let x : none ≡ calls.desk f n = ap (λ (o : Outcome). o .given) e in
     let z : _≡_ {A = ℕ} 0 1 = cc in
     absurd (omega arith)
-by-sheet (reading.read d) l path cells f n store′ table′ path′ cells′ e =
-    let r = read-as d path cells (Read f n) store′ table′ path′ cells′ e in
+by-sheet (reading.read d) l store path cells f n store′ path′ cells′ e =
+    let r = read-as d store path cells (Read f n) store′ path′ cells′ e in
     let g : d .figures ≡ f = ap (λ (o : Outcome). figuresOr f (o .given)) e in
     let k : length (d .path) ≡ n = ap (λ (o : Outcome). lengthOr (o .given)) e in
     let p : take n path′ ≡ d .path = ap (λ (i : ℕ). take i path′) (sym k) ∙ r .path in
@@ -150,34 +153,65 @@ by-sheet (reading.read d) l path cells f n store′ table′ path′ cells′ e 
     ∙ ap (deskLegal side (d .figures) (d .path)) (r .cells)
     ∙ l
 
-module _ (text store : List ℕ) (table : Rows) (path : List ℕ) (cells : Cells) where
-  by-ready : (P : Outcome → Type 0) → P (leaves (readSheet side text) path cells) → P (outcome 1 none (kept store table) path cells)
-      → P (sheetRead side text store table path cells)
+module _ (text store path : List ℕ) (cells : Cells) where
+  by-ready : (P : Outcome → Type 0) → P (leaves (readSheet side text) (storeAfter (linesIn text) store) path cells)
+      → P (outcome 1 setup store path cells)
+      → P (sheetRead side text store path cells)
   unfolding sheetRead
-  by-ready P a b = pick-by P (isReady side store table path cells) (λ h. a) (λ h. b)
+  by-ready P a b = pick-by P (isReady side store path cells) (λ h. a) (λ h. b)
 
-  pub desk-read-legal : (f : Figures) (n : ℕ) (store′ : List ℕ) (table′ : Rows) (path′ : List ℕ) (cells′ : Cells)
-      → sheetRead side text store table path cells ≡ told (Read f n) store′ table′ path′ cells′ → deskLegal side f (take n path′) cells′ ≡ true
-  desk-read-legal f n store′ table′ path′ cells′ =
-      by-ready (λ (o : Outcome). o ≡ told (Read f n) store′ table′ path′ cells′ → deskLegal side f (take n path′) cells′ ≡ true)
-      (by-sheet (readSheet side text) (read-legal text) path cells f n store′ table′ path′ cells′)
+  pub desk-read-legal : (f : Figures) (n : ℕ) (store′ path′ : List ℕ) (cells′ : Cells)
+      → sheetRead side text store path cells ≡ told (Read f n) store′ path′ cells′ → deskLegal side f (take n path′) cells′ ≡ true
+  desk-read-legal f n store′ path′ cells′ =
+      by-ready (λ (o : Outcome). o ≡ told (Read f n) store′ path′ cells′ → deskLegal side f (take n path′) cells′ ≡ true)
+      (by-sheet (readSheet side text) (read-legal text) (storeAfter (linesIn text) store) path cells f n store′ path′ cells′)
       (λ e.
-      let x : none ≡ calls.desk f n = ap (λ (o : Outcome). o .given) e in
+      let x : setup ≡ calls.desk f n = ap (λ (o : Outcome). o .given) e in
       let z : _≡_ {A = ℕ} 0 1 = cc in
       absurd (omega arith))
 
-  -- 3. A refusal leaves path and crosspoints as they were.
-  as-was : (x : reading.Sheet) (n : ℕ) (store′ : List ℕ) (table′ : Rows) (path′ : List ℕ) (cells′ : Cells)
-      → leaves x path cells ≡ told (Refused n) store′ table′ path′ cells′ → (path′ ≡ path) × (cells′ ≡ cells)
-  as-was (refused k) n store′ table′ path′ cells′ e = (sym (ap (λ (o : Outcome). o .path) e), sym (ap (λ (o : Outcome). o .cells) e))
-  as-was (reading.read d) n store′ table′ path′ cells′ e =
+  -- 3. A refusal leaves path and crosspoints as they were, and the store as the lines' bytes leave it.
+  as-was : (x : reading.Sheet) (s : List ℕ) (n : ℕ) (store′ path′ : List ℕ) (cells′ : Cells)
+      → leaves x s path cells ≡ told (Refused n) store′ path′ cells′ → (store′ ≡ s) × ((path′ ≡ path) × (cells′ ≡ cells))
+  as-was (refused k) s n store′ path′ cells′ e =
+      (sym (ap (λ (o : Outcome). o .store) e), (sym (ap (λ (o : Outcome). o .path) e), sym (ap (λ (o : Outcome). o .cells) e)))
+  as-was (reading.read d) s n store′ path′ cells′ e =
       let x : calls.desk (d .figures) (length (d .path)) ≡ none = ap (λ (o : Outcome). o .given) e in
       let z : _≡_ {A = ℕ} 0 1 = cc in
       absurd (omega arith)
 
-  pub refused-as-was : (n : ℕ) (store′ : List ℕ) (table′ : Rows) (path′ : List ℕ) (cells′ : Cells)
-      → sheetRead side text store table path cells ≡ told (Refused n) store′ table′ path′ cells′ → (path′ ≡ path) × (cells′ ≡ cells)
-  refused-as-was n store′ table′ path′ cells′ =
-      by-ready (λ (o : Outcome). o ≡ told (Refused n) store′ table′ path′ cells′ → (path′ ≡ path) × (cells′ ≡ cells))
-      (as-was (readSheet side text) n store′ table′ path′ cells′)
-      (λ e. (sym (ap (λ (o : Outcome). o .path) e), sym (ap (λ (o : Outcome). o .cells) e)))
+  pub refused-as-was : (n : ℕ) (store′ path′ : List ℕ) (cells′ : Cells) → sheetRead side text store path cells ≡ told (Refused n) store′ path′ cells′
+      → (store′ ≡ storeAfter (linesIn text) store) × ((path′ ≡ path) × (cells′ ≡ cells))
+  refused-as-was n store′ path′ cells′ =
+      by-ready
+      (λ (o : Outcome). o ≡ told (Refused n) store′ path′ cells′ → (store′ ≡ storeAfter (linesIn text) store) × ((path′ ≡ path) × (cells′ ≡ cells)))
+      (as-was (readSheet side text) (storeAfter (linesIn text) store) n store′ path′ cells′)
+      (λ e.
+      let x : setup ≡ none = ap (λ (o : Outcome). o .given) e in
+      let z : _≡_ {A = ℕ} 0 1 = cc in
+      absurd (omega arith))
+
+  -- 4. SETUP leaves everything as it was.
+  not-read : (x : reading.Sheet) (s store′ path′ : List ℕ) (cells′ : Cells) → leaves x s path cells ≡ told Setup store′ path′ cells′ → ⊥
+  not-read (refused k) s store′ path′ cells′ e =
+      let x : none ≡ setup = ap (λ (o : Outcome). o .given) e in
+      let z : _≡_ {A = ℕ} 0 1 = cc in
+      omega arith
+  not-read (reading.read d) s store′ path′ cells′ e =
+      let x : calls.desk (d .figures) (length (d .path)) ≡ setup = ap (λ (o : Outcome). o .given) e in
+      let z : _≡_ {A = ℕ} 0 1 = cc in
+      omega arith
+
+  pub setup-as-was : (store′ path′ : List ℕ) (cells′ : Cells) → sheetRead side text store path cells ≡ told Setup store′ path′ cells′
+      → (store′ ≡ store) × ((path′ ≡ path) × (cells′ ≡ cells))
+  setup-as-was store′ path′ cells′ =
+      by-ready (λ (o : Outcome). o ≡ told Setup store′ path′ cells′ → (store′ ≡ store) × ((path′ ≡ path) × (cells′ ≡ cells)))
+      (λ e. absurd (not-read (readSheet side text) (storeAfter (linesIn text) store) store′ path′ cells′ e))
+      (λ e. (sym (ap (λ (o : Outcome). o .store) e), (sym (ap (λ (o : Outcome). o .path) e), sym (ap (λ (o : Outcome). o .cells) e))))
+
+  -- 5. "12 for any bad line", and everything as it was: the text is judged before a byte of it is fed.
+  pub bad-as-was : Ready store path cells → isBad (linesIn text) ≡ true → sheetRead side text store path cells ≡ told (Refused 12) store path cells
+  unfolding readSheet
+  bad-as-was lent h =
+      ready-reads text store path cells lent
+      ∙ ap (λ (x : Stream). leaves (ofHeld side (heldIn x)) (storeAfter x store) path cells) (lines-bad (linesIn text) h)

@@ -1,64 +1,68 @@
 -- The call that reads a route sheet (document 01, "Desk"): what it answers, and what it leaves of what is lent. `readSheet` (crates/sheets/specs/Reading.antt)
 -- is what reading a byte string gives.
 use Prim.Native.Nat.{ℕ, _*_}
-use mathlib.Core.List.{List, _++_}
+use mathlib.Core.List.{List, [], _∷_, _++_}
 use mathlib.Core.Bool.{Bool}
 use lib.ListN.{length, drop}
 use lib.Dec.{eqb}
 use Rattle.integers.specs.Digits.{pick}
-use Rattle.entries.specs.Entry.{Rows}
 use Rattle.framing.specs.Numbers.{storeLength}
 use Rattle.crosspoints.specs.declared.Figures.{Figures}
 use Rattle.crosspoints.specs.Figures.{both}
 use Rattle.crosspoints.specs.Crosspoints.{Cells}
+use Rattle.sheets.specs.Lines.{linesIn}
 use Rattle.sheets.specs.Reading as reading
 use Rattle.sheets.specs.Reading.{readSheet}
+use Rattle.sheet_stream.specs.Finding.{storeAfter}
 use Rattle.sheet_reader.specs.declared.Sheet.{Sheet}
 use Rattle.sheet_reader.specs.declared.Sheet.the-variants.{Setup, Refused, Read}
 
--- "with no desk"; or a desk's figures, and how many numbers its path has
+-- nothing was read; "with no desk"; or a desk's figures, and how many numbers its path has
 pub data Given : Type 0 where
+  setup : Given
   none : Given
   desk : Figures → ℕ → Given
 
--- What the store and the table hold after the call: as they were, or anything.
-pub data Lent : Type 0 where
-  scratch : Lent
-  kept : List ℕ → Rows → Lent
-
--- Document 01's number; the desk; store and table; the lent path and crosspoints after the call.
+-- Document 01's number; the desk; the lent store, path and crosspoints after the call.
 pub record Outcome : Type 0 where
   pub number : ℕ
   pub given : Given
-  pub lent : Lent
+  pub store : List ℕ
   pub path : List ℕ
   pub cells : Cells
 
-abbrev pub outcome : ℕ → Given → Lent → List ℕ → Cells → Outcome
-outcome number given lent path cells = record { number = number; given = given; lent = lent; path = path; cells = cells }
+abbrev pub outcome : ℕ → Given → List ℕ → List ℕ → Cells → Outcome
+outcome number given store path cells = record { number = number; given = given; store = store; path = path; cells = cells }
 
 -- "The first refusal .. ends it, with no desk": path and crosspoints as they were. A desk: its path over the first words of the lent path, the others as they
--- were, and its crosspoints.
-abbrev pub leaves : reading.Sheet → List ℕ → Cells → Outcome
-leaves (reading.refused n) path cells = outcome n none scratch path cells
-leaves (reading.read d) path cells =
-    outcome 0 (desk (d .figures) (length (d .path))) scratch (d .path ++ drop (length (d .path)) path) (d .cells)
+-- were, and its crosspoints. The store is what the lines' bytes leave there.
+abbrev pub leaves : reading.Sheet → List ℕ → List ℕ → Cells → Outcome
+leaves (reading.refused n) store path cells = outcome n none store path cells
+leaves (reading.read d) store path cells =
+    outcome 0 (desk (d .figures) (length (d .path))) store (d .path ++ drop (length (d .path)) path) (d .cells)
 
--- "1 SETUP, first of all: store not 17,408 bytes"; the largest table, a word for each number of a path, a cell for each target and source
-unfoldable pub isReady : ℕ → List ℕ → Rows → List ℕ → Cells → Bool
-isReady w store table path cells =
-    both (eqb (length store) storeLength)
-    (both (eqb (length table) 256)
-    (both (eqb (length path) 16)
-    (eqb (length cells) (w * w))))
+-- "1 SETUP, first of all: store not 17,408 bytes"; a word for each number of a path, a cell for each target and source
+unfoldable pub isReady : ℕ → List ℕ → List ℕ → Cells → Bool
+isReady w store path cells = both (eqb (length store) storeLength) (both (eqb (length path) 16) (eqb (length cells) (w * w)))
 
 -- the call; "1 leaves everything as it was"
-unfoldable pub sheetRead : ℕ → List ℕ → List ℕ → Rows → List ℕ → Cells → Outcome
-sheetRead w text store table path cells =
-    pick (isReady w store table path cells) (leaves (readSheet w text) path cells) (outcome 1 none (kept store table) path cells)
+unfoldable pub sheetRead : ℕ → List ℕ → List ℕ → List ℕ → Cells → Outcome
+sheetRead w text store path cells =
+    pick (isReady w store path cells) (leaves (readSheet w text) (storeAfter (linesIn text) store) path cells) (outcome 1 setup store path cells)
 
 -- what each case of the answer says, beside what the call leaves
-abbrev pub told : Sheet → List ℕ → Rows → List ℕ → Cells → Outcome
-told Setup store table path cells = outcome 1 none (kept store table) path cells
-told (Refused n) store table path cells = outcome n none scratch path cells
-told (Read f n) store table path cells = outcome 0 (desk f n) scratch path cells
+abbrev pub told : Sheet → List ℕ → List ℕ → Cells → Outcome
+told Setup store path cells = outcome 1 setup store path cells
+told (Refused n) store path cells = outcome n none store path cells
+told (Read f n) store path cells = outcome 0 (desk f n) store path cells
+
+-- The rows of "Numbers answered" that refuse a sheet: the events from 10 up, 12 for a bad line among them; the tree's, 38 ROOM, and 33 once more; the desk's.
+abbrev pub refusedNumbers : List ℕ
+refusedNumbers =
+    10 ∷ 11 ∷ 12 ∷ 13 ∷ 14 ∷ 15 ∷ 16 ∷ 20 ∷ 21 ∷ 22 ∷ 23 ∷ 24
+    ∷ 30 ∷ 31 ∷ 32 ∷ 33 ∷ 34 ∷ 35 ∷ 36 ∷ 37 ∷ 38
+    ∷ 40 ∷ 41 ∷ 42 ∷ 43 ∷ 44 ∷ 45 ∷ []
+
+-- .. and that the call may answer: 0 done, 1 SETUP
+abbrev pub sheetNumbers : List ℕ
+sheetNumbers = 0 ∷ 1 ∷ refusedNumbers

@@ -37,6 +37,6 @@ pub record Taken (xs : List ℕ) (r : ℕ) (list : List ℕ) : Type 0 where
 unfoldable pub sheetBy : ℕ → Figures → List ℕ → Cells → reading.Sheet
 sheetBy n f path cells = pick (eqb n 0) (read (desk f path cells)) (refused n)
 
--- what reading gives is told, whatever store and table hold
+-- what reading gives is told, whatever the store holds
 abbrev pub Tells : reading.Sheet → List ℕ → Cells → Sheet → List ℕ → Cells → Type 0
-Tells x path cells r path′ cells′ = (store : List ℕ) (table : Rows) → leaves x path cells ≡ told r store table path′ cells′
+Tells x path cells r path′ cells′ = (store : List ℕ) → leaves x store path cells ≡ told r store path′ cells′

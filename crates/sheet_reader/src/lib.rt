@@ -1,7 +1,6 @@
 // The route sheet reader: from a sheet's text to a desk, or the first refusal.
 use crosspoints::Figures;
 use crosspoints::Limit;
-use desk_calls::Called;
 use entries::Cell;
 use glow::Answer;
 use sheet_stream::Found;
@@ -14,7 +13,7 @@ ghost use Rattle.forest.specs.Content.{contentOf, isWord};
 ghost use Rattle.forest.specs.Rows.{itemsIn};
 ghost use Rattle.tree_sizes.specs.Accepted.{accepted};
 ghost use Rattle.crosspoints.specs.Figures.{side};
-ghost use Rattle.desk_calls.specs.Connections.{octetsOf, numbersIn};
+ghost use Rattle.connections.specs.Connections.{octetsOf, numbersIn};
 ghost use Rattle.sheets.specs.Reading.{firstRefused, limitIn, figuresIn, opens, ofEntries, ofMessage};
 ghost use Rattle.sheet_reader.specs.Calls.{sheetRead, told};
 ghost use Rattle.sheet_reader.specs.Steps.{firstOf, isSheet, Taken, sheetBy, Tells};
@@ -67,9 +66,9 @@ fn limit_of(v: Cell) -> Limit
 fn figures_of(rows: &[[u64; 50]]) -> Figures
     ensures { λ r. ⌜ ((s : List ℕ) → figuresIn (firstOf s (now (rows .entry))) ≡ r) ⌝ }
 {
-    let kind = desk_calls::number_of(tree_sizes::cell_at(rows, 0, 3));
-    let targets = desk_calls::number_of(tree_sizes::cell_at(rows, 0, 5));
-    let sources = desk_calls::number_of(tree_sizes::cell_at(rows, 0, 6));
+    let kind = connections::number_of(tree_sizes::cell_at(rows, 0, 3));
+    let targets = connections::number_of(tree_sizes::cell_at(rows, 0, 5));
+    let sources = connections::number_of(tree_sizes::cell_at(rows, 0, 6));
     let total = limit_of(tree_sizes::cell_at(rows, 0, 7));
     let each = limit_of(tree_sizes::cell_at(rows, 0, 8));
     Figures {
@@ -107,11 +106,11 @@ fn numbers_of(octets: &[u8], list: &mut [u64]) -> usize
     requires { ⌜ length (now list) ≡ 16 ⌝ }
     ensures { λ r. ⌜ Taken (numbersIn (now (octets .entry))) r (now (list .exit)) ⌝ }
 {
-    let end = desk_calls::list_end(octets);
+    let end = connections::list_end(octets);
     let mut p: usize = 0;
     let mut k: usize = 0;
     while p < end {
-        let x = desk_calls::next_number(octets, p, end);
+        let x = connections::next_number(octets, p, end);
         if 16 <= k {
             return 17;
         }
@@ -142,14 +141,20 @@ fn path_of(s: &[u8], v: Cell, list: &mut [u64]) -> usize
     numbers_of(&s[start..end], list)
 }
 
+fn word(b: u8) -> u64
+    ensures { λ r. ⌜ r ≡ b ⌝ }
+{
+    b as u64
+}
+
 // The first answer that is a refusal, 0 where there is none.
-fn first_refused(answers: &[u64]) -> u64
+fn first_refused(answers: &[u8]) -> u64
     ensures { λ r. ⌜ firstRefused (now (answers .entry)) ≡ r ⌝ }
 {
     let mut j: usize = 0;
     while j < answers.len() {
         if answers[j] != 0 {
-            return answers[j];
+            return word(answers[j]);
         }
         j += 1;
     }
@@ -167,7 +172,7 @@ fn apply(
     s: &[u8],
     cells: &mut [u8],
 ) -> u64
-    requires { ⌜ (length (now cells) ≡ 4096) × ((count ≤ 256) × (count ≤ length (now rows))) ⌝ }
+    requires { ⌜ (length (now cells) ≡ 4096) × ((length (now rows) ≤ 256) × ((length (now s) ≤ 16384) × (count ≤ length (now rows)))) ⌝ }
     requires { ⌜ accepted root (itemsIn (now s) (now rows) count) ≡ true ⌝ }
     ensures { λ r. ⌜ opens side f (now (path .entry)) mode (itemsIn (now (s .entry)) (now (rows .entry)) count)
         ≡ sheetBy r f (now (path .entry)) (now (cells .exit)) ⌝ }
@@ -176,11 +181,9 @@ fn apply(
     if opened != 0 {
         return opened;
     }
-    let mut answers = [0u64; 256];
-    let called = desk_calls::call(f, path, rows, count, root, s, cells, &mut answers);
-    let Called::Done(n) = called else {
-        return 1;
-    };
+    let called = desk_calls::call(f, path, rows, count, root, s, cells);
+    let n = called.count;
+    let answers = called.answers;
     first_refused(&answers[..n])
 }
 
@@ -241,7 +244,8 @@ fn of_entries(
     path: &mut [u64],
     crosspoints: &mut [u8],
 ) -> Sheet
-    requires { ⌜ (length (now path) ≡ 16) × ((length (now crosspoints) ≡ 4096) × ((count ≤ 256) × (count ≤ length (now rows)))) ⌝ }
+    requires { ⌜ (length (now path) ≡ 16) × ((length (now crosspoints) ≡ 4096)
+        × ((length (now rows) ≤ 256) × ((length (now s) ≤ 16384) × (count ≤ length (now rows))))) ⌝ }
     requires { ⌜ accepted root (itemsIn (now s) (now rows) count) ≡ true ⌝ }
     ensures { λ r. ⌜ Tells (ofEntries side (itemsIn (now (s .entry)) (now (rows .entry)) count)) (now (path .entry)) (now (crosspoints .entry))
         r (now (path .exit)) (now (crosspoints .exit)) ⌝ }
@@ -255,14 +259,14 @@ fn of_entries(
         return Sheet::Refused { number: 45 };
     }
     let f = figures_of(rows);
-    let mode = desk_calls::number_of(tree_sizes::cell_at(rows, 0, 4));
+    let mode = connections::number_of(tree_sizes::cell_at(rows, 0, 4));
     let mut cells = [0u8; 4096];
     let number = apply(f, mode, &numbers[..n], rows, count, root, s, &mut cells);
     hand_over(number, f, &numbers[..n], &cells, path, crosspoints)
 }
 
-// A message: the tree's refusals, with the largest table, and then its entries.
-fn of_message(m: &[u8], table: &mut [[u64; 50]], path: &mut [u64], crosspoints: &mut [u8]) -> Sheet
+// A message, read into the largest table: the tree's refusals, and then its entries.
+fn of_rows(m: &[u8], table: &mut [[u64; 50]], path: &mut [u64], crosspoints: &mut [u8]) -> Sheet
     requires { ⌜ length (now m) ≤ 16384 ⌝ }
     requires { ⌜ (length (now table) ≡ 256) × ((length (now path) ≡ 16) × (length (now crosspoints) ≡ 4096)) ⌝ }
     ensures { λ r. ⌜ Tells (ofMessage side (now (m .entry))) (now (path .entry)) (now (crosspoints .entry)) r (now (path .exit)) (now (crosspoints .exit)) ⌝ }
@@ -275,22 +279,24 @@ fn of_message(m: &[u8], table: &mut [[u64; 50]], path: &mut [u64], crosspoints: 
     }
 }
 
-// Reads a route sheet: a desk, with its path in the first `length` words of `path` and its crosspoints in `crosspoints`; or the first refusal, with both as
-// they were. `Setup`, with everything as it was, for a store of other than 17,408 bytes, a table of other than 256 rows, a path of other than 16 words or
-// crosspoints of other than 4,096 cells. After any other answer what store and table hold is free.
-pub fn read(
-    text: &[u8],
-    store: &mut [u8],
-    table: &mut [[u64; 50]],
-    path: &mut [u64],
-    crosspoints: &mut [u8],
-) -> Sheet
-    ensures { λ r. ⌜ sheetRead side (now (text .entry)) (now (store .entry)) (now (table .entry)) (now (path .entry)) (now (crosspoints .entry))
-        ≡ told r (now (store .exit)) (now (table .exit)) (now (path .exit)) (now (crosspoints .exit)) ⌝ }
+// A message, with a table of its own: no sheet overwrites a lent one.
+fn of_message(m: &[u8], path: &mut [u64], crosspoints: &mut [u8]) -> Sheet
+    requires { ⌜ length (now m) ≤ 16384 ⌝ }
+    requires { ⌜ (length (now path) ≡ 16) × (length (now crosspoints) ≡ 4096) ⌝ }
+    ensures { λ r. ⌜ Tells (ofMessage side (now (m .entry))) (now (path .entry)) (now (crosspoints .entry)) r (now (path .exit)) (now (crosspoints .exit)) ⌝ }
 {
-    if table.len() != 256 {
-        return Sheet::Setup;
-    }
+    let mut rows = [[0u64; 50]; 256];
+    of_rows(m, &mut rows, path, crosspoints)
+}
+
+// Reads a route sheet: a desk, with its path in the first `length` words of `path` and its crosspoints in `crosspoints`; or the first refusal, with both as
+// they were. `Setup`, with everything as it was, for a store of other than 17,408 bytes, a path of other than 16 words or crosspoints of other than 4,096
+// cells. After 12 for a bad line the store is as it was; after any other answer it is as a session leaves it that is fed the sheet's bytes, up to and including
+// that of the first event from 10 up, or all of them.
+pub fn read(text: &[u8], store: &mut [u8], path: &mut [u64], crosspoints: &mut [u8]) -> Sheet
+    ensures { λ r. ⌜ sheetRead side (now (text .entry)) (now (store .entry)) (now (path .entry)) (now (crosspoints .entry))
+        ≡ told r (now (store .exit)) (now (path .exit)) (now (crosspoints .exit)) ⌝ }
+{
     if path.len() != 16 {
         return Sheet::Setup;
     }
@@ -302,7 +308,7 @@ pub fn read(
         Found::Refused { number } => Sheet::Refused { number },
         Found::Message { length } => {
             let n = turns::front(store, length);
-            of_message(&store[..n], table, path, crosspoints)
+            of_message(&store[..n], path, crosspoints)
         }
     }
 }

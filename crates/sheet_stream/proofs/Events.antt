@@ -15,13 +15,13 @@ use Rattle.sheet_stream.specs.Steps.{another, collects}
 -- ---- an event before others
 
 module _ (e : Said) (n : ℕ) (hs : List Happening) where
-  fault-here : leb 10 (e .number) ≡ true → firstFault (noted e n hs) ≡ e .number
+  pub fault-here : leb 10 (e .number) ≡ true → firstFault (noted e n hs) ≡ e .number
   unfolding firstFault
   fault-here h =
       let k = leb-true 10 (e .number) h in
       rw (ne-eqb (e .number) 0 (λ q. omega (arith, k, q)), h) refl
 
-  fault-later : leb 10 (e .number) ≡ false → firstFault (noted e n hs) ≡ firstFault hs
+  pub fault-later : leb 10 (e .number) ≡ false → firstFault (noted e n hs) ≡ firstFault hs
   unfolding firstFault
   fault-later h = pick-by (λ (xs : List Happening). firstFault xs ≡ firstFault hs) (eqb (e .number) 0) (λ q. refl) (λ q. rw h refl)
 

@@ -4,3 +4,5 @@ pub mod Ways
 pub mod Steps
 pub mod Messages
 pub mod Answers
+pub mod Stores
+pub mod Numbers

@@ -10,7 +10,7 @@ use types.Run.{OneOf}
 use denote.Enum.Declared.{tagOf}
 use lib.ListN.{length, take, length-take}
 use lib.Seq.{sets}
-use lib.Dec.{eqb}
+use lib.Dec.{leb, eqb}
 use Rattle.framing.proofs.Event as event
 use Rattle.framing.specs.declared.Event.{Event}
 use Rattle.framing.specs.declared.Event.the-variants as ev
@@ -21,16 +21,17 @@ use Rattle.framing.specs.declared.Pending.{Pending}
 use Rattle.framing.specs.declared.Pending.the-variants.{Nothing, Part}
 use Rattle.framing.specs.declared.Session.{Session}
 use Rattle.framing.specs.Numbers.{storeLength, messageLimit, contentStart, pick}
-use Rattle.framing.specs.Rules.{Message, none, part, isOpen, Step, begin, step, happens, after}
+use Rattle.framing.specs.Rules.{Message, none, part, isOpen, State, Step, begin, step, happens, after}
 use Rattle.framing.specs.Session.{saidBy, placeOf, messageOf, stateOf, sessionOf, legal, Legal, content, held, kept, Whole, whole, answers, run, feeds}
 use Rattle.framing.proofs.Lists.{take-sets-le}
 use Rattle.framing.proofs.Laws.{legal-true, true-legal, Bounded, bounded-state, Within, within-step, kept-state, legal-next, number-high}
 use Rattle.sheets.specs.Lines.{Stream, linesIn}
-use Rattle.sheets.specs.Reading.{refusal, message, inFrame, somethingOpen, ofEvents, heldIn}
+use Rattle.sheets.specs.Reading.{Held, refusal, message, inFrame, somethingOpen, ofEvents, heldIn}
 use Rattle.sheets.specs.Lines.{isBad}
 use Rattle.sheet_stream.specs.declared.Tally.{Tally}
-use Rattle.sheet_stream.specs.Finding.{setup, holds, finds}
-use Rattle.sheet_stream.specs.Steps.{frameOpen, partOpen, openIn, bytesFrom, another, collects, left, Sound, Taken}
+use Rattle.sheet_stream.specs.declared.Found.{Found}
+use Rattle.sheet_stream.specs.Finding.{setup, holds, storeFrom, storeAfter, finds, foundBy}
+use Rattle.sheet_stream.specs.Steps.{frameOpen, partOpen, openIn, bytesFrom, another, collects, left, stored, Sound, Taken}
 use Rattle.framing.proofs.Chunks.{fresh-legal}
 use Rattle.sheet_stream.proofs.Lines.{lines-bytes, lines-bad}
 use Rattle.sheet_stream.proofs.Events.{collects-all}
@@ -115,13 +116,28 @@ module _ (r : Tally) (t : List ℕ) (b : ℕ) (l : Sound r t) (z : r .refused �
   unfolding left
   left-is bs = rw (eq-eqb _ _ z) refl
 
+  stored-is : (bs : List ℕ) → stored r t (b ∷ bs) ≡ pick (leb 10 n) (kept o t) (storeFrom (o .next) (kept o t) bs)
+  unfolding stored storeFrom
+  stored-is bs = rw (eq-eqb _ _ z) refl
+
+  -- the bytes after one that is no event from 10 up go on
+  stored-on : n < 10 → (x : Tally) → x .session ≡ f .session → x .refused ≡ 0 → (bs : List ℕ) → stored r t (b ∷ bs) ≡ stored x t′ bs
+  unfolding stored
+  stored-on h x q k bs =
+      stored-is bs ∙ rw (lt-leb 10 n h) refl
+      ∙ ap (λ (s : List ℕ). storeFrom (o .next) s bs) (sym (told .1 .1 .1))
+      ∙ ap (λ (s : State). storeFrom s t′ bs) (sym state-is)
+      ∙ ap (λ (s : Session). storeFrom (stateOf s t′) t′ bs) (sym q)
+      ∙ rw (eq-eqb _ _ k) refl
+
   pub taken-high : (x : ℕ) → x ≡ saidBy (f .event) [] .number → 10 ≤ x
       → Taken r t b (record { session = f .session; messages = r .messages; length = r .length; refused = x }) t′
-  unfolding left collects
+  unfolding left collects stored
   taken-high x q h =
       let i : x ≡ n = q ∙ number-is in
       record {
         same = λ bs. left-is bs ∙ rw (le-leb 10 n (omega (arith, i, h)), ne-eqb x 0 (λ g. omega (arith, g, h))) (ap refusal (sym i));
+        stores = λ bs. stored-is bs ∙ rw (le-leb 10 n (omega (arith, i, h)), ne-eqb x 0 (λ g. omega (arith, g, h))) (sym (told .1 .1 .1));
         sound = record { legal = lawful-next; short = l .short };
       }
 
@@ -160,6 +176,7 @@ module _ (r : Tally) (t : List ℕ) (b : ℕ) (l : Sound r t) (z : r .refused �
       let k : eqb n 3 ≡ false = ap (λ (x : ℕ). eqb x 3) (sym i) ∙ g in
       record {
         same = λ bs. left-is bs ∙ rw (lt-leb 10 n j, k, state-is) (stays-there j k bs);
+        stores = stored-on j (record { session = f .session; messages = r .messages; length = r .length; refused = 0 }) refl refl;
         sound = record { legal = lawful-next; short = l .short };
       }
 
@@ -174,6 +191,7 @@ module _ (r : Tally) (t : List ℕ) (b : ℕ) (l : Sound r t) (z : r .refused �
       let room = legal-true (f .session) t′ lawful-next .room in
       record {
         same = λ bs. left-is bs ∙ rw (lt-leb 10 n (omega (arith, i)), eq-eqb n 3 (sym i), state-is, j, c) refl;
+        stores = stored-on (omega (arith, i)) (record { session = f .session; messages = x; length = k; refused = 0 }) refl refl;
         sound = record { legal = lawful-next; short = omega (arith, s, a, room) };
       }
 
@@ -183,10 +201,15 @@ pub sound-start : (s : Session) (t : List ℕ) → s ≡ sessionOf begin → len
 sound-start s t e h =
     record { legal = ap (λ (x : Session). legal x (length t)) e ∙ true-legal (sessionOf begin) t (fresh-legal h); short = omega arith }
 
-pub left-start : (s : Session) (t bs : List ℕ) → s ≡ sessionOf begin
+left-start : (s : Session) (t bs : List ℕ) → s ≡ sessionOf begin
     → ofEvents (happens begin 0 bs) (after begin bs) ≡ left (record { session = s; messages = 0; length = 0; refused = 0 }) t bs
 unfolding left
 left-start s t bs e = collects-all bs ∙ ap (λ (x : Session). collects 0 [] (stateOf x t) bs) (sym e)
+
+stored-start : (s : Session) (t bs : List ℕ) → s ≡ sessionOf begin
+    → storeFrom begin t bs ≡ stored (record { session = s; messages = 0; length = 0; refused = 0 }) t bs
+unfolding stored
+stored-start s t bs e = ap (λ (x : Session). storeFrom (stateOf x t) t bs) (sym e)
 
 -- ---- the end
 
@@ -212,8 +235,16 @@ module _ (r : Tally) (t : List ℕ) where
   left-refused bs h = rw (ne-eqb _ _ h) refl
 
   -- what is left makes no difference then
-  pub left-none : (bs : List ℕ) → (r .refused ≡ 0 → ⊥) → left r t bs ≡ left r t []
+  left-none : (bs : List ℕ) → (r .refused ≡ 0 → ⊥) → left r t bs ≡ left r t []
   left-none bs h = left-refused bs h ∙ sym (left-refused [] h)
+
+  stored-refused : (bs : List ℕ) → (r .refused ≡ 0 → ⊥) → stored r t bs ≡ t
+  unfolding stored
+  stored-refused bs h = rw (ne-eqb _ _ h) refl
+
+  stored-end : r .refused ≡ 0 → stored r t [] ≡ t
+  unfolding stored storeFrom
+  stored-end h = rw (eq-eqb _ _ h) refl
 
   module _ (z : r .refused ≡ 0) where
     pub left-open : openIn (r .session) ≡ true → left r t [] ≡ refusal 33
@@ -229,6 +260,30 @@ module _ (r : Tally) (t : List ℕ) where
       unfolding left collects
       left-many k = rw (eq-eqb _ _ z, open-is (r .session) t, h, ne-eqb _ _ k) refl
 
+-- ---- from the beginning to here
+
+-- the bytes left, after those that gave r and left the store t, give what all of them give, and leave what they leave
+pub record Goes (all t₀ : List ℕ) (r : Tally) (t bs : List ℕ) : Type 0 where
+  pub held-is : ofEvents (happens begin 0 all) (after begin all) ≡ left r t bs
+  pub store-is : storeFrom begin t₀ all ≡ stored r t bs
+
+pub goes-start : (s : Session) (t bs : List ℕ) → s ≡ sessionOf begin → Goes bs t (record { session = s; messages = 0; length = 0; refused = 0 }) t bs
+goes-start s t bs e = record { held-is = left-start s t bs e; store-is = stored-start s t bs e }
+
+module _ {all t₀ : List ℕ} {r : Tally} {t : List ℕ} where
+  pub goes-as : {bs bs′ : List ℕ} → Goes all t₀ r t bs → bs ≡ bs′ → Goes all t₀ r t bs′
+  goes-as g e = subst (Goes all t₀ r t) e g
+
+  pub goes-byte : {b : ℕ} {bs : List ℕ} {r′ : Tally} {t′ : List ℕ} → Goes all t₀ r t (b ∷ bs) → Taken r t b r′ t′ → Goes all t₀ r′ t′ bs
+  goes-byte {bs = bs} g k = record { held-is = g .held-is ∙ k .same bs; store-is = g .store-is ∙ k .stores bs }
+
+  pub goes-refused : {bs : List ℕ} → Goes all t₀ r t bs → (r .refused ≡ 0 → ⊥)
+      → (ofEvents (happens begin 0 all) (after begin all) ≡ left r t []) × (storeFrom begin t₀ all ≡ t)
+  goes-refused {bs} g h = (g .held-is ∙ left-none r t bs h, g .store-is ∙ stored-refused r t bs h)
+
+  pub goes-end : Goes all t₀ r t [] → r .refused ≡ 0 → (ofEvents (happens begin 0 all) (after begin all) ≡ left r t []) × (storeFrom begin t₀ all ≡ t)
+  goes-end g h = (g .held-is, g .store-is ∙ stored-end r t h)
+
 -- ---- the whole
 
 module _ (text t : List ℕ) where
@@ -236,11 +291,16 @@ module _ (text t : List ℕ) where
   unfolding finds
   finds-setup h = rw (ne-eqb _ _ h) refl
 
-  pub finds-bad : length t ≡ storeLength → isBad (linesIn text) ≡ true → finds text t ≡ holds (refusal 12)
+  pub finds-bad : length t ≡ storeLength → isBad (linesIn text) ≡ true → finds text t ≡ holds (refusal 12) t
   unfolding finds
-  finds-bad h k = rw (eq-eqb _ _ h) (ap (λ (x : Stream). holds (heldIn x)) (lines-bad (linesIn text) k))
+  finds-bad h k = rw (eq-eqb _ _ h) (ap (λ (x : Stream). holds (heldIn x) (storeAfter x t)) (lines-bad (linesIn text) k))
 
-  pub finds-lines : length t ≡ storeLength → isBad (linesIn text) ≡ false
-      → finds text t ≡ holds (ofEvents (happens begin 0 (bytesFrom 16 text)) (after begin (bytesFrom 16 text)))
+  finds-lines : length t ≡ storeLength → isBad (linesIn text) ≡ false
+      → finds text t ≡ holds (ofEvents (happens begin 0 (bytesFrom 16 text)) (after begin (bytesFrom 16 text))) (storeFrom begin t (bytesFrom 16 text))
   unfolding finds
-  finds-lines h k = rw (eq-eqb _ _ h) (ap (λ (x : Stream). holds (heldIn x)) (lines-bytes text k))
+  finds-lines h k = rw (eq-eqb _ _ h) (ap (λ (x : Stream). holds (heldIn x) (storeAfter x t)) (lines-bytes text k))
+
+  pub finds-end : length t ≡ storeLength → isBad (linesIn text) ≡ false → (r : Tally) (t′ : List ℕ)
+      → ofEvents (happens begin 0 (bytesFrom 16 text)) (after begin (bytesFrom 16 text)) ≡ left r t′ [] → storeFrom begin t (bytesFrom 16 text) ≡ t′
+      → (f : Found) → holds (left r t′ []) t′ ≡ foundBy f t′ → finds text t ≡ foundBy f t′
+  finds-end h k r t′ a b f e = finds-lines h k ∙ ap (λ (x : Held). holds x (storeFrom begin t (bytesFrom 16 text))) a ∙ ap (holds (left r t′ [])) b ∙ e

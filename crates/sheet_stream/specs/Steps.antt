@@ -17,6 +17,7 @@ use Rattle.framing.specs.Session.{stateOf, legal}
 use Rattle.sheets.specs.Lines.{digitOf}
 use Rattle.sheets.specs.Reading.{Held, refusal, message, somethingOpen}
 use Rattle.sheet_stream.specs.declared.Tally.{Tally}
+use Rattle.sheet_stream.specs.Finding.{storeFrom}
 
 -- the bytes that the digits of a text are, h the first digit of a pair or 16; other bytes are passed over. Where no line is bad these are its lines' bytes.
 unfoldable pub bytesFrom : ℕ → List ℕ → List ℕ
@@ -60,6 +61,10 @@ collects k m s (b ∷ bs) =
 unfoldable pub left : Tally → List ℕ → List ℕ → Held
 left r t bs = pick (eqb (r .refused) 0) (collects (r .messages) (take (r .length) t) (stateOf (r .session) t) bs) (refusal (r .refused))
 
+-- what then stands in the store
+unfoldable pub stored : Tally → List ℕ → List ℕ → List ℕ
+stored r t bs = pick (eqb (r .refused) 0) (storeFrom (stateOf (r .session) t) t bs) t
+
 -- what a session and a store must be for the next byte
 pub record Sound (r : Tally) (t : List ℕ) : Type 0 where
   pub legal : legal (r .session) (length t) ≡ true
@@ -68,4 +73,5 @@ pub record Sound (r : Tally) (t : List ℕ) : Type 0 where
 -- one byte taken
 pub record Taken (r : Tally) (t : List ℕ) (b : ℕ) (r′ : Tally) (t′ : List ℕ) : Type 0 where
   pub same : (bs : List ℕ) → left r t (b ∷ bs) ≡ left r′ t′ bs
+  pub stores : (bs : List ℕ) → stored r t (b ∷ bs) ≡ stored r′ t′ bs
   pub sound : Sound r′ t′

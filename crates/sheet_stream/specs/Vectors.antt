@@ -7,7 +7,8 @@ use Rattle.framing.specs.Content.{contentOf, bodyOf, commandOf, packetOf}
 use Rattle.framing.specs.Rules.{step, inPlace, adds, cuts, ends, pieces, faulted, happens, after}
 use Rattle.sheets.specs.Lines.{digitOf, linesFrom, linesIn}
 use Rattle.sheets.specs.Reading.{Held, refusal, message, finished, somethingOpen, firstFault, ofEvents, heldIn}
-use Rattle.sheet_stream.specs.Finding.{setup, finds}
+use Rattle.framing.specs.Session.{kept}
+use Rattle.sheet_stream.specs.Finding.{setup, storeFrom, storeAfter, finds}
 
 abbrev held : List ℕ → Held
 held text = heldIn (linesIn text)
@@ -68,3 +69,16 @@ v-open-message = (refl, refl, refl)
 pub v-setup : finds (48 ∷ []) (5 ∷ 6 ∷ []) ≡ setup (5 ∷ 6 ∷ [])
 unfolding finds
 v-setup = refl
+
+-- the store after them, here of three bytes: a message's byte from 0; a bad line takes nothing; nor is a byte taken after the first event from 10 up
+abbrev left : List ℕ → List ℕ
+left text = storeAfter (linesIn text) (1 ∷ 2 ∷ 3 ∷ [])
+
+pub v-store :
+    (left sixty ≡ 0x60 ∷ 2 ∷ 3 ∷ []) ×
+    (left (alive ++ (sixty ++ (48 ∷ 48 ∷ 10 ∷ []))) ≡ 0x60 ∷ 2 ∷ 3 ∷ []) ×
+    (left alive ≡ 1 ∷ 2 ∷ 3 ∷ []) ×
+    (left (sixty ++ (10 ∷ [])) ≡ 1 ∷ 2 ∷ 3 ∷ []) ×
+    (left (48 ∷ 48 ∷ 10 ∷ sixty) ≡ 1 ∷ 2 ∷ 3 ∷ [])
+unfolding linesFrom digitOf storeFrom kept step inPlace adds cuts ends pieces contentOf bodyOf commandOf packetOf checksum crcFrom crcStep table
+v-store = (refl, refl, refl, refl, refl)

@@ -10,7 +10,7 @@ ghost use lib.ListN.{length};
 ghost use Rattle.framing.specs.Numbers.{storeLength};
 ghost use Rattle.framing.specs.Rules.{begin, happens, after};
 ghost use Rattle.sheets.specs.Reading.{ofEvents};
-ghost use Rattle.sheet_stream.specs.Finding.{finds, foundBy, holds};
+ghost use Rattle.sheet_stream.specs.Finding.{storeFrom, finds, foundBy, holds};
 ghost use Rattle.sheet_stream.specs.Steps.{frameOpen, partOpen, openIn, another as anotherOf, bytesFrom, left, Sound, Taken};
 
 // What the text of a sheet holds. Of a message the bytes are the store's first `length`.
@@ -109,6 +109,7 @@ fn take_byte(tally: Tally, store: &mut [u8], b: u8) -> Tally
 fn take_text(text: &[u8], store: &mut [u8]) -> Tally
     requires { ⌜ length (now store) ≡ storeLength ⌝ }
     ensures { λ r. ⌜ ofEvents (happens begin 0 (bytesFrom 16 (now (text .entry)))) (after begin (bytesFrom 16 (now (text .entry)))) ≡ left r (now (store .exit)) [] ⌝ }
+    ensures { λ _. ⌜ storeFrom begin (now (store .entry)) (bytesFrom 16 (now (text .entry))) ≡ now (store .exit) ⌝ }
 {
     let mut tally = Tally {
         session: framing::start(),
@@ -139,7 +140,7 @@ fn take_text(text: &[u8], store: &mut [u8]) -> Tally
 
 // What all bytes have given.
 fn end(tally: Tally) -> Found
-    ensures { λ r. ⌜ ((t : List ℕ) → holds (left tally t []) ≡ foundBy r t) ⌝ }
+    ensures { λ r. ⌜ ((t : List ℕ) → holds (left tally t []) t ≡ foundBy r t) ⌝ }
 {
     let session = tally.session;
     if tally.refused != 0 {
@@ -158,7 +159,8 @@ fn end(tally: Tally) -> Found
     Found::Refused { number: 33 }
 }
 
-// The one message of a sheet, left in the lent store, or the first refusal. After `Setup` the store is as it was; else what it holds beside the message is free.
+// The one message of a sheet, left in the lent store, or the first refusal. After `Setup` and after 12 for a bad line the store is as it was; else it is as a
+// session leaves it that is fed the sheet's bytes, up to and including that of the first event from 10 up, or all of them.
 pub fn find_message(text: &[u8], store: &mut [u8]) -> Found
     ensures { λ r. ⌜ finds (now (text .entry)) (now (store .entry)) ≡ foundBy r (now (store .exit)) ⌝ }
 {

@@ -143,10 +143,10 @@ impl Desk {
         error::told(number)
     }
 
-    /// Serves the connections among rows, in order: how many answers there are, 0 or 40 to 44 each; or `Setup`, if the rows make no tree
-    /// that the reader accepts or `answers` is shorter than `rows`.
+    /// Serves the connections among rows, in order: how many answers there are, 0 or 40 to 44 each, and zeros after them; or `Setup`, if
+    /// the rows make no tree that the reader accepts or there are more than 256, or the message is over 16,384 bytes.
     /// Never changes anything if it refuses, nor a crosspoint for a connection that is refused.
-    pub fn call(&mut self, rows: &[Row], root: Root, message: &[u8], answers: &mut [u64]) -> Result<usize, Error> {
+    pub fn call(&mut self, rows: &[Row], root: Root, message: &[u8], answers: &mut [u8; 256]) -> Result<usize, Error> {
         let words = self.figures.words();
         let mut answer = [0; 1];
         // SAFETY: each pointer and its count name a slice that is borrowed here, those written to mutably.
@@ -164,8 +164,7 @@ impl Desk {
                 message.len(),
                 self.crosspoints.as_mut_ptr(),
                 self.crosspoints.len(),
-                answers.as_mut_ptr(),
-                answers.len(),
+                answers,
                 answer.as_mut_ptr(),
                 answer.len(),
             )
@@ -174,15 +173,14 @@ impl Desk {
     }
 }
 
-/// What reading a route sheet needs beside it, some 120 KB; put it into a `Box` where the stack is small.
+/// What reading a route sheet needs beside it, some 17 KB; put it into a `Box` where the stack is small.
 pub struct Scratch {
     store: [u8; STORE_BYTES],
-    table: [Row; ROWS_MAX],
 }
 
 impl Default for Scratch {
     fn default() -> Scratch {
-        Scratch { store: [0; STORE_BYTES], table: [Row::default(); ROWS_MAX] }
+        Scratch { store: [0; STORE_BYTES] }
     }
 }
 
@@ -225,8 +223,6 @@ impl Desk {
                 text.len(),
                 scratch.store.as_mut_ptr(),
                 scratch.store.len(),
-                scratch.table.as_mut_ptr(),
-                scratch.table.len(),
                 words.as_mut_ptr(),
                 words.len(),
                 path.as_mut_ptr(),
@@ -260,7 +256,7 @@ pub struct Line<const N: usize> {
     session: Session,
     desk: Desk,
     table: [Row; N],
-    answers: [u64; N],
+    answers: [u8; 256],
 }
 
 /// What a turn told.
@@ -277,7 +273,7 @@ pub struct Turn<'a> {
     /// The message's entries, if it was read.
     pub rows: &'a [Row],
     /// The desk's answer to each of its connections, in order: 0 or 40 to 44.
-    pub answers: &'a [u64],
+    pub answers: &'a [u8],
     /// The desk after the turn.
     pub desk: &'a Desk,
 }
@@ -296,7 +292,7 @@ impl<const N: usize> Line<N> {
     /// Never compiles for more than 256 entries.
     pub fn new(desk: Desk) -> Line<N> {
         const { assert!(N <= ROWS_MAX) };
-        Line { session: Session::new(), desk, table: [Row::default(); N], answers: [0; N] }
+        Line { session: Session::new(), desk, table: [Row::default(); N], answers: [0; 256] }
     }
 
     /// The desk as it is now.
@@ -334,8 +330,7 @@ impl<const N: usize> Line<N> {
                 self.desk.numbers,
                 self.desk.crosspoints.as_mut_ptr(),
                 self.desk.crosspoints.len(),
-                self.answers.as_mut_ptr(),
-                N,
+                &mut self.answers,
                 told.as_mut_ptr(),
                 told.len(),
             )

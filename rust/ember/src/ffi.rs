@@ -79,8 +79,7 @@ extern "C" {
         bytes: usize,
         crosspoints: *mut u8,
         crosspoint_bytes: usize,
-        answers: *mut u64,
-        answers_words: usize,
+        answers: *mut [u8; 256],
         answer: *mut u64,
         answer_words: usize,
     ) -> u64;
@@ -99,8 +98,7 @@ extern "C" {
         path_words: usize,
         crosspoints: *mut u8,
         crosspoint_bytes: usize,
-        answers: *mut u64,
-        answers_words: usize,
+        answers: *mut [u8; 256],
         answer: *mut u64,
         answer_words: usize,
     ) -> u64;
@@ -121,8 +119,6 @@ extern "C" {
         bytes: usize,
         store: *mut u8,
         store_bytes: usize,
-        table: *mut Row,
-        rows: usize,
         figures: *mut u64,
         figures_words: usize,
         path: *mut u64,

@@ -118,10 +118,11 @@ fn desks() {
     connection.put_integer(member::CONNECTION_TARGET, 1);
     connection.put_numbers(member::CONNECTION_SOURCES, 1, 1);
     let rows = [matrix, connection, connection];
-    assert_eq!(desk.call(&rows, Root::Elements, &[1, 2], &mut [0; 2]), Err(Error::Setup));
-    let mut answers = [9; 3];
+    let mut answers = [9; 256];
+    assert_eq!(desk.call(&rows, Root::Streams, &[1, 2], &mut answers), Err(Error::Setup));
+    assert_eq!(answers, [9; 256]);
     assert_eq!(desk.call(&rows, Root::Elements, &[1, 2], &mut answers), Ok(2));
-    assert_eq!(answers, [0, 0, 9]);
+    assert_eq!(answers, [0; 256]);
     assert!(desk.is_connected(1, 2));
 }
 
@@ -143,7 +144,7 @@ fn lines() {
     assert_eq!(line.desk_mut().request(1, &[0], Operation::Connect), Ok(()));
     let turn = line.turn(&frames[5..length]);
     assert_eq!((turn.consumed, turn.tree), (length - 5, Some(Ok(Read { root: Root::Elements, count: 2 }))));
-    assert_eq!((turn.rows.len(), turn.answers), (2, &[number::DONE][..]));
+    assert_eq!((turn.rows.len(), turn.answers), (2, &[0][..]));
     assert!(turn.desk.sources(1).eq([2]));
     assert!(line.desk().is_connected(1, 2));
     let mut small = Line::<1>::new(Desk::open(figures, &[1, 2]).unwrap());

@@ -5,56 +5,52 @@ use Rattle.ember.proofs.ember_desk_call.Tie as tie
 use Rattle.ember.proofs.ember_desk_call.Reads as reads
 use Rattle.ember.proofs.ember_desk_call.Lts as lts
 use Rattle.desk_calls.proofs.call.Reads as call-reads
-use Rattle.ember.proofs.count_answers.Reads as count-answers-reads
+use Rattle.ember.proofs.put_answers.Reads as put-answers-reads
 use Rattle.ember.proofs.words.figures_at.Reads as figures-at-reads
 use Rattle.ember.proofs.words.is_figures.Reads as is-figures-reads
 
--- src/lib.rt:196:9
+-- src/lib.rt:208:9
 returns : tie.Need-returns
 returns c =
     let the-if1 = c .if1 in
     desk-words _ _ _ _ _ _ _ _ _ (the-if1 .taken)
 
--- src/lib.rt:198:8
+-- src/lib.rt:210:8
 is-figures-requires : tie.Need-is-figures-requires
 is-figures-requires c κs = search needs
 
--- src/lib.rt:200:13
+-- src/lib.rt:212:13
 figures-at-requires : tie.Need-figures-at-requires
 figures-at-requires c κs = search needs
 
--- src/lib.rt:199:13
+-- src/lib.rt:211:13
 call-requires : tie.Need-call-requires
 call-requires c κs = search needs
 
--- src/lib.rt:209:9
-count-answers-requires : tie.Need-count-answers-requires
-count-answers-requires c κs = search needs
+-- src/lib.rt:220:9
+put-answers-requires : tie.Need-put-answers-requires
+put-answers-requires c κs = search needs
 
--- src/lib.rt:209:9
+-- src/lib.rt:220:9
 same-length : tie.Need-same-length
 same-length c = search needs
 
--- src/lib.rt:209:9
+-- src/lib.rt:220:9
 same-length-2 : tie.Need-same-length-2
 same-length-2 c = search needs
 
--- src/lib.rt:209:9
-same-length-3 : tie.Need-same-length-3
-same-length-3 c = search needs
-
--- src/lib.rt:209:9
+-- src/lib.rt:220:9
 returns-2 : tie.Need-returns-2
 returns-2 c =
-    let the-if1 = c .before .before .before .before .before .before .before .before .before .before .before .before .before .before .if1 in
-    let the-is-figures = c .before .before .before .before .before .before .before .before .before .before .before .before .before .is-figures in
-    let the-if2 = c .before .before .before .before .before .before .before .before .before .before .before .before .if2 in
-    let the-figures-at = c .before .before .before .before .before .before .before .before .before .before .before .figures-at in
-    let the-call = c .before .before .before .before .before .before .before .before .call in
-    let the-count-answers = c .before .before .count-answers in
-    desk-called _ _ _ _ _ _ _ _ _ (the-if1 .left) (the-is-figures .ensures) (the-if2 .taken) (the-figures-at .ensures) (the-call .ensures) (the-count-answers .ensures _ _)
+    let the-if1 = c .before .before .before .before .before .before .before .before .before .before .before .before .if1 in
+    let the-is-figures = c .before .before .before .before .before .before .before .before .before .before .before .is-figures in
+    let the-if2 = c .before .before .before .before .before .before .before .before .before .before .if2 in
+    let the-figures-at = c .before .before .before .before .before .before .before .before .before .figures-at in
+    let the-call = c .before .before .before .before .before .before .before .call in
+    let the-put-answers = c .before .before .put-answers in
+    desk-called _ _ _ _ _ _ _ _ _ (the-if1 .left) (the-is-figures .ensures) (the-if2 .taken) (the-figures-at .ensures) (the-call .ensures) (the-put-answers .ensures _)
 
--- src/lib.rt:180:1
+-- src/lib.rt:191:1
 returns-3 : tie.Need-returns-3
 returns-3 c =
     let the-is-figures = c .before .is-figures in
@@ -69,9 +65,8 @@ ember-desk-call-spec =
     is-figures-requires
     figures-at-requires
     call-requires
-    count-answers-requires
+    put-answers-requires
     same-length
     same-length-2
-    same-length-3
     returns-2
     returns-3)

@@ -11,13 +11,13 @@ use Rattle.sheet_reader.proofs.read.Reads as read-reads
 returns : tie.Need-returns
 returns c =
     let the-if1 = c .if1 in
-    sheet-no-figures _ _ _ _ _ _ _ (the-if1 .taken)
+    sheet-no-figures _ _ _ _ _ _ (the-if1 .taken)
 
 -- src/lib.rt:399:9
 returns-2 : tie.Need-returns-2
 returns-2 c =
     let the-if2 = c .if2 in
-    sheet-no-words _ _ _ _ _ _ _ (the-if2 .taken)
+    sheet-no-words _ _ _ _ _ _ (the-if2 .taken)
 
 -- src/lib.rt:401:9
 read-requires : tie.Need-read-requires
@@ -48,17 +48,13 @@ same-length-5 : tie.Need-same-length-5
 same-length-5 c = search needs
 
 -- src/lib.rt:380:1
-same-length-6 : tie.Need-same-length-6
-same-length-6 c = search needs
-
--- src/lib.rt:380:1
 returns-3 : tie.Need-returns-3
 returns-3 c =
-    let the-if1 = c .before .before .before .before .before .before .before .before .before .before .before .before .before .before .before .before .before .before .before .before .if1 in
-    let the-if2 = c .before .before .before .before .before .before .before .before .before .before .before .before .before .before .before .before .before .before .before .if2 in
-    let the-read = c .before .before .before .before .before .before .before .before .before .before .before .before .before .before .read in
+    let the-if1 = c .before .before .before .before .before .before .before .before .before .before .before .before .before .before .before .before .before .before .if1 in
+    let the-if2 = c .before .before .before .before .before .before .before .before .before .before .before .before .before .before .before .before .before .if2 in
+    let the-read = c .before .before .before .before .before .before .before .before .before .before .before .before .before .read in
     let the-read2 = c .before .before .before .before .read2 in
-    sheet-read _ _ _ _ _ _ _ (the-read .result) _ _ _ _ (the-if1 .left) (the-if2 .left) (the-read .ensures) (the-read2 .ensures _ _ _ _)
+    sheet-read _ _ _ _ _ _ (the-if1 .left) (the-if2 .left) (the-read .ensures) (the-read2 .ensures _ _ _)
 
 pub ember-sheet-read-spec : {M : Type 1} → statement M
 ember-sheet-read-spec =
@@ -73,5 +69,4 @@ ember-sheet-read-spec =
     same-length-3
     same-length-4
     same-length-5
-    same-length-6
     returns-3)

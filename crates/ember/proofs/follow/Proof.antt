@@ -1,3 +1,4 @@
+use Rattle.crosspoints.specs.Crosspoints as crosspoints
 use Rattle.ember.proofs.Laws.{next-nothing, next-message}
 use borrow.Author.Needs.{needs}
 use Rattle.ember.proofs.follow.Statement.{statement}
@@ -6,35 +7,31 @@ use Rattle.ember.proofs.follow.Reads as reads
 use Rattle.ember.proofs.follow.Lts as lts
 use Rattle.turns.proofs.message.Reads as message-reads
 
--- src/lib.rt:263:9
+-- src/lib.rt:271:9
 returns : tie.Need-returns
+unfolding crosspoints.clear
 returns c =
     let the-if1 = c .if1 in
-    next-nothing _ _ _ _ _ (the-if1 .taken)
+    next-nothing _ _ _ _ (the-if1 .taken)
 
--- src/lib.rt:265:5
+-- src/lib.rt:276:5
 message-requires : tie.Need-message-requires
 message-requires c κs = search needs
 
--- src/lib.rt:250:1
+-- src/lib.rt:258:1
 same-length : tie.Need-same-length
 same-length c = search needs
 
--- src/lib.rt:250:1
+-- src/lib.rt:258:1
 same-length-2 : tie.Need-same-length-2
 same-length-2 c = search needs
 
--- src/lib.rt:250:1
-same-length-3 : tie.Need-same-length-3
-same-length-3 c = search needs
-
--- src/lib.rt:250:1
+-- src/lib.rt:258:1
 returns-2 : tie.Need-returns-2
 returns-2 c =
-    let the-if1 = c .before .before .before .before .before .before .before .before .before .if1 in
-    let the-message = c .before .before .before .before .before .message in
-    next-message _ _ _ _ _ (the-if1 .left) (the-message .ensures)
+    let the-if1 = c .before .before .before .before .before .before .if1 in
+    let the-message = c .before .before .before .message in
+    next-message _ _ _ _ (the-if1 .left) (the-message .ensures)
 
 pub follow-spec : {M : Type 1} → statement M
-follow-spec =
-    tie.close (tie.spec returns message-requires same-length same-length-2 same-length-3 returns-2)
+follow-spec = tie.close (tie.spec returns message-requires same-length same-length-2 returns-2)

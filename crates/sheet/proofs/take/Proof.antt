@@ -42,10 +42,6 @@ same-length-3 : tie.Need-same-length-3
 same-length-3 c = search needs
 
 -- src/main.rt:55:1
-same-length-4 : tie.Need-same-length-4
-same-length-4 c = search needs
-
--- src/main.rt:55:1
 returns-2 : tie.Need-returns-2
 returns-2 c = search needs
 
@@ -65,6 +61,5 @@ take-spec =
     same-length
     same-length-2
     same-length-3
-    same-length-4
     returns-2
     returns-3)

@@ -1,12 +1,14 @@
 use borrow.Author.Needs.{needs}
-use Rattle.sheet_reader.proofs.Numbers.{refused-none, refused-one, refused-more}
-use Rattle.sheets.specs.Reading.{firstRefused}
-use lib.ListN.{length, drop}
-use Prim.Native.Nat.{_-_}
-use mathlib.Core.Path.{_≡_, refl, _∙_}
 use native.Mathlib.Omega.{arith}
+use mathlib.Core.Path.{_≡_, refl, sym, _∙_}
+use Prim.Native.Nat.{_-_}
+use lib.ListN.{length, drop}
+use Rattle.sheets.specs.Reading.{firstRefused}
+use Rattle.sheet_reader.proofs.Numbers.{refused-none, refused-one, refused-more}
 use Rattle.sheet_reader.proofs.first_refused.Statement.{statement}
 use Rattle.sheet_reader.proofs.first_refused.Tie as tie
+use Rattle.sheet_reader.proofs.first_refused.Reads as reads
+use Rattle.sheet_reader.proofs.first_refused.Lts as lts
 
 abbrev Inv-loop : tie.InvT-loop
 Inv-loop answers j₀ j = firstRefused answers ≡ firstRefused (drop j answers)
@@ -14,34 +16,36 @@ Inv-loop answers j₀ j = firstRefused answers ≡ firstRefused (drop j answers)
 abbrev μ-loop : tie.MeasureT-loop
 μ-loop answers j₀ j = length answers - j
 
+-- src/lib.rt:149:5
 loop-holds : tie.Need-loop-holds Inv-loop μ-loop
 loop-holds c = refl
-
-mul-if1 : tie.Need-mul-if1 Inv-loop μ-loop
-mul-if1 c = search needs
 
 shared-slice-read-if1 : tie.Need-shared-slice-read-if1 Inv-loop μ-loop
 shared-slice-read-if1 c = search needs
 
-mul-result : tie.Need-mul-result Inv-loop μ-loop
-mul-result c = search needs
+shared-slice-read-word : tie.Need-shared-slice-read-word Inv-loop μ-loop
+shared-slice-read-word c = search needs
 
-shared-slice-read-result : tie.Need-shared-slice-read-result Inv-loop μ-loop
-shared-slice-read-result c = search needs
+word-requires : tie.Need-word-requires Inv-loop μ-loop
+word-requires c κs = search needs
 
 returns : tie.Need-returns Inv-loop μ-loop
 returns c =
-    let the-loop = c .before .before .before .before .loop in
-    let the-loop-test = c .before .before .before .loop-test in
-    let the-if1 = c .before .if1 in
-    the-loop .inv ∙ refused-one _ _ (the-loop-test .taken) (the-if1 .taken)
+    let the-loop = c .before .before .before .before .before .loop in
+    let the-loop-test = c .before .before .before .before .loop-test in
+    let the-if1 = c .before .before .if1 in
+    let the-word = c .word in
+    the-loop .inv ∙ refused-one _ _ (the-loop-test .taken) (the-if1 .taken) ∙ sym (the-word .ensures)
 
+-- src/lib.rt:154:9
 add-j : tie.Need-add-j Inv-loop μ-loop
 add-j c = omega arith
 
+-- src/lib.rt:149:5
 loop-less : tie.Need-loop-less Inv-loop μ-loop
 loop-less c = omega arith
 
+-- src/lib.rt:149:5
 loop-again : tie.Need-loop-again Inv-loop μ-loop
 loop-again c =
     let the-loop = c .before .before .before .loop in
@@ -49,6 +53,7 @@ loop-again c =
     let the-if1 = c .if1 in
     the-loop .inv ∙ refused-more _ _ (the-loop-test .taken) (the-if1 .left)
 
+-- src/lib.rt:145:1
 returns-2 : tie.Need-returns-2 Inv-loop μ-loop
 returns-2 c =
     let the-loop = c .before .loop in
@@ -62,10 +67,9 @@ first-refused-spec =
     Inv-loop
     μ-loop
     loop-holds
-    mul-if1
     shared-slice-read-if1
-    mul-result
-    shared-slice-read-result
+    shared-slice-read-word
+    word-requires
     returns
     add-j
     loop-less

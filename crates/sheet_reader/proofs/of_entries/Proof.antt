@@ -12,7 +12,7 @@ use Rattle.sheet_reader.proofs.of_entries.Tie as tie
 is-sheet-requires : tie.Need-is-sheet-requires
 is-sheet-requires c κs =
     let the-Start = c .before .before .before in
-    the-Start .pre .0 .1 .1 .1
+    the-Start .pre .0 .1 .1 .1 .1
 
 returns : tie.Need-returns
 returns c =
@@ -38,7 +38,7 @@ returns-2 c =
     let the-cell-at = c .before .before .before .before .cell-at in
     let the-path-of = c .before .before .path-of in
     let the-if2 = c .if2 in
-    let w = the-Start .pre .0 .1 .1 .1 in
+    let w = the-Start .pre .0 .1 .1 .1 .1 in
     tells-long 64 _ _ _ w (the-is-sheet .ensures (the-Start .args .s .now) ∙ not-false _ (the-if1 .left)) _ (the-cell-at .ensures) _ _ (the-path-of .ensures) (the-if2 .taken) _ _
 
 figures-of-requires : tie.Need-figures-of-requires
@@ -115,7 +115,7 @@ returns-3 c =
     let the-number-of = c .before .before .before .before .before .before .before .before .before .before .before .before .before .number-of in
     let the-apply = c .before .before .before .before .before .before .before .before .before .before .apply in
     let the-hand-over = c .before .before .before .before .hand-over in
-    let w = the-Start .pre .0 .1 .1 .1 in
+    let w = the-Start .pre .0 .1 .1 .1 .1 in
     tells-opened 64 _ _ _ w (the-is-sheet .ensures (the-Start .args .s .now) ∙ not-false _ (the-if1 .left)) _ (the-cell-at .ensures) _ _ (the-path-of .ensures) (the-if2 .left)
     _ _ _ _ (the-figures-of .ensures) (mode-is (the-Start .args .rows .now) _ _ (the-cell-at2 .ensures) (the-number-of .ensures)) (the-apply .ensures)
     _ _ (the-hand-over .result) (the-hand-over .last .1 .1 .1 .1 .0) (the-hand-over .last .1 .1 .1 .1 .1 .0) (the-hand-over .ensures)

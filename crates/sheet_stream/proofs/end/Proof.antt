@@ -10,7 +10,7 @@ returns : tie.Need-returns
 returns c =
     let the-Start = c .before .before .before in
     let the-if1 = c .if1 in
-    λ t. ap holds (left-refused (the-Start .args .tally) t _ (the-if1 .taken))
+    λ t. ap (λ x. holds x t) (left-refused (the-Start .args .tally) t _ (the-if1 .taken))
 
 -- src/lib.rt:150:8
 is-open-requires : tie.Need-is-open-requires
@@ -23,7 +23,7 @@ returns-2 c =
     let the-if1 = c .before .before .if1 in
     let the-is-open = c .before .is-open in
     let the-if2 = c .if2 in
-    λ t. ap holds (left-open (the-Start .args .tally) t (the-if1 .left) (the-is-open .ensures ∙ the-if2 .taken))
+    λ t. ap (λ x. holds x t) (left-open (the-Start .args .tally) t (the-if1 .left) (the-is-open .ensures ∙ the-if2 .taken))
 
 -- src/lib.rt:154:9
 returns-3 : tie.Need-returns-3
@@ -33,7 +33,7 @@ returns-3 c =
     let the-is-open = c .before .before .before .is-open in
     let the-if2 = c .before .before .if2 in
     let the-if3 = c .if3 in
-    λ t. ap holds (left-one (the-Start .args .tally) t (the-if1 .left) (the-is-open .ensures ∙ the-if2 .left) (the-if3 .taken))
+    λ t. ap (λ x. holds x t) (left-one (the-Start .args .tally) t (the-if1 .left) (the-is-open .ensures ∙ the-if2 .left) (the-if3 .taken))
 
 -- src/lib.rt:141:1
 returns-4 : tie.Need-returns-4
@@ -43,7 +43,7 @@ returns-4 c =
     let the-is-open = c .before .before .before .is-open in
     let the-if2 = c .before .before .if2 in
     let the-if3 = c .if3 in
-    λ t. ap holds (left-many (the-Start .args .tally) t (the-if1 .left) (the-is-open .ensures ∙ the-if2 .left) (the-if3 .left))
+    λ t. ap (λ x. holds x t) (left-many (the-Start .args .tally) t (the-if1 .left) (the-is-open .ensures ∙ the-if2 .left) (the-if3 .left))
 
 pub end-spec : {M : Type 1} → statement M
 end-spec = tie.close (tie.spec returns is-open-requires returns-2 returns-3 returns-4)

@@ -1,6 +1,5 @@
-use Rattle.sheet_stream.proofs.Steps.{finds-setup, finds-bad, finds-lines}
-use Rattle.sheet_stream.specs.Finding.{holds}
-use mathlib.Core.Path.{ap, _∙_}
+use Rattle.sheet_stream.proofs.Steps.{finds-setup, finds-bad, finds-end}
+use mathlib.Core.Path.{_∙_}
 use borrow.Author.Needs.{needs}
 use Rattle.sheet_stream.proofs.find_message.Statement.{statement}
 use Rattle.sheet_stream.proofs.find_message.Tie as tie
@@ -43,7 +42,7 @@ returns-3 c =
     let the-if2 = c .before .before .before .before .before .if2 in
     let the-take-text = c .before .before .before .take-text in
     let the-end = c .end in
-    finds-lines _ _ (the-if1 .left) (the-has-bad-line .ensures ∙ the-if2 .left) ∙ ap holds (the-take-text .ensures) ∙ the-end .ensures _
+    finds-end _ _ (the-if1 .left) (the-has-bad-line .ensures ∙ the-if2 .left) _ _ (the-take-text .ensures .0) (the-take-text .ensures .1) (the-end .result) (the-end .ensures _)
 
 pub find-message-spec : {M : Type 1} → statement M
 find-message-spec =

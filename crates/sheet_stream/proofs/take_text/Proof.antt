@@ -1,18 +1,18 @@
 use borrow.Author.Needs.{needs}
-use Rattle.sheet_stream.proofs.Steps.{sound-start, left-start, left-none}
+use Rattle.sheet_stream.proofs.Steps.{sound-start, Goes, goes-start, goes-as, goes-byte, goes-refused, goes-end}
 use Rattle.sheet_stream.proofs.Lines.{digit-small, bytes-over, bytes-first, bytes-pair, bytes-end}
-use Rattle.sheet_stream.specs.Steps.{bytesFrom, left, Sound}
-use Rattle.sheets.specs.Reading.{ofEvents}
-use Rattle.framing.specs.Rules.{begin, happens, after}
+use Rattle.sheet_stream.specs.Steps.{bytesFrom, Sound}
 use lib.ListN.{length, drop}
 use native.Mathlib.Omega.{arith}
-use mathlib.Core.Path.{_≡_, refl, ap, subst, _∙_}
+use mathlib.Core.Path.{_≡_, refl, subst}
 use Prim.Native.Nat.{_≤_, _-_}
 use Rattle.sheet_stream.proofs.take_text.Statement.{statement}
 use Rattle.sheet_stream.proofs.take_text.Tie as tie
 
 abbrev Inv-loop : tie.InvT-loop
-Inv-loop text store₀ tally₀ first₀ i₀ store tally first i = (i ≤ length text) × ((first ≤ 16) × ((length store ≡ length store₀) × (Sound tally store × ((tally .refused ≡ 0) × (ofEvents (happens begin 0 (bytesFrom 16 text)) (after begin (bytesFrom 16 text)) ≡ left tally store (bytesFrom first (drop i text)))))))
+Inv-loop text store₀ tally₀ first₀ i₀ store tally first i =
+    (i ≤ length text) × ((first ≤ 16) × ((length store ≡ length store₀) × (Sound tally store × ((tally .refused ≡ 0)
+    × Goes (bytesFrom 16 text) store₀ tally store (bytesFrom first (drop i text))))))
 
 abbrev μ-loop : tie.MeasureT-loop
 μ-loop text store₀ tally₀ first₀ i₀ store tally first i = length text - i
@@ -25,7 +25,7 @@ start-requires c κs = search needs
 loop-holds : tie.Need-loop-holds Inv-loop μ-loop
 loop-holds c =
     let the-start = c .start in
-    (omega arith, (omega arith, (refl, (sound-start _ _ (the-start .ensures) (search needs), (refl, left-start _ _ _ (the-start .ensures))))))
+    (omega arith, (omega arith, (refl, (sound-start _ _ (the-start .ensures) (search needs), (refl, goes-start _ _ _ (the-start .ensures))))))
 
 -- src/lib.rt:122:31
 shared-slice-read-digit : tie.Need-shared-slice-read-digit Inv-loop μ-loop
@@ -50,7 +50,7 @@ loop-again c =
     let the-loop-test = c .before .before .before .loop-test in
     let the-digit = c .before .digit in
     let the-if1 = c .if1 in
-    (omega arith, (the-loop .inv .1 .0, (the-loop .inv .1 .1 .0, (the-loop .inv .1 .1 .1 .0, (the-loop .inv .1 .1 .1 .1 .0, the-loop .inv .1 .1 .1 .1 .1 ∙ ap (left _ _) (bytes-over _ _ _ _ (the-loop-test .taken) (the-digit .ensures) (the-if1 .taken)))))))
+    (omega arith, (the-loop .inv .1 .0, (the-loop .inv .1 .1 .0, (the-loop .inv .1 .1 .1 .0, (the-loop .inv .1 .1 .1 .1 .0, goes-as (the-loop .inv .1 .1 .1 .1 .1) (bytes-over _ _ _ _ (the-loop-test .taken) (the-digit .ensures) (the-if1 .taken)))))))
 
 -- src/lib.rt:121:5
 loop-less-2 : tie.Need-loop-less-2 Inv-loop μ-loop
@@ -64,7 +64,7 @@ loop-again-2 c =
     let the-digit = c .before .before .digit in
     let the-if1 = c .before .if1 in
     let the-if2 = c .if2 in
-    (omega arith, (subst (λ x. x ≤ 16) (the-digit .ensures) (digit-small _), (the-loop .inv .1 .1 .0, (the-loop .inv .1 .1 .1 .0, (the-loop .inv .1 .1 .1 .1 .0, the-loop .inv .1 .1 .1 .1 .1 ∙ ap (left _ _) (bytes-first _ _ _ _ (the-loop-test .taken) (the-digit .ensures) (the-if1 .left) (the-if2 .taken)))))))
+    (omega arith, (subst (λ x. x ≤ 16) (the-digit .ensures) (digit-small _), (the-loop .inv .1 .1 .0, (the-loop .inv .1 .1 .1 .0, (the-loop .inv .1 .1 .1 .1 .0, goes-as (the-loop .inv .1 .1 .1 .1 .1) (bytes-first _ _ _ _ (the-loop-test .taken) (the-digit .ensures) (the-if1 .left) (the-if2 .taken)))))))
 
 -- src/lib.rt:131:41
 mul-take-byte : tie.Need-mul-take-byte Inv-loop μ-loop
@@ -94,7 +94,8 @@ returns c =
     let the-if2 = c .before .before .before .before .before .before .if2 in
     let the-take-byte = c .before .before .before .before .take-byte in
     let the-if3 = c .if3 in
-    the-loop .inv .1 .1 .1 .1 .1 ∙ ap (left _ _) (bytes-pair _ _ _ _ (the-loop-test .taken) (the-digit .ensures) (the-if1 .left) (the-if2 .left)) ∙ the-take-byte .ensures .same _ ∙ left-none _ _ _ (the-if3 .taken)
+    goes-refused (goes-byte (goes-as (the-loop .inv .1 .1 .1 .1 .1) (bytes-pair _ _ _ _ (the-loop-test .taken) (the-digit .ensures) (the-if1 .left) (the-if2 .left)))
+    (the-take-byte .ensures)) (the-if3 .taken)
 
 -- src/lib.rt:121:5
 loop-less-3 : tie.Need-loop-less-3 Inv-loop μ-loop
@@ -109,8 +110,23 @@ loop-again-3 c =
     let the-if1 = c .before .before .before .before .before .before .before .if1 in
     let the-if2 = c .before .before .before .before .before .before .if2 in
     let the-take-byte = c .before .before .before .before .take-byte in
-    let the-if3 = c .if3 in
-    (omega arith, (omega arith, (omega arith, (the-take-byte .ensures .sound, (the-if3 .left, the-loop .inv .1 .1 .1 .1 .1 ∙ ap (left _ _) (bytes-pair _ _ _ _ (the-loop-test .taken) (the-digit .ensures) (the-if1 .left) (the-if2 .left)) ∙ the-take-byte .ensures .same _)))))
+    let the-if3 = c .if3 in (
+      omega arith,
+      (
+        omega arith,
+        (
+          omega arith,
+          (
+            the-take-byte .ensures .sound,
+            (
+              the-if3 .left,
+              goes-byte (goes-as (the-loop .inv .1 .1 .1 .1 .1) (bytes-pair _ _ _ _ (the-loop-test .taken) (the-digit .ensures) (the-if1 .left) (the-if2 .left)))
+                  (the-take-byte .ensures),
+            ),
+          ),
+        ),
+      ),
+    )
 
 -- src/lib.rt:109:1
 same-length-2 : tie.Need-same-length-2 Inv-loop μ-loop
@@ -121,7 +137,7 @@ returns-2 : tie.Need-returns-2 Inv-loop μ-loop
 returns-2 c =
     let the-loop = c .before .loop in
     let the-loop-test = c .loop-test in
-    the-loop .inv .1 .1 .1 .1 .1 ∙ ap (left _ _) (bytes-end _ _ _ (the-loop-test .left))
+    goes-end (goes-as (the-loop .inv .1 .1 .1 .1 .1) (bytes-end _ _ _ (the-loop-test .left))) (the-loop .inv .1 .1 .1 .1 .0)
 
 pub take-text-spec : {M : Type 1} → statement M
 take-text-spec =

@@ -6,58 +6,62 @@ use Rattle.ember.proofs.after.later.Reads as reads
 use Rattle.ember.proofs.after.later.Lts as lts
 use Rattle.ember.proofs.after.make.Reads as make-reads
 use Rattle.ember.proofs.after.refused.Reads as refused-reads
-use Rattle.ember.proofs.after.served.Reads as served-reads
 use Rattle.session_words.proofs.word.Reads as word-reads
 
--- src/after.rt:69:27
+-- src/after.rt:47:27
 enum-told : tie.Need-enum-told
 enum-told c = search needs
 
--- src/after.rt:69:27
+-- src/after.rt:47:27
 make-requires : tie.Need-make-requires
 make-requires c κs = search needs
 
--- src/after.rt:70:26
+-- src/after.rt:48:26
 enum-known-x : tie.Need-enum-known-x
 enum-known-x c = search needs
 
--- src/after.rt:70:38
+-- src/after.rt:48:38
 refused-requires : tie.Need-refused-requires
 refused-requires c κs = search needs
 
--- src/after.rt:72:13
+-- src/after.rt:50:13
 enum-known-x-2 : tie.Need-enum-known-x-2
 enum-known-x-2 c = search needs
 
--- src/after.rt:75:27
+-- src/after.rt:57:13
 word-requires : tie.Need-word-requires
 word-requires c κs = search needs
 
--- src/after.rt:75:14
-served-requires : tie.Need-served-requires
-served-requires c κs = search needs
+-- src/after.rt:60:13
+word-requires-2 : tie.Need-word-requires-2
+word-requires-2 c κs = search needs
 
--- src/after.rt:65:1
+-- src/after.rt:54:14
+make-requires-2 : tie.Need-make-requires-2
+make-requires-2 c κs = search needs
+
+-- src/after.rt:43:1
 returns : tie.Need-returns
 returns c =
     let the-enum-told = c .before .enum-told in
     let the-make = c .make in
     later-nothing (the-enum-told .given .1) (the-make .ensures)
 
--- src/after.rt:65:1
+-- src/after.rt:43:1
 returns-2 : tie.Need-returns-2
 returns-2 c =
     let the-x = c .before .before .x in
     let the-refused = c .refused in
     later-refused (the-x .given .1) (the-refused .ensures)
 
--- src/after.rt:65:1
+-- src/after.rt:43:1
 returns-3 : tie.Need-returns-3
 returns-3 c =
-    let the-x2 = c .before .before .before .x2 in
-    let the-word = c .before .word in
-    let the-served = c .served in
-    later-served (the-x2 .given .1) (the-word .ensures) (the-served .ensures)
+    let the-x2 = c .before .before .before .before .x2 in
+    let the-word = c .before .before .word in
+    let the-word2 = c .before .word2 in
+    let the-make2 = c .make2 in
+    later-served (the-x2 .given .1) (the-word .ensures) (the-word2 .ensures) (the-make2 .ensures)
 
 pub later-spec : {M : Type 1} → statement M
 later-spec =
@@ -69,7 +73,8 @@ later-spec =
     refused-requires
     enum-known-x-2
     word-requires
-    served-requires
+    word-requires-2
+    make-requires-2
     returns
     returns-2
     returns-3)

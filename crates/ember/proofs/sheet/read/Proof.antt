@@ -40,7 +40,7 @@ returns : tie.Need-returns
 returns c =
     let the-Start = c .before .before .before .before in
     let the-enum-told = c .enum-told in
-    λ store table path cells. read-setup (the-Start .args .figures .now) (the-Start .args .answer .now) store table path cells (the-enum-told .given .1)
+    λ store path cells. read-setup (the-Start .args .figures .now) (the-Start .args .answer .now) store path cells (the-enum-told .given .1)
 
 -- src/sheet.rt:33:1
 same-length : tie.Need-same-length
@@ -51,7 +51,7 @@ returns-2 : tie.Need-returns-2
 returns-2 c =
     let the-Start = c .before .before .before .before .before in
     let the-x = c .before .x in
-    λ store table path cells. read-refused (the-Start .args .figures .now) (the-Start .args .answer .now) store table path cells (the-Start .pre .1) (the-x .given .1)
+    λ store path cells. read-refused (the-Start .args .figures .now) (the-Start .args .answer .now) store path cells (the-Start .pre .1) (the-x .given .1)
 
 -- src/sheet.rt:33:1
 same-length-2 : tie.Need-same-length-2
@@ -68,7 +68,7 @@ returns-3 c =
     let the-x2 = c .before .before .before .before .before .before .x2 in
     let the-put-figures = c .before .before .before .put-figures in
     let the-word = c .word in
-    λ store table path cells. read-desk (the-Start .args .figures .now) (the-Start .args .answer .now) store table path cells (the-Start .pre .1) (the-x2 .given .1) (the-put-figures .ensures) (the-word .ensures)
+    λ store path cells. read-desk (the-Start .args .figures .now) (the-Start .args .answer .now) store path cells (the-Start .pre .1) (the-x2 .given .1) (the-put-figures .ensures) (the-word .ensures)
 
 pub read-spec : {M : Type 1} → statement M
 read-spec =

@@ -1,8 +1,8 @@
 use native.Mathlib.Omega.{arith}
-use Rattle.sheet_reader.proofs.Messages.{octets-all, never-setup, tells-refused, tells-room, entries-accepted, entries-few, tells-entries}
+use Rattle.sheet_reader.proofs.Messages.{octets-all, never-setup, tells-refused, tells-room, entries-accepted, entries-few, rows-few, tells-entries}
 use borrow.Author.Needs.{needs}
-use Rattle.sheet_reader.proofs.of_message.Statement.{statement}
-use Rattle.sheet_reader.proofs.of_message.Tie as tie
+use Rattle.sheet_reader.proofs.of_rows.Statement.{statement}
+use Rattle.sheet_reader.proofs.of_rows.Tie as tie
 
 read-requires : tie.Need-read-requires
 read-requires c κs = search needs
@@ -29,9 +29,10 @@ of-entries-requires c κs =
     let octets = octets-all (a .m .now) (λ i. omega (arith, the-known .given i)) in
     let few = the-Start .pre .0 in
     let sized = the-Start .pre .1 .0 in
+    let f = rows-few 64 (a .m .now) (a .table .now) few sized _ _ (the-read .ensures) (a .path .now) (a .crosspoints .now) _ _ (the-root .given .1) octets in
     let k = entries-few 64 (a .m .now) (a .table .now) few sized _ _ (the-read .ensures) (a .path .now) (a .crosspoints .now) _ _ (the-root .given .1) octets in
     let g = entries-accepted 64 (a .m .now) (a .table .now) few sized _ _ (the-read .ensures) (a .path .now) (a .crosspoints .now) _ _ (the-root .given .1) octets in
-    ((the-Start .pre .1 .1 .0, (the-Start .pre .1 .1 .1, k)), g)
+    ((the-Start .pre .1 .1 .0, (the-Start .pre .1 .1 .1, (f, (few, k)))), g)
 
 same-length : tie.Need-same-length
 same-length c = search needs
@@ -83,8 +84,8 @@ returns-4 c =
     tells-entries 64 _ _ (the-Start .pre .0) (the-Start .pre .1 .0) _ _ (the-read .ensures) _ _ _ _ (the-root .given .1) octets
     (the-of-entries .result) (the-of-entries .last .1 .1 .1 .1 .0) (the-of-entries .last .1 .1 .1 .1 .1 .0) (the-of-entries .ensures)
 
-pub of-message-spec : {M : Type 1} → statement M
-of-message-spec =
+pub of-rows-spec : {M : Type 1} → statement M
+of-rows-spec =
     tie.close
     (tie.spec
     read-requires

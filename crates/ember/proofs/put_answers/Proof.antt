@@ -1,0 +1,38 @@
+use native.Mathlib.Omega.{arith}
+use Rattle.ember.proofs.Laws.{put-setup, put-done}
+use borrow.Author.Needs.{needs}
+use Rattle.ember.proofs.put_answers.Statement.{statement}
+use Rattle.ember.proofs.put_answers.Tie as tie
+use Rattle.ember.proofs.put_answers.Reads as reads
+use Rattle.ember.proofs.put_answers.Lts as lts
+use Rattle.session_words.proofs.word.Reads as word-reads
+
+-- src/lib.rt:182:9
+returns : tie.Need-returns
+returns c =
+    let the-Start = c .before .before .before in
+    let the-if1 = c .if1 in
+    λ cells. put-setup (the-Start .args .called) (the-Start .args .answers .now) (the-Start .args .answer .now) cells (the-if1 .taken)
+
+-- src/lib.rt:186:17
+word-requires : tie.Need-word-requires
+word-requires c κs = search needs
+
+-- src/lib.rt:186:5
+slice-write-answer : tie.Need-slice-write-answer
+slice-write-answer c = search needs
+
+-- src/lib.rt:176:1
+same-length : tie.Need-same-length
+same-length c = search needs
+
+-- src/lib.rt:176:1
+returns-2 : tie.Need-returns-2
+returns-2 c =
+    let the-Start = c .before .before .before .before .before in
+    let the-word = c .word in
+    λ cells. put-done (the-Start .args .called) (the-Start .args .answers .now) (the-Start .args .answer .now) cells (the-Start .pre) (omega arith) (the-word .ensures)
+
+pub put-answers-spec : {M : Type 1} → statement M
+put-answers-spec =
+    tie.close (tie.spec returns word-requires slice-write-answer same-length returns-2)
