@@ -89,6 +89,11 @@ use Rattle.supervision_c.specs.Calls.{starts as link-starts}
 use Rattle.supervision_c.specs.Promise as supervision-c
 use Rattle.supervision_c.specs.Promise.{Seen, showings}
 use Rattle.supervision_c.proofs.Promise as supervision-c-promise
+use Rattle.session_words.specs.Words.{wordsOf}
+use Rattle.turns.specs.Whole.{deskAt}
+use Rattle.ember.specs.Words.{figuresAt}
+use Rattle.ember.specs.Rounds.{Round, Rounds}
+use Rattle.ember.proofs.Claim as ember
 
 -- ---- Framing
 
@@ -252,6 +257,13 @@ pub c-supervision-promise : (ws₀ : List ℕ) {o s z : ℕ} {ws ws″ : List �
     → link-starts ws₀ (tickAt o s) ≡ record { number = 0; link = ws } → supervision-c.Shows o ws xs ns ws″ → Often s (showings xs) z
     → supervision-c.Promised s z xs ns
 c-supervision-promise = supervision-c-promise.promise
+
+-- ember_turn: demand 3 over every list of its calls from a fresh session's words, any store of the right length and a legal desk, calls answered with 1 among
+-- them, which tell nothing and change nothing: what the calls answered and left is what turns told, and the claim holds of these.
+pub c-ember-claim : {rows : ℕ} {fs path t : List ℕ} {cells : Cells} {bytes : List ℕ} {xs : List Round} {ws′ t′ : List ℕ} {cells′ : Cells} {rest : List ℕ}
+    → length t ≡ storeLength → isLegal (deskAt (figuresAt fs) path cells) ≡ true → Below 256 bytes
+    → Rounds rows fs path (wordsOf (sessionOf begin)) t cells bytes xs ws′ t′ cells′ rest → ember.Claimed rows fs path cells bytes xs ws′ t′ cells′ rest
+c-ember-claim = ember.ember-claim
 
 -- ---- Samples: "P1 to P12 form one table, proved by one statement."
 
