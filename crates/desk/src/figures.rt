@@ -1,9 +1,9 @@
 // The figures of an `open` line.
 use crate::words;
 use crate::words::Word;
-use crosspoints::Figures;
-use crosspoints::Limit;
-use requests::text;
+use desk_crosspoints::Figures;
+use desk_crosspoints::Limit;
+use program_lines::text;
 
 // One word as a figure: its number, and 1 beside it where it is given. Whether it is a figure.
 fn put(word: &[u8], i: usize, numbers: &mut [u64], given: &mut [u64]) -> bool {

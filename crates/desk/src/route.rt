@@ -1,6 +1,6 @@
 // The route sheet.
-use crosspoints::Figures;
-use requests::print;
+use desk_crosspoints::Figures;
+use program_lines::print;
 use sheet_writer::Answer;
 
 fn lines(out: &[u8], length: usize) {

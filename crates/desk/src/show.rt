@@ -1,6 +1,6 @@
 // The crosspoints: a line of sources, and a picture.
-use crosspoints::Figures;
-use requests::print;
+use desk_crosspoints::Figures;
+use program_lines::print;
 
 fn word(x: usize) -> u64 {
     x as u64

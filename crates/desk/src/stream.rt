@@ -1,10 +1,10 @@
 // A chunk of the stream: whole turns of session, tree reader and desk, and a line for each event.
-use crosspoints::Figures;
+use desk_crosspoints::Figures;
 use framing::Event;
 use framing::Fed;
 use framing::Session;
-use glow::Answer;
-use requests::print;
+use glow_reader::Answer;
+use program_lines::print;
 use turns::After;
 use turns::Turned;
 ghost use Prim.Native.Nat.{_≤_};
@@ -86,7 +86,7 @@ fn report(t: Turned) {
     if let Event::More = event {
         return;
     }
-    print::decimal(events::number(event));
+    print::decimal(framing_events::number(event));
     let a = t.after;
     let given = t.answers;
     let answers: &[u8] = &given;

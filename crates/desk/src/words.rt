@@ -1,6 +1,6 @@
 // The words of a request: numbers, and lists of numbers with dots.
-use requests::text;
-use requests::text::Decimal;
+use program_lines::text;
+use program_lines::text::Decimal;
 ghost use Prim.Native.Nat.{_≤_};
 
 // `-`, a number (the largest for one over 64 bits), or neither.

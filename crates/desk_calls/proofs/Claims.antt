@@ -6,15 +6,15 @@ use mathlib.Core.Bool.{Bool, true, false}
 use native.Mathlib.Omega.{arith}
 use lib.ListN.{length}
 use lib.Dec.{eqb}
-use Rattle.integers.specs.Digits.{pick}
-use Rattle.entries.specs.Entry.{Rows}
-use Rattle.forest.specs.Content.{Item}
-use Rattle.forest.specs.Rows.{itemsIn}
-use Rattle.crosspoints.specs.declared.Figures.{Figures}
-use Rattle.crosspoints.specs.Crosspoints.{Cells, legal, opened, Answer, answer}
-use Rattle.crosspoints.proofs.Opened.{open-legal}
-use Rattle.routing.proofs.Claims.{request-legal, refused-same, request-length}
-use Rattle.connections.specs.Connections.{Ask, askOf, asksIn, asksOf, same}
+use Rattle.ber_integers.specs.Digits.{pick}
+use Rattle.glow_rows.specs.Entry.{Rows}
+use Rattle.glow_trees.specs.Content.{Item}
+use Rattle.glow_trees.specs.Rows.{itemsIn}
+use Rattle.desk_crosspoints.specs.declared.Figures.{Figures}
+use Rattle.desk_crosspoints.specs.Crosspoints.{Cells, legal, opened, Answer, answer}
+use Rattle.desk_crosspoints.proofs.Opened.{open-legal}
+use Rattle.desk_requests.proofs.Claims.{request-legal, refused-same, request-length}
+use Rattle.desk_connections.specs.Connections.{Ask, askOf, asksIn, asksOf, same}
 use Rattle.desk_calls.specs.Calls.{Request, requests, pathFits, deskLegal, deskOpened, answered, Served, answers, served, handled, Outcome, filled, laid}
 use Rattle.desk_calls.specs.Calls.{unserved, isReady, called}
 use Rattle.desk_calls.proofs.Setup.{desk-fits, desk-legal, desk-rest, called-not, called-ready}

@@ -7,16 +7,16 @@ use native.Mathlib.Omega.{arith}
 use borrow.Author.Tests.{eqb-true, eqb-false}
 use lib.ListN.{length}
 use lib.Dec.{leb, eqb}
-use Rattle.integers.specs.Digits.{pick}
-use Rattle.entries.specs.Entry.{Rows}
-use Rattle.forest.specs.Rows.{itemsIn}
-use Rattle.crosspoints.specs.declared.Figures.{Figures}
-use Rattle.crosspoints.specs.Figures.{both, figuresFit}
-use Rattle.crosspoints.specs.Crosspoints.{Cells, clear, rowAt, legal, opened, Answer, answer}
-use Rattle.routing.specs.Request.{allBelow, result, many, overTotal, judged, asked, requested}
-use Rattle.routing.proofs.Claims.{request-legal, request-not-setup}
-use Rattle.connections.specs.Connections.{Ask, same}
-use Rattle.connections.proofs.Operations.{Operations}
+use Rattle.ber_integers.specs.Digits.{pick}
+use Rattle.glow_rows.specs.Entry.{Rows}
+use Rattle.glow_trees.specs.Rows.{itemsIn}
+use Rattle.desk_crosspoints.specs.declared.Figures.{Figures}
+use Rattle.desk_crosspoints.specs.Figures.{both, figuresFit}
+use Rattle.desk_crosspoints.specs.Crosspoints.{Cells, clear, rowAt, legal, opened, Answer, answer}
+use Rattle.desk_requests.specs.Request.{allBelow, result, many, overTotal, judged, asked, requested}
+use Rattle.desk_requests.proofs.Claims.{request-legal, request-not-setup}
+use Rattle.desk_connections.specs.Connections.{Ask, same}
+use Rattle.desk_connections.proofs.Operations.{Operations}
 use Rattle.desk_calls.specs.Calls.{requests, pathFits, deskOpened, answered, served, handled, laid, unserved, isReady, called}
 use Rattle.desk_calls.specs.Steps.{has}
 use Rattle.desk_calls.specs.Numbers.{openNumbers, requestNumbers, callNumbers, answerNumbers, allHas}

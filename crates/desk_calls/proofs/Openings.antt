@@ -2,10 +2,10 @@
 use Prim.Native.Nat.{ℕ}
 use mathlib.Core.Path.{_≡_, refl}
 use mathlib.Core.List.{List, [], _∷_}
-use Rattle.crosspoints.specs.declared.Limit.the-variants.{Absent}
-use Rattle.crosspoints.specs.declared.Figures.{Figures}
-use Rattle.crosspoints.specs.Figures.{isCount, figuresFit}
-use Rattle.crosspoints.specs.Crosspoints.{Cells, clear, opened, answer}
+use Rattle.desk_crosspoints.specs.declared.Limit.the-variants.{Absent}
+use Rattle.desk_crosspoints.specs.declared.Figures.{Figures}
+use Rattle.desk_crosspoints.specs.Figures.{isCount, figuresFit}
+use Rattle.desk_crosspoints.specs.Crosspoints.{Cells, clear, opened, answer}
 use Rattle.desk_calls.specs.Calls.{pathFits, allNumbers, deskOpened}
 
 -- a desk of three by three; kind 3 is none

@@ -7,18 +7,18 @@ use native.Mathlib.Omega.{arith}
 use borrow.Author.Tests.{eq-eqb, ne-eqb}
 use lib.ListN.{length, take, drop, getD, set, take-append-drop, drop-of-length-le}
 use lib.Seq.{take-suc-set, drop-set-lt, drop-cons}
-use Rattle.entries.specs.Entry.{Rows}
-use Rattle.entries.specs.declared.Cell.{Cell}
-use Rattle.forest.specs.Content.{Item, contentOf}
-use Rattle.forest.specs.Rows.{itemsIn}
-use Rattle.tree_sizes.specs.Sizes.{rowCell}
-use Rattle.crosspoints.specs.declared.Figures.{Figures}
-use Rattle.crosspoints.specs.Crosspoints.{Cells, Answer, answer}
-use Rattle.connections.specs.Connections.{numberOf, octetsOf, numbersIn, nobody, fullPath, askOf, asksIn, memberOf, same}
+use Rattle.glow_rows.specs.Entry.{Rows}
+use Rattle.glow_rows.specs.declared.Cell.{Cell}
+use Rattle.glow_trees.specs.Content.{Item, contentOf}
+use Rattle.glow_trees.specs.Rows.{itemsIn}
+use Rattle.glow_sizes.specs.Sizes.{rowCell}
+use Rattle.desk_crosspoints.specs.declared.Figures.{Figures}
+use Rattle.desk_crosspoints.specs.Crosspoints.{Cells, Answer, answer}
+use Rattle.desk_connections.specs.Connections.{numberOf, octetsOf, numbersIn, nobody, fullPath, askOf, asksIn, memberOf, same}
 use Rattle.desk_calls.specs.Calls.{Request, requests, answered, Served, answers, served, handled, outcome}
 use Rattle.desk_calls.specs.Steps.{laidOver, laidAt, answeredAt, servedIn, leftFrom, Takes}
-use Rattle.crosspoints.specs.Figures.{side}
-use Rattle.connections.proofs.Items.{in-length, in-kind, in-parent, in-first, in-second, in-third}
+use Rattle.desk_crosspoints.specs.Figures.{side}
+use Rattle.desk_connections.proofs.Items.{in-length, in-kind, in-parent, in-first, in-second, in-third}
 use Rattle.desk_calls.proofs.Sources.{append-again}
 
 -- the answers, over those lent

@@ -8,15 +8,15 @@ use borrow.Author.Tests.{ltb-true, ltb-false, eqb-true, eqb-false, eq-eqb}
 use lib.ListN.{length, getD, set}
 use lib.Seq.{getD-set-same, getD-set-other, set-set, ext-getD}
 use lib.Dec.{ltb, leb, eqb}
-use Rattle.integers.specs.Digits.{pick}
-use Rattle.crosspoints.specs.declared.Figures.{Figures}
-use Rattle.crosspoints.specs.Figures.{both}
-use Rattle.crosspoints.specs.Crosspoints.{Cells, count, clear, rowAt, takenFrom, legal, Answer, answer}
-use Rattle.routing.specs.Request.{marked, named, allBelow, replaces, becomes, takes, others, result, many, overTotal, judged, asked, requested}
-use Rattle.crosspoints.proofs.Laws.{both-right, fit-sources-le}
-use Rattle.crosspoints.proofs.Legal.{legal-fit}
-use Rattle.routing.proofs.Answers.{request-legal-not}
-use Rattle.routing.proofs.Rows.{marked-length, named-other, named-one}
+use Rattle.ber_integers.specs.Digits.{pick}
+use Rattle.desk_crosspoints.specs.declared.Figures.{Figures}
+use Rattle.desk_crosspoints.specs.Figures.{both}
+use Rattle.desk_crosspoints.specs.Crosspoints.{Cells, count, clear, rowAt, takenFrom, legal, Answer, answer}
+use Rattle.desk_requests.specs.Request.{marked, named, allBelow, replaces, becomes, takes, others, result, many, overTotal, judged, asked, requested}
+use Rattle.desk_crosspoints.proofs.Laws.{both-right, fit-sources-le}
+use Rattle.desk_crosspoints.proofs.Legal.{legal-fit}
+use Rattle.desk_requests.proofs.Answers.{request-legal-not}
+use Rattle.desk_requests.proofs.Rows.{marked-length, named-other, named-one}
 use Rattle.desk_calls.specs.Steps.{has}
 
 -- cells marked twice

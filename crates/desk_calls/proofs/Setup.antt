@@ -8,22 +8,22 @@ use borrow.Author.Tests.{le-leb, lt-leb, leb-true, eq-eqb, ne-eqb}
 use lib.ListN.{length, drop, getD, drop-of-length-le}
 use lib.Seq.{drop-cons}
 use lib.Dec.{leb}
-use Rattle.integers.specs.Digits.{pick}
-use Rattle.entries.specs.Entry.{Rows}
-use Rattle.grammar.specs.Leaf as leaf
-use Rattle.forest.specs.Content.{Item}
-use Rattle.forest.specs.Rows.{itemsIn}
-use Rattle.member_sizes.specs.Spelling.{leastReal}
-use Rattle.tree_sizes.specs.Accepted.{accepted, fits, lengthOf, isWhole, octetsOf}
-use Rattle.crosspoints.specs.declared.Figures.{Figures}
-use Rattle.crosspoints.specs.Figures.{both}
-use Rattle.crosspoints.specs.Crosspoints.{Cells, clear, legal, opened, answer}
-use Rattle.crosspoints.proofs.Laws.{both-left, both-right, both-no, both-yes}
+use Rattle.ber_integers.specs.Digits.{pick}
+use Rattle.glow_rows.specs.Entry.{Rows}
+use Rattle.glow_grammar.specs.Leaf as leaf
+use Rattle.glow_trees.specs.Content.{Item}
+use Rattle.glow_trees.specs.Rows.{itemsIn}
+use Rattle.glow_member_sizes.specs.Spelling.{leastReal}
+use Rattle.glow_sizes.specs.Accepted.{accepted, fits, lengthOf, isWhole, octetsOf}
+use Rattle.desk_crosspoints.specs.declared.Figures.{Figures}
+use Rattle.desk_crosspoints.specs.Figures.{both}
+use Rattle.desk_crosspoints.specs.Crosspoints.{Cells, clear, legal, opened, answer}
+use Rattle.desk_crosspoints.proofs.Laws.{both-left, both-right, both-no, both-yes}
 use Rattle.desk_calls.specs.Calls.{allNumbers, pathFits, deskLegal, deskOpened, Served, handled, Outcome, outcome, filled}
 use Rattle.desk_calls.specs.Calls.{laid, unserved, isReady, called, told}
 use Rattle.desk_calls.specs.Steps.{laidOver}
 use Rattle.desk_calls.specs.declared.Called.{Called}
-use Rattle.connections.proofs.Items.{in-length}
+use Rattle.desk_connections.proofs.Items.{in-length}
 
 -- a path's numbers from i on
 module _ (path : List ℕ) (i : ℕ) where

@@ -8,15 +8,15 @@ use borrow.Author.Tests.{eqb-true, eq-eqb}
 use lib.ListN.{length, take, getD, set, length-set}
 use lib.Seq.{getD-set-same, take-suc-set}
 use lib.Dec.{eqb}
-use Rattle.integers.specs.Digits.{pick}
-use Rattle.crosspoints.specs.declared.Figures.{Figures}
-use Rattle.crosspoints.specs.Figures.{side}
-use Rattle.crosspoints.specs.Crosspoints.{Cells, count, clear, Answer}
-use Rattle.routing.specs.Request.{marked, named}
-use Rattle.crosspoints.proofs.Laws.{bit-set, bit-clear, count-le}
-use Rattle.crosspoints.proofs.Counts.{clear-cell, clear-count}
-use Rattle.routing.proofs.Rows.{named-length}
-use Rattle.connections.specs.Connections.{numbersIn}
+use Rattle.ber_integers.specs.Digits.{pick}
+use Rattle.desk_crosspoints.specs.declared.Figures.{Figures}
+use Rattle.desk_crosspoints.specs.Figures.{side}
+use Rattle.desk_crosspoints.specs.Crosspoints.{Cells, count, clear, Answer}
+use Rattle.desk_requests.specs.Request.{marked, named}
+use Rattle.desk_crosspoints.proofs.Laws.{bit-set, bit-clear, count-le}
+use Rattle.desk_crosspoints.proofs.Counts.{clear-cell, clear-count}
+use Rattle.desk_requests.proofs.Rows.{named-length}
+use Rattle.desk_connections.specs.Connections.{numbersIn}
 use Rattle.desk_calls.specs.Calls.{requests}
 use Rattle.desk_calls.specs.Steps.{has, once, Kept, Handed}
 use Rattle.desk_calls.proofs.Sets.{has-held, has-not, has-out, out-request, set-request}

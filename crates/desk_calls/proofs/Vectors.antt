@@ -3,18 +3,18 @@ use Prim.Native.Nat.{ℕ, zero, suc}
 use mathlib.Core.Path.{_≡_, refl}
 use mathlib.Core.List.{List, [], _∷_}
 use mathlib.Core.Bool.{true, false}
-use Rattle.forest.specs.Content.{Content, nothing, word, bytes, Item, item, itemsOf}
-use Rattle.forest.specs.Rows.{entriesOf, itemsIn}
-use Rattle.entries.specs.Entry.{Rows}
-use Rattle.tree_sizes.specs.Accepted.{accepted}
-use Rattle.identifiers.specs.Identifier.{arcIs, arcFrom, arcAt, arcsFrom}
-use Rattle.crosspoints.specs.declared.Limit.the-variants.{Absent, Most}
-use Rattle.crosspoints.specs.declared.Figures.{Figures}
-use Rattle.crosspoints.specs.Figures.{isCount, figuresFit, mostEach, mostTotal}
-use Rattle.crosspoints.specs.Crosspoints.{Cells, bit, count, allBits, clear, rowAt, withRow, holders, takenFrom, mostAt, rowFits, rowsFit, sourcesFit}
-use Rattle.crosspoints.specs.Crosspoints.{kindFits, cellsFit, legal, opened, answer}
-use Rattle.routing.specs.Request.{marked, named, allBelow, replaces, becomes, takes, others, result, many, overTotal, judged, asked, requested}
-use Rattle.connections.specs.Connections.{numbersIn, isQualified, pathUp, fullPath, ask, askOf, asksIn, same}
+use Rattle.glow_trees.specs.Content.{Content, nothing, word, bytes, Item, item, itemsOf}
+use Rattle.glow_trees.specs.Rows.{entriesOf, itemsIn}
+use Rattle.glow_rows.specs.Entry.{Rows}
+use Rattle.glow_sizes.specs.Accepted.{accepted}
+use Rattle.ber_identifiers.specs.Identifier.{arcIs, arcFrom, arcAt, arcsFrom}
+use Rattle.desk_crosspoints.specs.declared.Limit.the-variants.{Absent, Most}
+use Rattle.desk_crosspoints.specs.declared.Figures.{Figures}
+use Rattle.desk_crosspoints.specs.Figures.{isCount, figuresFit, mostEach, mostTotal}
+use Rattle.desk_crosspoints.specs.Crosspoints.{Cells, bit, count, allBits, clear, rowAt, withRow, holders, takenFrom, mostAt, rowFits, rowsFit, sourcesFit}
+use Rattle.desk_crosspoints.specs.Crosspoints.{kindFits, cellsFit, legal, opened, answer}
+use Rattle.desk_requests.specs.Request.{marked, named, allBelow, replaces, becomes, takes, others, result, many, overTotal, judged, asked, requested}
+use Rattle.desk_connections.specs.Connections.{numbersIn, isQualified, pathUp, fullPath, ask, askOf, asksIn, same}
 use Rattle.desk_calls.specs.Calls.{answered, answers, served, handled, pathFits, allNumbers, deskLegal, deskOpened, outcome, filled, laid, isReady, called}
 
 abbrev desk : ℕ → Figures

@@ -4,17 +4,17 @@ use mathlib.Core.List.{List, [], _∷_, _++_}
 use mathlib.Core.Bool.{Bool, true, false}
 use lib.ListN.{length}
 use lib.Dec.{leb, eqb}
-use Rattle.integers.specs.Digits.{pick}
-use Rattle.entries.specs.Entry.{Rows}
-use Rattle.forest.specs.Content.{Item}
-use Rattle.forest.specs.Rows.{itemsIn}
-use Rattle.tree_sizes.specs.Accepted.{accepted}
-use Rattle.crosspoints.specs.declared.Figures.{Figures}
-use Rattle.crosspoints.specs.Figures.{both}
-use Rattle.crosspoints.specs.Crosspoints.{Cells, clear, legal, opened, Answer, answer}
-use Rattle.routing.specs.Request.{requested}
+use Rattle.ber_integers.specs.Digits.{pick}
+use Rattle.glow_rows.specs.Entry.{Rows}
+use Rattle.glow_trees.specs.Content.{Item}
+use Rattle.glow_trees.specs.Rows.{itemsIn}
+use Rattle.glow_sizes.specs.Accepted.{accepted}
+use Rattle.desk_crosspoints.specs.declared.Figures.{Figures}
+use Rattle.desk_crosspoints.specs.Figures.{both}
+use Rattle.desk_crosspoints.specs.Crosspoints.{Cells, clear, legal, opened, Answer, answer}
+use Rattle.desk_requests.specs.Request.{requested}
 use Rattle.desk_calls.specs.declared.Called.{Called}
-use Rattle.connections.specs.Connections.{Ask, asksOf, same}
+use Rattle.desk_connections.specs.Connections.{Ask, asksOf, same}
 
 -- A request on plain numbers: target, sources, operation, and the crosspoints before it. All that the desk holds besides stands in `requests` alone.
 abbrev pub Request : Type 0

@@ -5,16 +5,16 @@ use mathlib.Core.List.{List, [], _∷_, _++_}
 use mathlib.Core.Bool.{Bool, true, false}
 use lib.ListN.{length, take, drop, getD}
 use lib.Dec.{eqb}
-use Rattle.integers.specs.Digits.{pick}
-use Rattle.crosspoints.specs.declared.Figures.{Figures}
-use Rattle.entries.specs.Entry.{Rows}
-use Rattle.entries.specs.declared.Cell.{Cell}
-use Rattle.forest.specs.Content.{contentOf}
-use Rattle.forest.specs.Rows.{itemsIn}
-use Rattle.crosspoints.specs.Figures.{side}
-use Rattle.crosspoints.specs.Crosspoints.{Cells, count, Answer}
-use Rattle.routing.specs.Request.{named}
-use Rattle.connections.specs.Connections.{octetsOf, numbersIn, nobody, askOf, asksIn}
+use Rattle.ber_integers.specs.Digits.{pick}
+use Rattle.desk_crosspoints.specs.declared.Figures.{Figures}
+use Rattle.glow_rows.specs.Entry.{Rows}
+use Rattle.glow_rows.specs.declared.Cell.{Cell}
+use Rattle.glow_trees.specs.Content.{contentOf}
+use Rattle.glow_trees.specs.Rows.{itemsIn}
+use Rattle.desk_crosspoints.specs.Figures.{side}
+use Rattle.desk_crosspoints.specs.Crosspoints.{Cells, count, Answer}
+use Rattle.desk_requests.specs.Request.{named}
+use Rattle.desk_connections.specs.Connections.{octetsOf, numbersIn, nobody, askOf, asksIn}
 use Rattle.desk_calls.specs.Calls.{requests, answered, Served, served, handled, Outcome, outcome}
 
 unfoldable pub has : List ℕ → ℕ → Bool

@@ -1,22 +1,22 @@
 // The desk's calls: opening, one request on plain numbers, and a message's connections.
-use connections::is_path;
-use connections::number_of;
-use connections::part_of;
-use crosspoints::Figures;
-use crosspoints::SIDE;
-use entries::Cell;
-use tree_sizes::cell_at;
+use desk_connections::is_path;
+use desk_connections::number_of;
+use desk_connections::part_of;
+use desk_crosspoints::Figures;
+use desk_crosspoints::SIDE;
+use glow_rows::Cell;
+use glow_sizes::cell_at;
 ghost use mathlib.Core.Path.{_≡_};
 ghost use mathlib.Core.List.{[]};
 ghost use mathlib.Core.Bool.{true};
 ghost use Prim.Native.Nat.{_+_, _-_, _*_, _≤_, _<_};
 ghost use lib.Dec.{ltb, eqb};
 ghost use lib.ListN.{length, getD, set, take};
-ghost use Rattle.integers.specs.Digits.{pick};
-ghost use Rattle.crosspoints.specs.Figures.{side, both, mostTotal};
-ghost use Rattle.crosspoints.specs.Crosspoints.{count, clear, takenFrom, answer, rowAt, withRow, legal};
-ghost use Rattle.routing.specs.Request.{named, becomes, allBelow, others, judged, asked, requested};
-ghost use Rattle.connections.specs.Connections.{numbersIn};
+ghost use Rattle.ber_integers.specs.Digits.{pick};
+ghost use Rattle.desk_crosspoints.specs.Figures.{side, both, mostTotal};
+ghost use Rattle.desk_crosspoints.specs.Crosspoints.{count, clear, takenFrom, answer, rowAt, withRow, legal};
+ghost use Rattle.desk_requests.specs.Request.{named, becomes, allBelow, others, judged, asked, requested};
+ghost use Rattle.desk_connections.specs.Connections.{numbersIn};
 ghost use Rattle.desk_calls.specs.Calls.{pathFits, deskLegal, deskOpened, outcome, called, told};
 ghost use Rattle.desk_calls.specs.Steps.{once, Kept, Handed, askedOf, answeredAt, servedIn, Takes};
 
@@ -63,7 +63,7 @@ pub fn is_legal(f: Figures, path: &[u64], crosspoints: &[u8]) -> bool
     if !path_fits(path) {
         return false;
     }
-    crosspoints::is_legal(f, crosspoints)
+    desk_crosspoints::is_legal(f, crosspoints)
 }
 
 // Opens a desk: 0 and its crosspoints cleared; 45, or 1 for crosspoints of another count, and they stay as they were.
@@ -71,7 +71,7 @@ pub fn open(f: Figures, mode: u64, path: &[u64], crosspoints: &mut [u8]) -> u64
     ensures { λ r. ⌜ deskOpened side f (now (path .entry)) mode (now (crosspoints .entry)) ≡ answer r (now (crosspoints .exit)) ⌝ }
 {
     if path_fits(path) {
-        return crosspoints::open(f, mode, crosspoints);
+        return desk_crosspoints::open(f, mode, crosspoints);
     }
     if crosspoints.len() != 4096 {
         return 1;
@@ -117,8 +117,8 @@ fn list_row(row: &mut [u8], sources: &[u64])
     requires { ⌜ length (now row) ≡ 64 ⌝ }
     ensures { λ _. ⌜ now (row .exit) ≡ named side (now (sources .entry)) ⌝ }
 {
-    crosspoints::wipe(row);
-    routing::mark(row, sources, 1);
+    desk_crosspoints::wipe(row);
+    desk_requests::mark(row, sources, 1);
 }
 
 // A target's cells after a request; `ones` counts the sources named.
@@ -128,18 +128,18 @@ fn become_row(f: Figures, sources: &[u64], operation: u64, ones: u64, row: &mut 
     ensures { λ _. ⌜ now (row .exit) ≡ becomes side f (now (sources .entry)) operation (now (row .entry)) ⌝ }
 {
     if operation == 2 {
-        routing::mark(row, sources, 0);
+        desk_requests::mark(row, sources, 0);
         return;
     }
     if operation != 1 {
         list_row(row, sources);
         return;
     }
-    if routing::replaces(f, ones) {
+    if desk_requests::replaces(f, ones) {
         list_row(row, sources);
         return;
     }
-    routing::mark(row, sources, 1);
+    desk_requests::mark(row, sources, 1);
 }
 
 // In 1:1, absolute or connect with one source takes it from every target.
@@ -158,7 +158,7 @@ fn free(f: Figures, sources: &[u64], operation: u64, ones: u64, cells: &mut [u8]
     if ones != 1 {
         return;
     }
-    take_from(cells, routing::first(sources));
+    take_from(cells, desk_requests::first(sources));
 }
 
 // Where a target's cells begin.
@@ -192,7 +192,7 @@ fn over_total(f: Figures, cells: &[u8], before: u64, after: u64) -> u64
     if f.kind != 2 {
         return 0;
     }
-    if crosspoints::in_total(f, crosspoints::count(cells) - before + after) {
+    if desk_crosspoints::in_total(f, desk_crosspoints::count(cells) - before + after) {
         return 0;
     }
     44
@@ -230,13 +230,13 @@ fn judge(
     ensures { λ _. ⌜ now (row .exit) ≡ becomes side f (now (sources .entry)) operation (rowAt side (now (cells .entry)) target) ⌝ }
 {
     get_row(row, cells, target);
-    let before = crosspoints::count(row);
+    let before = desk_crosspoints::count(row);
     become_row(f, sources, operation, ones, row);
     if 2 == operation {
         return 0;
     }
-    let after = crosspoints::count(row);
-    if routing::is_many(f, ones, after) {
+    let after = desk_crosspoints::count(row);
+    if desk_requests::is_many(f, ones, after) {
         return 43;
     }
     over_total(f, cells, before, after)
@@ -260,11 +260,11 @@ fn ask(
     if f.targets <= target {
         return 41;
     }
-    if !routing::all_below(f.sources, sources) {
+    if !desk_requests::all_below(f.sources, sources) {
         return 42;
     }
     list_row(row, sources);
-    let ones = crosspoints::count(row);
+    let ones = desk_crosspoints::count(row);
     let told = judge(f, target, sources, operation, ones, crosspoints, row);
     if told != 0 {
         return told;
@@ -302,7 +302,7 @@ pub fn request(
 ) -> u64
     ensures { λ r. ⌜ requested side f target (now (sources .entry)) operation (now (crosspoints .entry)) ≡ answer r (now (crosspoints .exit)) ⌝ }
 {
-    if !crosspoints::is_legal(f, crosspoints) {
+    if !desk_crosspoints::is_legal(f, crosspoints) {
         return 1;
     }
     request_legal(f, target, sources, operation, crosspoints)
@@ -340,11 +340,11 @@ fn gather(octets: &[u8], sources: u64, list: &mut [u64], marks: &mut [u8]) -> us
     ensures { λ r. ⌜ Handed sources (numbersIn (now (octets .entry))) (take r (now (list .exit))) ⌝ }
     ensures { λ r. ⌜ r ≤ 64 ⌝ }
 {
-    let end = connections::list_end(octets);
+    let end = desk_connections::list_end(octets);
     let mut p: usize = 0;
     let mut k: usize = 0;
     while p < end {
-        let x = connections::next_number(octets, p, end);
+        let x = desk_connections::next_number(octets, p, end);
         if sources <= x.number {
             list[0] = x.number;
             return 1;
@@ -479,7 +479,7 @@ pub fn call(
     if !is_legal(f, path, crosspoints) {
         return unready();
     }
-    if 16384 < tree_sizes::measure(rows, count, root, s, true) {
+    if 16384 < glow_sizes::measure(rows, count, root, s, true) {
         return unready();
     }
     let mut answers = [0u8; 256];

@@ -9,8 +9,8 @@ use denote.Triple.Clauses as Clauses
 use borrow.Fn.World as World
 use borrow.Fn.Kinds as K
 use lib.ListN.{take}
-use Rattle.entries.specs.Entry.{Rows}
-use Rattle.crosspoints.specs.Crosspoints.{Cells}
+use Rattle.glow_rows.specs.Entry.{Rows}
+use Rattle.desk_crosspoints.specs.Crosspoints.{Cells}
 use Rattle.framing_c.specs.Calls.{Called, calls}
 use Rattle.ember.specs.Calls.{Turn, turns}
 use Rattle.ember.specs.Rounds.{Round, Rounds, round, refused}

@@ -9,8 +9,8 @@ use borrow.Author.Tests.{eqb-true, eqb-false}
 use native.Mathlib.Omega.{arith}
 use lib.Dec.{eqb}
 use lib.ListN.{length, getD, take, drop, take-append-drop}
-use Rattle.integers.specs.Digits.{pick}
-use Rattle.integers.proofs.Radix.{Below}
+use Rattle.ber_integers.specs.Digits.{pick}
+use Rattle.ber_integers.proofs.Radix.{Below}
 use Rattle.framing.specs.declared.Event.{Event}
 use Rattle.framing.specs.declared.Event.the-variants as ev
 use Rattle.framing.specs.declared.Fed.{Fed}
@@ -19,12 +19,12 @@ use Rattle.framing.specs.Numbers.{storeLength}
 use Rattle.framing.specs.Rules.{begin}
 use Rattle.framing.specs.Session.{sessionOf, saidBy, legal, Legal, Whole, answers, feeds}
 use Rattle.framing.proofs.Calls.{some-call}
-use Rattle.session_words.specs.Words.{wordsOf, sessionAt, isSession}
+use Rattle.framing_words.specs.Words.{wordsOf, sessionAt, isSession}
 use Rattle.framing_c.specs.Calls.{Called, accepts, told as framed, calls}
-use Rattle.session_words.proofs.Laws.{words-back}
-use Rattle.entries.specs.Entry.{Rows}
-use Rattle.crosspoints.specs.Figures.{both}
-use Rattle.crosspoints.specs.Crosspoints.{Cells}
+use Rattle.framing_words.proofs.Laws.{words-back}
+use Rattle.glow_rows.specs.Entry.{Rows}
+use Rattle.desk_crosspoints.specs.Figures.{both}
+use Rattle.desk_crosspoints.specs.Crosspoints.{Cells}
 use Rattle.turns.specs.declared.After.{After}
 use Rattle.turns.specs.Rules.{Desk, isLegal}
 use Rattle.turns.specs.Turns as claim

@@ -7,18 +7,18 @@ use native.Mathlib.Omega.{arith}
 use borrow.Author.Tests.{eq-eqb, ne-eqb, le-leb, lt-leb, eqb-true}
 use lib.Dec.{leb, eqb}
 use lib.ListN.{length, getD, set, take}
-use Rattle.integers.specs.Digits.{pick}
-use Rattle.entries.specs.Entry.{Rows}
-use Rattle.glow.specs.declared.Answer as tree
-use Rattle.glow.specs.declared.Answer.the-variants as trees
-use Rattle.glow.specs.Message.{saidBy}
+use Rattle.ber_integers.specs.Digits.{pick}
+use Rattle.glow_rows.specs.Entry.{Rows}
+use Rattle.glow_reader.specs.declared.Answer as tree
+use Rattle.glow_reader.specs.declared.Answer.the-variants as trees
+use Rattle.glow_reader.specs.Message.{saidBy}
 use Rattle.framing_c.specs.Calls.{calls}
-use Rattle.crosspoints.specs.declared.Figures.{Figures}
-use Rattle.crosspoints.specs.declared.Limit.{Limit}
-use Rattle.crosspoints.specs.declared.Limit.the-variants.{Absent, Most}
-use Rattle.crosspoints.specs.Figures.{side, both}
-use Rattle.crosspoints.specs.Crosspoints.{Cells, Answer, answer}
-use Rattle.routing.specs.Request.{requested}
+use Rattle.desk_crosspoints.specs.declared.Figures.{Figures}
+use Rattle.desk_crosspoints.specs.declared.Limit.{Limit}
+use Rattle.desk_crosspoints.specs.declared.Limit.the-variants.{Absent, Most}
+use Rattle.desk_crosspoints.specs.Figures.{side, both}
+use Rattle.desk_crosspoints.specs.Crosspoints.{Cells, Answer, answer}
+use Rattle.desk_requests.specs.Request.{requested}
 use Rattle.desk_calls.specs.declared.Called as asked
 use Rattle.desk_calls.specs.Calls.{deskLegal, deskOpened, Outcome, called, told as answered}
 use Rattle.turns.specs.declared.After.{After}

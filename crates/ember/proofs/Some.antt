@@ -7,7 +7,7 @@ use borrow.Author.Tests.{eqb-true, eqb-false, eq-eqb, leb-true, le-leb}
 use native.Mathlib.Omega.{arith}
 use lib.Dec.{leb, eqb}
 use lib.ListN.{length}
-use Rattle.integers.proofs.Radix.{Below}
+use Rattle.ber_integers.proofs.Radix.{Below}
 use Rattle.framing.specs.declared.Fed.{Fed}
 use Rattle.framing.specs.declared.Session.{Session}
 use Rattle.framing.specs.Numbers.{storeLength}
@@ -18,14 +18,14 @@ use Rattle.framing.proofs.Laws.{true-legal}
 use Rattle.framing.proofs.Sayable.{legal-answered}
 use Rattle.framing.proofs.Chunks.{call-ran, fresh-legal}
 use Rattle.framing.proofs.Calls as framing
-use Rattle.session_words.specs.Words.{wordsOf, sessionAt}
+use Rattle.framing_words.specs.Words.{wordsOf, sessionAt}
 use Rattle.framing_c.specs.Calls.{accepts, told as framed, calls}
-use Rattle.session_words.proofs.Laws.{words-back, words-session}
-use Rattle.entries.specs.Entry.{Rows}
-use Rattle.crosspoints.specs.declared.Figures.{Figures}
-use Rattle.crosspoints.specs.Figures.{side, both, figuresFit}
-use Rattle.crosspoints.specs.Crosspoints.{Cells, cellsFit, legal}
-use Rattle.crosspoints.proofs.Laws.{both-left, both-right}
+use Rattle.framing_words.proofs.Laws.{words-back, words-session}
+use Rattle.glow_rows.specs.Entry.{Rows}
+use Rattle.desk_crosspoints.specs.declared.Figures.{Figures}
+use Rattle.desk_crosspoints.specs.Figures.{side, both, figuresFit}
+use Rattle.desk_crosspoints.specs.Crosspoints.{Cells, cellsFit, legal}
+use Rattle.desk_crosspoints.proofs.Laws.{both-left, both-right}
 use Rattle.desk_calls.specs.Calls.{pathFits, allNumbers}
 use Rattle.desk_calls.proofs.Setup.{desk-fits, desk-legal, path-short}
 use Rattle.turns.specs.Rules.{Desk, isLegal, keep, tells, after}

@@ -6,13 +6,13 @@ use mathlib.Core.Path.{_≡_}
 use mathlib.Core.List.{List, [], _∷_, _++_}
 use lib.Dec.{leb, eqb}
 use lib.ListN.{length, getD, take}
-use Rattle.integers.specs.Digits.{pick}
-use Rattle.entries.specs.Entry.{Rows}
-use Rattle.glow.specs.Message.{saidBy, Said}
+use Rattle.ber_integers.specs.Digits.{pick}
+use Rattle.glow_rows.specs.Entry.{Rows}
+use Rattle.glow_reader.specs.Message.{saidBy, Said}
 use Rattle.framing_c.specs.Calls.{Called, calls}
-use Rattle.crosspoints.specs.Figures.{side, both}
-use Rattle.crosspoints.specs.Crosspoints.{Cells, Answer, answer}
-use Rattle.routing.specs.Request.{requested}
+use Rattle.desk_crosspoints.specs.Figures.{side, both}
+use Rattle.desk_crosspoints.specs.Crosspoints.{Cells, Answer, answer}
+use Rattle.desk_requests.specs.Request.{requested}
 use Rattle.desk_calls.specs.Calls.{deskLegal, deskOpened, Outcome, called}
 use Rattle.turns.specs.Rules.{Desk}
 use Rattle.turns.specs.Turns.{Later, none, read, desk}

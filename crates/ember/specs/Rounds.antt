@@ -6,8 +6,8 @@ use mathlib.Core.Path.{_≡_}
 use lib.ListN.{length, getD, take, drop}
 use Rattle.framing.specs.Rules.{Said}
 use Rattle.framing.specs.Session.{saidBy}
-use Rattle.entries.specs.Entry.{Rows}
-use Rattle.crosspoints.specs.Crosspoints.{Cells}
+use Rattle.glow_rows.specs.Entry.{Rows}
+use Rattle.desk_crosspoints.specs.Crosspoints.{Cells}
 use Rattle.turns.specs.declared.After.{After}
 use Rattle.turns.specs.Turns as claim
 use Rattle.turns.specs.Whole.{laterOf}

@@ -2,8 +2,8 @@
 use Prim.Native.Nat.{ℕ}
 use mathlib.Core.Path.{_≡_}
 use mathlib.Core.List.{List, [], _∷_}
-use Rattle.entries.specs.Entry.{Rows}
-use Rattle.crosspoints.specs.Crosspoints.{Cells}
+use Rattle.glow_rows.specs.Entry.{Rows}
+use Rattle.desk_crosspoints.specs.Crosspoints.{Cells}
 use Rattle.turns.specs.declared.After.{After}
 use Rattle.turns.specs.Whole.{laterOf}
 use Rattle.ember.specs.declared.after.Six.{Six}

@@ -4,11 +4,11 @@ use mathlib.Core.Bool.{Bool}
 use mathlib.Core.List.{List, [], _∷_}
 use lib.Dec.{eqb}
 use lib.ListN.{length, getD}
-use Rattle.integers.specs.Digits.{pick}
-use Rattle.crosspoints.specs.declared.Limit.{Limit}
-use Rattle.crosspoints.specs.declared.Limit.the-variants.{Absent, Most}
-use Rattle.crosspoints.specs.declared.Figures.{Figures}
-use Rattle.crosspoints.specs.Figures.{both}
+use Rattle.ber_integers.specs.Digits.{pick}
+use Rattle.desk_crosspoints.specs.declared.Limit.{Limit}
+use Rattle.desk_crosspoints.specs.declared.Limit.the-variants.{Absent, Most}
+use Rattle.desk_crosspoints.specs.declared.Figures.{Figures}
+use Rattle.desk_crosspoints.specs.Figures.{both}
 
 abbrev pub givenWord : Limit → ℕ
 givenWord Absent = 0

@@ -1,8 +1,8 @@
 // What came after the session's call, as six words.
-use glow::Answer;
+use glow_reader::Answer;
 use turns::After;
 ghost use mathlib.Core.Path.{_≡_};
-ghost use Rattle.glow.specs.Message.{saidBy};
+ghost use Rattle.glow_reader.specs.Message.{saidBy};
 ghost use Rattle.ember.specs.Calls.{treeWords};
 ghost use Rattle.ember.specs.Steps.{wordsIn, Words};
 
@@ -34,9 +34,9 @@ fn refused(a: Answer) -> Six
 {
     match a {
         Answer::Setup => make(1, 0, 0, 0, 0, 0),
-        Answer::Refused { number, place } => make(number, session_words::word(place), 0, 0, 0, 0),
-        Answer::Room { count } => make(38, 0, session_words::word(count), 0, 0, 0),
-        Answer::Read { root, count } => make(0, 0, session_words::word(count), root, 0, 0),
+        Answer::Refused { number, place } => make(number, framing_words::word(place), 0, 0, 0, 0),
+        Answer::Room { count } => make(38, 0, framing_words::word(count), 0, 0, 0),
+        Answer::Read { root, count } => make(0, 0, framing_words::word(count), root, 0, 0),
     }
 }
 
@@ -54,10 +54,10 @@ pub(crate) fn later(x: After) -> Six
         } => make(
             0,
             0,
-            session_words::word(count),
+            framing_words::word(count),
             root,
             number,
-            session_words::word(answered),
+            framing_words::word(answered),
         ),
     }
 }

@@ -4,8 +4,8 @@ mod sheet;
 mod words;
 
 use after::Six;
-use crosspoints::Figures;
 use desk_calls::Called;
+use desk_crosspoints::Figures;
 use turns::After;
 use turns::Handled;
 ghost use mathlib.Core.Path.{_≡_};
@@ -15,7 +15,7 @@ ghost use lib.ListN.{length, take};
 ghost use Rattle.framing_writer.specs.Written.{frame, requestBody, responseBody, into, frameInto, messageInto};
 ghost use Rattle.framing_c.specs.Calls.{starts, calls, puts};
 ghost use Rattle.glow_c.specs.Calls.{call, calls as readCalls, writing, writeCalls, acceptCalls};
-ghost use Rattle.crosspoints.specs.Crosspoints.{Cells, answer as answered};
+ghost use Rattle.desk_crosspoints.specs.Crosspoints.{Cells, answer as answered};
 ghost use Rattle.desk_calls.specs.Calls.{told};
 ghost use Rattle.turns.specs.Whole.{deskAt, gave};
 ghost use Rattle.ember.specs.Calls.{opens, legals, requests, counted, deskCall, deskCalls, lengthsFit, next, turned, turns};
@@ -183,7 +183,7 @@ fn put_answers(called: Called, answers: &mut [u8; 256], answer: &mut [u64]) -> u
     }
     let given = called.answers;
     *answers = given;
-    answer[0] = session_words::word(called.count);
+    answer[0] = framing_words::word(called.count);
     0
 }
 

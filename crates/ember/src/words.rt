@@ -1,6 +1,6 @@
 // A desk's figures as seven words, and back.
-use crosspoints::Figures;
-use crosspoints::Limit;
+use desk_crosspoints::Figures;
+use desk_crosspoints::Limit;
 ghost use mathlib.Core.Path.{_≡_};
 ghost use lib.ListN.{length, set};
 ghost use Rattle.ember.specs.Words.{givenWord, limitWord, wordsOf, limitAt, figuresAt, isLimit, isFigures};
@@ -40,16 +40,16 @@ pub(crate) fn figures_at(words: &[u64]) -> Figures
     ensures { λ r. ⌜ r ≡ figuresAt (now (words .entry)) ⌝ }
 {
     Figures {
-        kind: session_words::word_at(words, 0),
-        targets: session_words::word_at(words, 1),
-        sources: session_words::word_at(words, 2),
+        kind: framing_words::word_at(words, 0),
+        targets: framing_words::word_at(words, 1),
+        sources: framing_words::word_at(words, 2),
         total: limit_at(
-            session_words::word_at(words, 3),
-            session_words::word_at(words, 4),
+            framing_words::word_at(words, 3),
+            framing_words::word_at(words, 4),
         ),
         each: limit_at(
-            session_words::word_at(words, 5),
-            session_words::word_at(words, 6),
+            framing_words::word_at(words, 5),
+            framing_words::word_at(words, 6),
         ),
     }
 }

@@ -12,21 +12,21 @@ use lib.IntN.{pos, negsuc}
 use lib.Ieee as Ieee
 use lib.Ieee.{Float, binary64}
 use lib.Ieee.Bits.{ofBits-toBits, toBits-lt, nanBits-is}
-use Rattle.integers.specs.Digits.{pick}
-use Rattle.integers.specs.Integer.{signed}
-use Rattle.integers.proofs.Radix.{Below, lt-or-le}
-use Rattle.integers.proofs.RoundTrip.{read-fits}
-use Rattle.reals.specs.Write.{form}
-use Rattle.reals.specs.Means.{Means}
-use Rattle.reals.proofs.Exactly.{exactly}
-use Rattle.reals.proofs.RoundTrip.{read-written as real-written}
-use Rattle.values.specs.Value.{isListed}
-use Rattle.identifiers.specs.Identifier.{Arcs, bad, over, numbers, arcs}
-use Rattle.grammar.specs.Leaf.{expects, least, most, inRange, isName, isPath}
-use Rattle.forest.specs.Content.{Content, nothing, word, bytes, wrong, isWord, isPart, intOf}
-use Rattle.forest.specs.Legal.{isFormed, isReal, wordSuits, pathSuits, listSuits, partSuits, suits, lengthOf, pathOf}
-use Rattle.reading_back.proofs.Bools.{never, both-left, both-right, unless, part-kinds, word-kinds}
-use Rattle.read_trees.proofs.Leaves.{word-low, form-no-nan}
+use Rattle.ber_integers.specs.Digits.{pick}
+use Rattle.ber_integers.specs.Integer.{signed}
+use Rattle.ber_integers.proofs.Radix.{Below, lt-or-le}
+use Rattle.ber_integers.proofs.RoundTrip.{read-fits}
+use Rattle.ber_reals.specs.Write.{form}
+use Rattle.ber_reals.specs.Means.{Means}
+use Rattle.ber_reals.proofs.Exactly.{exactly}
+use Rattle.ber_reals.proofs.RoundTrip.{read-written as real-written}
+use Rattle.ber_values.specs.Value.{isListed}
+use Rattle.ber_identifiers.specs.Identifier.{Arcs, bad, over, numbers, arcs}
+use Rattle.glow_grammar.specs.Leaf.{expects, least, most, inRange, isName, isPath}
+use Rattle.glow_trees.specs.Content.{Content, nothing, word, bytes, wrong, isWord, isPart, intOf}
+use Rattle.glow_trees.specs.Legal.{isFormed, isReal, wordSuits, pathSuits, listSuits, partSuits, suits, lengthOf, pathOf}
+use Rattle.trees_read_back.proofs.Bools.{never, both-left, both-right, unless, part-kinds, word-kinds}
+use Rattle.trees_accepted.proofs.Leaves.{word-low, form-no-nan}
 use Rattle.encodings.specs.Says.{Says, untrue, truth, integer, octets, real, text, identifier, Numbers}
 use Rattle.encodings.specs.Encodes.{Fits, a-name, a-text, a-flag, any-word, any-text, any-octets, a-number, a-path, sources, in-range}
 use Rattle.encodings.proofs.Septets.{arcs-exactly}

@@ -7,16 +7,16 @@ use mathlib.Core.Bool.{true}
 use mathlib.Core.Logic.{_⊎_, inl, inr, ⊎-elim}
 use native.Mathlib.Omega.{arith}
 use lib.ListN.{length, getD, set, length-set}
-use Rattle.integers.proofs.Radix.{lt-or-le}
-use Rattle.grammar.specs.Grammar.{ruleOf, required}
-use Rattle.members.specs.Members.{column}
-use Rattle.forest.specs.Content.{Content, nothing}
-use Rattle.forest.specs.Trees.{Trees}
-use Rattle.forest.specs.Legal.{present, complete}
-use Rattle.read_trees.proofs.Bools.{never, both-left, both-right}
-use Rattle.read_trees.proofs.Tables.{Kind, body-at, required-at, required-some, is-set, inner-rule}
-use Rattle.read_trees.proofs.Parts.{seq-column}
-use Rattle.read_trees.proofs.Lists.{get-set, get-other, complete-by, nothings, nothings-get}
+use Rattle.ber_integers.proofs.Radix.{lt-or-le}
+use Rattle.glow_grammar.specs.Grammar.{ruleOf, required}
+use Rattle.glow_steps.specs.Members.{column}
+use Rattle.glow_trees.specs.Content.{Content, nothing}
+use Rattle.glow_trees.specs.Trees.{Trees}
+use Rattle.glow_trees.specs.Legal.{present, complete}
+use Rattle.trees_accepted.proofs.Bools.{never, both-left, both-right}
+use Rattle.trees_accepted.proofs.Tables.{Kind, body-at, required-at, required-some, is-set, inner-rule}
+use Rattle.trees_accepted.proofs.Parts.{seq-column}
+use Rattle.trees_accepted.proofs.Lists.{get-set, get-other, complete-by, nothings, nothings-get}
 use Rattle.encodings.specs.Values.{Values, end, plain, nest}
 use Rattle.encodings.specs.Encodes.{absent, Ascending, Members, done, over, past, leaf, contents, kids, links}
 use Rattle.encodings.proofs.Fitting.{fits-plain}

@@ -1,5 +1,5 @@
 -- The reader's answer to every message of at most 16,384 octets and every table of at most 256 rows, by what the message encodes alone: `read-exactly` for the
--- definition that the contract of `glow::read` equates its answer with, `call-exactly` for every call that its contract allows.
+-- definition that the contract of `glow_reader::read` equates its answer with, `call-exactly` for every call that its contract allows.
 use Prim.Native.Nat.{ℕ, _≤_, _<_}
 use mathlib.Core.Path.{_≡_, refl, sym, ap, subst, _∙_}
 use mathlib.Core.List.{List, []}
@@ -15,27 +15,27 @@ use borrow.Fn.World as World
 use borrow.Fn.Kinds as K
 use lib.ListN.{length}
 use lib.Dec.{ltb}
-use Rattle.integers.specs.Digits.{pick}
-use Rattle.integers.proofs.Radix.{Below, lt-or-le}
-use Rattle.containers.specs.declared.Onto.{Onto}
-use Rattle.containers.specs.declared.Onto.the-variants.{Next, Refused as Stopped}
-use Rattle.containers.proofs.Heads.{pick-by}
-use Rattle.entries.specs.Entry.{Entries, Rows, overlay}
-use Rattle.walk.specs.Walk.{walk}
-use Rattle.glow.specs.declared.Answer.{Answer}
-use Rattle.glow.specs.declared.Answer.the-variants.{Room, Read}
-use Rattle.glow.specs.Message.{Said, saidBy, refusals, Result, result, setup, readOf, readAt}
-use Rattle.glow.proofs.Answers.{past-untouched, refusal-numbers}
-use Rattle.glow.proofs.read
-use Rattle.glow.proofs.read.Kinds as read-kinds
-use Rattle.glow.proofs.read.Reads as read-reads
-use Rattle.forest.specs.Content.{itemsOf}
-use Rattle.forest.specs.Rows.{itemsIn}
-use Rattle.forest.specs.Trees.{Trees, count, flat}
-use Rattle.read_trees.specs.Stood.{Stood}
-use Rattle.read_trees.proofs.Once.{stood-once}
-use Rattle.reading_back.proofs.ReadBack.{flat-count}
-use Rattle.tree_round_trip.proofs.Rows.{rows-items, tree-sixteen}
+use Rattle.ber_integers.specs.Digits.{pick}
+use Rattle.ber_integers.proofs.Radix.{Below, lt-or-le}
+use Rattle.ber_containers.specs.declared.Onto.{Onto}
+use Rattle.ber_containers.specs.declared.Onto.the-variants.{Next, Refused as Stopped}
+use Rattle.ber_containers.proofs.Heads.{pick-by}
+use Rattle.glow_rows.specs.Entry.{Entries, Rows, overlay}
+use Rattle.glow_walk.specs.Walk.{walk}
+use Rattle.glow_reader.specs.declared.Answer.{Answer}
+use Rattle.glow_reader.specs.declared.Answer.the-variants.{Room, Read}
+use Rattle.glow_reader.specs.Message.{Said, saidBy, refusals, Result, result, setup, readOf, readAt}
+use Rattle.glow_reader.proofs.Answers.{past-untouched, refusal-numbers}
+use Rattle.glow_reader.proofs.read
+use Rattle.glow_reader.proofs.read.Kinds as read-kinds
+use Rattle.glow_reader.proofs.read.Reads as read-reads
+use Rattle.glow_trees.specs.Content.{itemsOf}
+use Rattle.glow_trees.specs.Rows.{itemsIn}
+use Rattle.glow_trees.specs.Trees.{Trees, count, flat}
+use Rattle.trees_accepted.specs.Stood.{Stood}
+use Rattle.trees_accepted.proofs.Once.{stood-once}
+use Rattle.trees_read_back.proofs.ReadBack.{flat-count}
+use Rattle.trees_round_trip.proofs.Rows.{rows-items, tree-sixteen}
 use Rattle.encodings.specs.Encodes.{Encodes}
 use Rattle.encodings.specs.Reading.{ReadAs, LacksRoom, Refuses, AnswersExactly}
 use Rattle.encodings.proofs.Exactly.{accepted, items-stood}
@@ -139,7 +139,7 @@ module _ (s : List ℕ) (below : Below 256 s) (few : length s ≤ 16384) (rows :
     refuses = (refused-none, none-refused);
   }
 
--- `glow::read` was called with the message s and the table, gave a, and left the table′: what its contract has it ensure.
+-- `glow_reader::read` was called with the message s and the table, gave a, and left the table′: what its contract has it ensure.
 pub record ReadCall (s : List ℕ) (table : Rows) (a : Answer) (table′ : Rows) : Type 0 where
   pub κs : Lfts 2
   pub args : World.ArgsD read.signature κs

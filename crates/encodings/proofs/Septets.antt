@@ -8,14 +8,14 @@ use native.Mathlib.Omega.{arith}
 use borrow.Author.Tests.{le-leb, leb-true}
 use lib.ListN.{length, getD, take}
 use lib.Dec.{leb}
-use Rattle.integers.specs.Digits.{pick, horner, digits, count}
-use Rattle.integers.proofs.Radix.{Below, horner-append, digits-below}
-use Rattle.tags.specs.Write.{marked, septets}
-use Rattle.tags.proofs.Septets.{septets-value}
-use Rattle.tags.proofs.Written.{not-80}
-use Rattle.identifiers.specs.Identifier.{numbers, arcs, oidOctets, inRange}
-use Rattle.identifiers.proofs.RoundTrip.{septets-unique, arcs-read, read-written}
-use Rattle.reading_back.proofs.Bools.{never}
+use Rattle.ber_integers.specs.Digits.{pick, horner, digits, count}
+use Rattle.ber_integers.proofs.Radix.{Below, horner-append, digits-below}
+use Rattle.ber_tags.specs.Write.{marked, septets}
+use Rattle.ber_tags.proofs.Septets.{septets-value}
+use Rattle.ber_tags.proofs.Written.{not-80}
+use Rattle.ber_identifiers.specs.Identifier.{numbers, arcs, oidOctets, inRange}
+use Rattle.ber_identifiers.proofs.RoundTrip.{septets-unique, arcs-read, read-written}
+use Rattle.trees_read_back.proofs.Bools.{never}
 use Rattle.encodings.specs.Values.{Groups, last, further, Fewest, groups}
 use Rattle.encodings.specs.Says.{Numbers, none, number}
 

@@ -10,27 +10,27 @@ use lib.ListN.{length, getD, set, drop, length-append, length-set}
 use lib.Dec.{eqb}
 use lib.Ieee as Ieee
 use lib.Ieee.{Float, binary64}
-use Rattle.integers.specs.Digits.{natural, count}
-use Rattle.integers.specs.Integer.{signed, shortest}
-use Rattle.integers.proofs.Radix.{Below, lt-or-le, natural-lt, count-least}
-use Rattle.integers.proofs.RoundTrip.{read-written, read-fits}
-use Rattle.tags.proofs.Shortest.{length-length-short, length-length-long}
-use Rattle.reals.specs.Means.{Means}
-use Rattle.entries.specs.Cell.{wordOf}
-use Rattle.grammar.specs.Grammar as grammar
-use Rattle.grammar.specs.Grammar.{ruleOf, applications}
-use Rattle.members.specs.Members.{column}
-use Rattle.forest.specs.Content.{Content, nothing, intOf}
-use Rattle.forest.specs.Trees.{Trees, none, tree}
-use Rattle.forest.specs.Legal.{inner}
-use Rattle.forest.specs.Written.{tagged, spelled, memberOctets, membersOctets, wrapped, own, treesOctets, rootNumber, messageOctets}
-use Rattle.containers.proofs.Heads.{pick-by}
-use Rattle.read_trees.proofs.Sizes.{lengthSize, length-more, length-few, around, tagged-size, outer-size, wrapped-size, kindly, member-size}
-use Rattle.read_trees.proofs.Leaves.{word-back}
-use Rattle.read_trees.proofs.Sizes as sizes
-use Rattle.read_trees.proofs.Tables.{Kind, plain-at, body-at, is-set, inner-rule, application-short, stands-kind}
-use Rattle.read_trees.proofs.Parts.{own-first, inner-all, inner-set, own-set, seq-column, all-nothing, blank-own, blank-body}
-use Rattle.read_trees.proofs.Lists.{get-other, size-set, sizeFrom, nothings, nothings-size}
+use Rattle.ber_integers.specs.Digits.{natural, count}
+use Rattle.ber_integers.specs.Integer.{signed, shortest}
+use Rattle.ber_integers.proofs.Radix.{Below, lt-or-le, natural-lt, count-least}
+use Rattle.ber_integers.proofs.RoundTrip.{read-written, read-fits}
+use Rattle.ber_tags.proofs.Shortest.{length-length-short, length-length-long}
+use Rattle.ber_reals.specs.Means.{Means}
+use Rattle.glow_rows.specs.Cell.{wordOf}
+use Rattle.glow_grammar.specs.Grammar as grammar
+use Rattle.glow_grammar.specs.Grammar.{ruleOf, applications}
+use Rattle.glow_steps.specs.Members.{column}
+use Rattle.glow_trees.specs.Content.{Content, nothing, intOf}
+use Rattle.glow_trees.specs.Trees.{Trees, none, tree}
+use Rattle.glow_trees.specs.Legal.{inner}
+use Rattle.glow_trees.specs.Written.{tagged, spelled, memberOctets, membersOctets, wrapped, own, treesOctets, rootNumber, messageOctets}
+use Rattle.ber_containers.proofs.Heads.{pick-by}
+use Rattle.trees_accepted.proofs.Sizes.{lengthSize, length-more, length-few, around, tagged-size, outer-size, wrapped-size, kindly, member-size}
+use Rattle.trees_accepted.proofs.Leaves.{word-back}
+use Rattle.trees_accepted.proofs.Sizes as sizes
+use Rattle.trees_accepted.proofs.Tables.{Kind, plain-at, body-at, is-set, inner-rule, application-short, stands-kind}
+use Rattle.trees_accepted.proofs.Parts.{own-first, inner-all, inner-set, own-set, seq-column, all-nothing, blank-own, blank-body}
+use Rattle.trees_accepted.proofs.Lists.{get-other, size-set, sizeFrom, nothings, nothings-size}
 use Rattle.encodings.specs.Values.{Values, end, plain, nest, Lengths, Spells, value, container, opened}
 use Rattle.encodings.specs.Values as values
 use Rattle.encodings.specs.Says.{Says, untrue, truth, integer, octets, real, text, identifier}

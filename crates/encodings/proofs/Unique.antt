@@ -6,9 +6,9 @@ use mathlib.Core.Bool.{Bool}
 use native.Mathlib.Omega.{arith}
 use lib.ListN.{length, getD, drop}
 use lib.Dec.{leb}
-use Rattle.integers.specs.Digits.{horner, natural}
-use Rattle.tags.proofs.Written.{first-low, first-class, first-bit}
-use Rattle.reading_back.proofs.Bools.{never}
+use Rattle.ber_integers.specs.Digits.{horner, natural}
+use Rattle.ber_tags.proofs.Written.{first-low, first-class, first-bit}
+use Rattle.trees_read_back.proofs.Bools.{never}
 use Rattle.encodings.specs.Values.{Values, plain, nest, definite, indefinite, Groups, last, further, Fewest, groups, lead, Tags, short, long, Lengths}
 use Rattle.encodings.specs.Values.{Spells, nothing, value, container, opened}
 use Rattle.encodings.specs.Values as values

@@ -11,26 +11,26 @@ use lib.Dec.{ltb, eqb}
 use lib.Ieee as Ieee
 use lib.Ieee.{binary64}
 use lib.Ieee.Bits.{ofBits-fits}
-use Rattle.integers.specs.Digits.{natural, digits, count}
-use Rattle.integers.proofs.Radix.{lt-or-le, length-digits, horner-digits, count-holds, count-least}
-use Rattle.tags.specs.Write.{tagOctets, lengthOctets}
-use Rattle.reals.specs.Write.{form}
-use Rattle.reals.specs.Means.{Plain}
-use Rattle.reals.proofs.RoundTrip.{written-plain}
-use Rattle.containers.proofs.Heads.{pick-by}
-use Rattle.grammar.specs.Grammar.{ruleOf, contentsOf, applications}
-use Rattle.grammar.specs.Leaf.{expects}
-use Rattle.forest.specs.Content.{Content, nothing, word, bytes, wrong, isWord, isPart}
-use Rattle.forest.specs.Trees.{Trees, none, tree}
-use Rattle.forest.specs.Legal.{isReal, wordSuits, suits, suited, ruleAt, inner, pathAfter, isRoot, legal, legalRoot}
-use Rattle.forest.specs.Written.{tagged, outer, spelled, memberOctets, membersOctets, wrapped, own, treesOctets, rootNumber, messageOctets, formOctets}
-use Rattle.forest.specs.Written.{writtenReal}
-use Rattle.reading_back.proofs.Bools.{both-left, both-right, unless, word-kinds, part-kinds}
-use Rattle.reading_back.proofs.Growth.{right}
-use Rattle.read_trees.proofs.Sizes.{around, tagged-size}
-use Rattle.read_trees.proofs.Tables.{stands-kind, application-short}
-use Rattle.tree_round_trip.proofs.Rows.{legal-held}
-use Rattle.tree_round_trip.proofs.Reals.{real-form}
+use Rattle.ber_integers.specs.Digits.{natural, digits, count}
+use Rattle.ber_integers.proofs.Radix.{lt-or-le, length-digits, horner-digits, count-holds, count-least}
+use Rattle.ber_tags.specs.Write.{tagOctets, lengthOctets}
+use Rattle.ber_reals.specs.Write.{form}
+use Rattle.ber_reals.specs.Means.{Plain}
+use Rattle.ber_reals.proofs.RoundTrip.{written-plain}
+use Rattle.ber_containers.proofs.Heads.{pick-by}
+use Rattle.glow_grammar.specs.Grammar.{ruleOf, contentsOf, applications}
+use Rattle.glow_grammar.specs.Leaf.{expects}
+use Rattle.glow_trees.specs.Content.{Content, nothing, word, bytes, wrong, isWord, isPart}
+use Rattle.glow_trees.specs.Trees.{Trees, none, tree}
+use Rattle.glow_trees.specs.Legal.{isReal, wordSuits, suits, suited, ruleAt, inner, pathAfter, isRoot, legal, legalRoot}
+use Rattle.glow_trees.specs.Written.{tagged, outer, spelled, memberOctets, membersOctets, wrapped, own, treesOctets, rootNumber, messageOctets, formOctets}
+use Rattle.glow_trees.specs.Written.{writtenReal}
+use Rattle.trees_read_back.proofs.Bools.{both-left, both-right, unless, word-kinds, part-kinds}
+use Rattle.trees_read_back.proofs.Growth.{right}
+use Rattle.trees_accepted.proofs.Sizes.{around, tagged-size}
+use Rattle.trees_accepted.proofs.Tables.{stands-kind, application-short}
+use Rattle.trees_round_trip.proofs.Rows.{legal-held}
+use Rattle.trees_round_trip.proofs.Reals.{real-form}
 use Rattle.encodings.specs.Values.{Values, end, plain, nest, definite, lead, Tags, short, Lengths, Spells, value, container, opened}
 use Rattle.encodings.specs.Values as values
 use Rattle.encodings.specs.Encodes.{message}

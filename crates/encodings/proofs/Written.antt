@@ -12,28 +12,28 @@ use lib.Seq.{take-at}
 use lib.Ieee as Ieee
 use lib.Ieee.{Float, binary64}
 use lib.Ieee.Bits.{ofBits-toBits, ofBits-fits}
-use Rattle.integers.specs.Digits.{outcome}
-use Rattle.integers.specs.declared.Wrote.the-variants.{Next}
-use Rattle.integers.proofs.Radix.{Below, lt-or-le}
-use Rattle.reals.specs.Write.{Form, form}
-use Rattle.reals.specs.Means.{Means, Plain}
-use Rattle.reals.proofs.Exactly.{exactly}
-use Rattle.reals.proofs.RoundTrip.{read-written, written-least}
-use Rattle.real_sizes.specs.Sizes as sizes
-use Rattle.real_sizes.proofs.Spelled as spelled-sizes
-use Rattle.entries.specs.Entry.{Rows}
-use Rattle.forest.specs.Rows.{itemsIn}
-use Rattle.forest.specs.Trees.{Trees, flat, treesOf}
-use Rattle.forest.specs.Legal.{isReal, legalRoot}
-use Rattle.forest.specs.Written.{messageOctets, formOctets, writtenReal}
-use Rattle.member_sizes.specs.Spelling.{leastReal}
-use Rattle.tree_sizes.specs.Accepted.{octetsOf}
-use Rattle.reading_back.proofs.Leaves.{Spells}
-use Rattle.reading_back.proofs.ReadBack.{reads-back, same-tree, written-spells}
-use Rattle.tree_round_trip.proofs.Octets.{Octets, rows-octets, message-below}
-use Rattle.tree_round_trip.proofs.Reals.{real-form, least-spells, least-below, reals-least}
-use Rattle.tree_round_trip.proofs.Writing.{made, told, fitting}
-use Rattle.tree_round_trip.proofs.Theorems.{written}
+use Rattle.ber_integers.specs.Digits.{outcome}
+use Rattle.ber_integers.specs.declared.Wrote.the-variants.{Next}
+use Rattle.ber_integers.proofs.Radix.{Below, lt-or-le}
+use Rattle.ber_reals.specs.Write.{Form, form}
+use Rattle.ber_reals.specs.Means.{Means, Plain}
+use Rattle.ber_reals.proofs.Exactly.{exactly}
+use Rattle.ber_reals.proofs.RoundTrip.{read-written, written-least}
+use Rattle.ber_real_sizes.specs.Sizes as sizes
+use Rattle.ber_real_sizes.proofs.Spelled as spelled-sizes
+use Rattle.glow_rows.specs.Entry.{Rows}
+use Rattle.glow_trees.specs.Rows.{itemsIn}
+use Rattle.glow_trees.specs.Trees.{Trees, flat, treesOf}
+use Rattle.glow_trees.specs.Legal.{isReal, legalRoot}
+use Rattle.glow_trees.specs.Written.{messageOctets, formOctets, writtenReal}
+use Rattle.glow_member_sizes.specs.Spelling.{leastReal}
+use Rattle.glow_sizes.specs.Accepted.{octetsOf}
+use Rattle.trees_read_back.proofs.Leaves.{Spells}
+use Rattle.trees_read_back.proofs.ReadBack.{reads-back, same-tree, written-spells}
+use Rattle.trees_round_trip.proofs.Octets.{Octets, rows-octets, message-below}
+use Rattle.trees_round_trip.proofs.Reals.{real-form, least-spells, least-below, reals-least}
+use Rattle.trees_round_trip.proofs.Writing.{made, told, fitting}
+use Rattle.trees_round_trip.proofs.Theorems.{written}
 use Rattle.encodings.specs.Values.{Values, end, plain, nest}
 use Rattle.encodings.specs.Encodes.{Encodes}
 use Rattle.encodings.specs.Writing.{PlainReals}

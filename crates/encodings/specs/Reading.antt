@@ -5,12 +5,12 @@ use mathlib.Core.List.{List}
 use mathlib.Core.Logic.{_↔_}
 use types.Run.{OneOf}
 use lib.ListN.{length, drop}
-use Rattle.entries.specs.Entry.{Rows}
-use Rattle.glow.specs.declared.Answer.{Answer}
-use Rattle.glow.specs.Message.{saidBy, refusals}
-use Rattle.forest.specs.Rows.{itemsIn}
-use Rattle.forest.specs.Trees.{Trees, count, flat}
-use Rattle.read_trees.specs.Stood.{Stood}
+use Rattle.glow_rows.specs.Entry.{Rows}
+use Rattle.glow_reader.specs.declared.Answer.{Answer}
+use Rattle.glow_reader.specs.Message.{saidBy, refusals}
+use Rattle.glow_trees.specs.Rows.{itemsIn}
+use Rattle.glow_trees.specs.Trees.{Trees, count, flat}
+use Rattle.trees_accepted.specs.Stood.{Stood}
 use Rattle.encodings.specs.Encodes.{Encodes}
 
 -- 0, as the tree t, whose kinds stand where the grammar has them: "The answer names Root's kind" and how many entries there are; the table's first rows hold

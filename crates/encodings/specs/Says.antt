@@ -5,10 +5,10 @@ use mathlib.Core.List.{List, [], _∷_, _++_}
 use lib.ListN.{length}
 use lib.Ieee as Ieee
 use lib.Ieee.{Float, binary64}
-use Rattle.integers.specs.Integer.{signed, nine}
-use Rattle.reals.specs.Means.{Means}
-use Rattle.entries.specs.Cell.{wordOf}
-use Rattle.forest.specs.Content.{Content, word, bytes}
+use Rattle.ber_integers.specs.Integer.{signed, nine}
+use Rattle.ber_reals.specs.Means.{Means}
+use Rattle.glow_rows.specs.Cell.{wordOf}
+use Rattle.glow_trees.specs.Content.{Content, word, bytes}
 use Rattle.encodings.specs.Values.{Fewest}
 
 -- "first nine bits not all equal"

@@ -1,11 +1,11 @@
 // frames: reads lines of hexadecimal digits on standard input, each a chunk of an S101 stream, and prints a line for
 // each event and one at the end.
-use frame_lines::line;
-use frame_lines::line::Line;
-use frame_lines::line::Stop;
-use frame_lines::text;
 use framing::Event;
 use framing::Session;
+use framing_lines::line;
+use framing_lines::line::Line;
+use framing_lines::line::Stop;
+use framing_lines::text;
 use libc::STDERR_FILENO;
 use libc::STDIN_FILENO;
 use libc::STDOUT_FILENO;
@@ -13,7 +13,7 @@ ghost use mathlib.Core.Path.{_≡_};
 ghost use Prim.Native.Nat.{_+_, _≤_, min};
 ghost use lib.ListN.{length};
 ghost use Rattle.framing.specs.Session.{saidBy};
-ghost use Rattle.frame_lines.specs.Text.{wrote, badLineText, eventText, endText, lineRoom};
+ghost use Rattle.framing_lines.specs.Text.{wrote, badLineText, eventText, endText, lineRoom};
 
 // What is kept from chunk to chunk: the session, the count of bytes consumed, how many bytes of output wait, and
 // whether all is done.

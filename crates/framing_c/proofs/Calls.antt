@@ -29,7 +29,7 @@ use Rattle.framing_writer.specs.Written.{bodyLimit, frame, requestBody, respons
 use Rattle.framing_writer.specs.Written.{frameRoom, messageRoom}
 use Rattle.framing_writer.proofs.Calls as writer
 use Rattle.framing_writer.proofs.Sizes.{frame-fits, message-fits}
-use Rattle.session_words.specs.Words.{wordsOf, sessionAt}
+use Rattle.framing_words.specs.Words.{wordsOf, sessionAt}
 use Rattle.framing_c.specs.Calls.{Started, starts, Called, accepts, told as toldBy, calls, Put, puts}
 use Rattle.framing_c.specs.Offers.{startNumbers, Turn, consumed, Turns, none, turn, eaten, told, Serves, done, whole, part}
 use Rattle.framing_c.proofs.Laws.{accepts-legal, calls-setup, calls-words}

@@ -23,8 +23,8 @@ use Rattle.framing.proofs.Laws.{true-legal, legal-true}
 use Rattle.framing.proofs.Sayable.{legal-answered}
 use Rattle.framing.proofs.Chunks as chunks
 use Rattle.framing.proofs.Calls as framing
-use Rattle.session_words.specs.Words.{wordsOf, sessionAt}
-use Rattle.session_words.proofs.Laws.{words-back}
+use Rattle.framing_words.specs.Words.{wordsOf, sessionAt}
+use Rattle.framing_words.proofs.Laws.{words-back}
 use Rattle.framing_c.specs.Calls.{Started, starts, Called, accepts, told as toldBy, calls}
 use Rattle.framing_c.specs.Offers.{Turn, consumed, taken, says, Turns, none, turn, eaten, told, Stopped, Stops, AsRules}
 use Rattle.framing_c.proofs.Laws.{accepts-session, accepts-legal, accepts-words}

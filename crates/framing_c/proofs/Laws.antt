@@ -14,10 +14,10 @@ use Rattle.framing.specs.Session.{saidBy, answers, legal, feeds}
 use Rattle.framing_writer.specs.declared.Written.{Written}
 use Rattle.framing_writer.specs.declared.Written.the-variants.{Done, Out}
 use Rattle.framing_writer.specs.Written.{Outcome, outcome}
-use Rattle.events.specs.Events.{lengthOf}
-use Rattle.events.proofs.Said.{said-is}
-use Rattle.session_words.specs.Words.{wordsOf, sessionAt, isSession, sessionPut}
-use Rattle.session_words.proofs.Laws.{words-back, words-session, session-length, put-four}
+use Rattle.framing_events.specs.Events.{lengthOf}
+use Rattle.framing_events.proofs.Said.{said-is}
+use Rattle.framing_words.specs.Words.{wordsOf, sessionAt, isSession, sessionPut}
+use Rattle.framing_words.proofs.Laws.{words-back, words-session, session-length, put-four}
 use Rattle.framing_c.specs.Calls.{Told, accepts, told, calls, tells, puts}
 
 never : false ≡ true → ⊥

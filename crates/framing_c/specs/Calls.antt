@@ -10,7 +10,7 @@ use Rattle.framing.specs.Session.{Whole, sessionOf, legal, feeds}
 use Rattle.framing_writer.specs.declared.Written.{Written}
 use Rattle.framing_writer.specs.declared.Written.the-variants.{Done, Out}
 use Rattle.framing_writer.specs.Written.{Outcome}
-use Rattle.session_words.specs.Words.{wordsOf, sessionAt, isSession}
+use Rattle.framing_words.specs.Words.{wordsOf, sessionAt, isSession}
 
 -- The number, and the session's words.
 pub record Started : Type 0 where

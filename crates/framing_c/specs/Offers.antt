@@ -10,7 +10,7 @@ use Rattle.framing.specs.Numbers.{pick}
 use Rattle.framing.specs.Offers.{EndsWith}
 use Rattle.framing.specs.Rules.{State, Said, Happening, quiet, noted, happens, after}
 use Rattle.framing.specs.Session.{stateOf}
-use Rattle.session_words.specs.Words.{sessionAt}
+use Rattle.framing_words.specs.Words.{sessionAt}
 use Rattle.framing_c.specs.Calls.{Called, accepts, calls}
 
 -- The rows of "Numbers answered" that framing_start may give. (framing_feed: feedNumbers; the writers: writeNumbers.)

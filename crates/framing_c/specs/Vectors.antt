@@ -11,7 +11,7 @@ use Rattle.framing.specs.Session.{kept, run, feeds}
 use Rattle.framing_writer.specs.Written.{Outcome}
 use Rattle.framing_writer.specs.declared.Written.{Written}
 use Rattle.framing_writer.specs.declared.Written.the-variants.{Done, Out}
-use Rattle.session_words.specs.Words.{frameAt, pendingAt, isFrame, isPending, isSession}
+use Rattle.framing_words.specs.Words.{frameAt, pendingAt, isFrame, isPending, isSession}
 use Rattle.framing_c.specs.Calls.{Started, starts, Called, accepts, told, calls, Told, tells, Put, puts}
 
 abbrev four : ℕ → ℕ → ℕ → ℕ → List ℕ

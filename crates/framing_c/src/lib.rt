@@ -7,7 +7,7 @@ ghost use Prim.Native.Nat.{min};
 ghost use lib.ListN;
 ghost use Rattle.framing.specs.Session.{legal as isLegal};
 ghost use Rattle.framing_writer.specs.Written.{frame, requestBody, responseBody, into, frameInto, messageInto};
-ghost use Rattle.session_words.specs.Words.{sessionAt};
+ghost use Rattle.framing_words.specs.Words.{sessionAt};
 ghost use Rattle.framing_c.specs.Calls.{starts, accepts as isAccepted, calls, tells, puts};
 
 // A fresh session. 0, or 1 where the session has not four words.
@@ -18,14 +18,14 @@ pub extern "C" fn framing_start(session: &mut [u64]) -> u64
     if session.len() != 4 {
         return 1;
     }
-    session_words::put_session(session, framing::start());
+    framing_words::put_session(session, framing::start());
     0
 }
 
 fn legal_words(session: &[u64], n: usize) -> bool
     ensures { λ r. ⌜ r ≡ isLegal (sessionAt (now (session .entry))) n ⌝ }
 {
-    framing::is_legal(session_words::session_at(session), n)
+    framing::is_legal(framing_words::session_at(session), n)
 }
 
 // Whether a call is no SETUP: of the session's words, a store of n bytes, and an answer of k words.
@@ -35,7 +35,7 @@ fn accepts(session: &[u64], n: usize, k: usize) -> bool
     if k != 3 {
         return false;
     }
-    if session_words::is_session(session) {
+    if framing_words::is_session(session) {
         return legal_words(session, n);
     }
     false
@@ -74,18 +74,18 @@ pub extern "C" fn framing_feed(
     ensures { λ r. ⌜ calls (now (session .entry)) (now (store .entry)) (now (chunk .entry)) (now (answer .entry)) ≡ record { number = r; session = now (session .exit); store = now (store .exit); answer = now (answer .exit) } ⌝ }
 {
     if accepts(session, store.len(), answer.len()) {
-        let fed = framing::feed(session_words::session_at(session), store, chunk);
+        let fed = framing::feed(framing_words::session_at(session), store, chunk);
         let event = fed.event;
         let next = fed.session;
-        session_words::put_session(session, next);
-        let length = least(events::message_length(event), store.len());
+        framing_words::put_session(session, next);
+        let length = least(framing_events::message_length(event), store.len());
         put_answer(
             answer,
-            bit(events::is_discarded(event)),
-            session_words::word(fed.consumed),
-            session_words::word(length),
+            bit(framing_events::is_discarded(event)),
+            framing_words::word(fed.consumed),
+            framing_words::word(length),
         );
-        return events::number(event);
+        return framing_events::number(event);
     }
     1
 }
@@ -96,7 +96,7 @@ fn tell(result: Written, count: &mut u64) -> u64
 {
     match result {
         Written::Done { length } => {
-            *count = session_words::word(length);
+            *count = framing_words::word(length);
             0
         }
         Written::Out => 46,

@@ -5,16 +5,16 @@ use mathlib.Core.List.{List, [], _∷_}
 use native.Mathlib.Omega.{arith}
 use borrow.Author.Tests.{eq-eqb, ne-eqb}
 use lib.ListN.{length, set}
-use Rattle.entries.specs.Entry.{Rows}
-use Rattle.glow.specs.declared.Answer.{Answer}
-use Rattle.glow.specs.declared.Answer.the-variants.{Refused, Room, Read}
-use Rattle.glow.specs.Message.{saidBy, result, readAt}
-use Rattle.integers.specs.declared.Wrote.{Wrote}
-use Rattle.integers.specs.declared.Wrote.the-variants.{Next, Out}
-use Rattle.integers.specs.Digits.{pick, Put, wrote, outcome}
-use Rattle.forest.specs.Rows.{itemsIn}
-use Rattle.member_sizes.specs.Spelling.{leastReal}
-use Rattle.tree_sizes.specs.Accepted.{fits}
+use Rattle.glow_rows.specs.Entry.{Rows}
+use Rattle.glow_reader.specs.declared.Answer.{Answer}
+use Rattle.glow_reader.specs.declared.Answer.the-variants.{Refused, Room, Read}
+use Rattle.glow_reader.specs.Message.{saidBy, result, readAt}
+use Rattle.ber_integers.specs.declared.Wrote.{Wrote}
+use Rattle.ber_integers.specs.declared.Wrote.the-variants.{Next, Out}
+use Rattle.ber_integers.specs.Digits.{pick, Put, wrote, outcome}
+use Rattle.glow_trees.specs.Rows.{itemsIn}
+use Rattle.glow_member_sizes.specs.Spelling.{leastReal}
+use Rattle.glow_sizes.specs.Accepted.{fits}
 use Rattle.glow_writer.specs.Writes.{writes}
 use Rattle.glow_c.specs.Calls.{Call, call, wordsOf, called, calls, Writing, writing, lengthWord, wroteAs, writeCalls, acceptCalls}
 use mathlib.Core.Bool.{Bool, true, false}

@@ -5,16 +5,16 @@ use mathlib.Core.List.{List}
 use lib.Dec.{leb, eqb}
 use lib.ListN.{length}
 use types.Run.{OneOf, hit}
-use Rattle.integers.specs.Digits.{Put, put}
-use Rattle.containers.proofs.Heads.{pick-by}
-use Rattle.entries.specs.Entry.{Rows}
-use Rattle.forest.specs.Rows.{itemsIn}
-use Rattle.forest.specs.Written.{writtenReal}
-use Rattle.member_sizes.specs.Spelling.{leastReal}
-use Rattle.tree_sizes.specs.Accepted.{octetsOf, fits}
+use Rattle.ber_integers.specs.Digits.{Put, put}
+use Rattle.ber_containers.proofs.Heads.{pick-by}
+use Rattle.glow_rows.specs.Entry.{Rows}
+use Rattle.glow_trees.specs.Rows.{itemsIn}
+use Rattle.glow_trees.specs.Written.{writtenReal}
+use Rattle.glow_member_sizes.specs.Spelling.{leastReal}
+use Rattle.glow_sizes.specs.Accepted.{octetsOf, fits}
 use Rattle.glow_writer.specs.Writes.{writes}
-use Rattle.glow.specs.Message.{readNumbers}
-use Rattle.glow.proofs.Answers.{read-numbers}
+use Rattle.glow_reader.specs.Message.{readNumbers}
+use Rattle.glow_reader.proofs.Answers.{read-numbers}
 use Rattle.glow_c.specs.Calls.{Call, calls, Writing, writeCalls, acceptCalls}
 use Rattle.glow_c.specs.Numbers.{writeNumbers, acceptNumbers}
 

@@ -3,18 +3,18 @@ use Prim.Native.Nat.{ℕ}
 use mathlib.Core.List.{List, [], _∷_}
 use lib.ListN.{length}
 use lib.Dec.{eqb}
-use Rattle.integers.specs.Digits.{pick}
-use Rattle.entries.specs.Entry.{Rows}
-use Rattle.integers.specs.declared.Wrote.{Wrote}
-use Rattle.integers.specs.declared.Wrote.the-variants.{Next, Out}
-use Rattle.integers.specs.Digits.{Put}
-use Rattle.forest.specs.Rows.{itemsIn}
-use Rattle.member_sizes.specs.Spelling.{leastReal}
-use Rattle.tree_sizes.specs.Accepted.{fits}
+use Rattle.ber_integers.specs.Digits.{pick}
+use Rattle.glow_rows.specs.Entry.{Rows}
+use Rattle.ber_integers.specs.declared.Wrote.{Wrote}
+use Rattle.ber_integers.specs.declared.Wrote.the-variants.{Next, Out}
+use Rattle.ber_integers.specs.Digits.{Put}
+use Rattle.glow_trees.specs.Rows.{itemsIn}
+use Rattle.glow_member_sizes.specs.Spelling.{leastReal}
+use Rattle.glow_sizes.specs.Accepted.{fits}
 use Rattle.glow_writer.specs.Writes.{writes}
-use Rattle.glow.specs.declared.Answer.{Answer}
-use Rattle.glow.specs.declared.Answer.the-variants.{Setup, Refused, Room, Read}
-use Rattle.glow.specs.Message.{Said, saidBy, Result, readAt}
+use Rattle.glow_reader.specs.declared.Answer.{Answer}
+use Rattle.glow_reader.specs.declared.Answer.the-variants.{Setup, Refused, Room, Read}
+use Rattle.glow_reader.specs.Message.{Said, saidBy, Result, readAt}
 
 pub record Call : Type 0 where
   pub number : ℕ

@@ -1,4 +1,4 @@
--- With which numbers the calls answer: the rows of document 01's "Numbers answered". (glow_read: readNumbers, crates/glow/specs/Message.antt.)
+-- With which numbers the calls answer: the rows of document 01's "Numbers answered". (glow_read: readNumbers, crates/glow_reader/specs/Message.antt.)
 use Prim.Native.Nat.{ℕ}
 use mathlib.Core.List.{List, [], _∷_}
 

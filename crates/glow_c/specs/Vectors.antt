@@ -2,10 +2,10 @@
 use Prim.Native.Nat.{ℕ}
 use mathlib.Core.Path.{_≡_, refl}
 use mathlib.Core.List.{List, [], _∷_, map}
-use Rattle.integers.specs.declared.Wrote.{Wrote}
-use Rattle.integers.specs.declared.Wrote.the-variants.{Next, Out}
-use Rattle.glow.specs.declared.Answer.{Answer}
-use Rattle.glow.specs.declared.Answer.the-variants.{Setup, Refused, Room, Read}
+use Rattle.ber_integers.specs.declared.Wrote.{Wrote}
+use Rattle.ber_integers.specs.declared.Wrote.the-variants.{Next, Out}
+use Rattle.glow_reader.specs.declared.Answer.{Answer}
+use Rattle.glow_reader.specs.declared.Answer.the-variants.{Setup, Refused, Room, Read}
 use Rattle.glow_c.specs.Calls.{Call, call, wordsOf, calls, Writing, writing, lengthWord, writeCalls}
 
 abbrev three : ℕ → ℕ → ℕ → List ℕ

@@ -1,12 +1,12 @@
 // The C interface of the tree reader and the tree writer: numbers and lent slices (include/glow.h).
-use glow::Answer;
-use integers::Wrote;
+use ber_integers::Wrote;
+use glow_reader::Answer;
 ghost use mathlib.Core.Path.{_≡_};
 ghost use mathlib.Core.List.{[], _∷_};
 ghost use lib.ListN.{length};
-ghost use Rattle.glow.specs.Message.{saidBy};
+ghost use Rattle.glow_reader.specs.Message.{saidBy};
 ghost use Rattle.glow_c.specs.Calls.{call, wordsOf, calls, lengthWord, writing, writeCalls, acceptCalls};
-ghost use Rattle.integers.specs.Digits.{wrote};
+ghost use Rattle.ber_integers.specs.Digits.{wrote};
 
 fn put(answer: &mut [u64], place: u64, count: u64, root: u64)
     requires { ⌜ length (now answer) ≡ 3 ⌝ }
@@ -54,7 +54,7 @@ pub extern "C" fn glow_read(message: &[u8], table: &mut [[u64; 50]], answer: &mu
     if answer.len() != 3 {
         return 1;
     }
-    tell(glow::read(message, table), answer)
+    tell(glow_reader::read(message, table), answer)
 }
 
 // The number of what was written, and its length.
@@ -100,7 +100,7 @@ pub extern "C" fn glow_write(
 pub extern "C" fn glow_accepts(rows: &[[u64; 50]], count: usize, root: u64, message: &[u8]) -> u64
     ensures { λ r. ⌜ acceptCalls (now (rows .entry)) count root (now (message .entry)) ≡ r ⌝ }
 {
-    if tree_sizes::is_tree(rows, count, root, message) {
+    if glow_sizes::is_tree(rows, count, root, message) {
         return 1;
     }
     0

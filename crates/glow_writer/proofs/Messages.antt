@@ -7,24 +7,24 @@ use native.Mathlib.Omega.{arith}
 use borrow.Author.Tests.{leb-true}
 use lib.Dec.{T, leb, eqb}
 use lib.ListN.{length}
-use Rattle.integers.specs.declared.Wrote.the-variants.{Next, Out}
-use Rattle.integers.specs.Digits.{pick, put, unchanged, outcome}
-use Rattle.integers.proofs.Laws.{put-out}
-use Rattle.grammar.specs.Leaf.{both}
-use Rattle.forest.specs.Content.{Item}
-use Rattle.forest.specs.Trees.{Trees, treesOf}
-use Rattle.forest.specs.Legal.{isRoot, legal, legalRoot}
-use Rattle.forest.specs.Written.{tagged, treesOctets, rootNumber, messageOctets, writtenReal}
-use Rattle.tree_sizes.specs.declared.Measured.{Measured}
+use Rattle.ber_integers.specs.declared.Wrote.the-variants.{Next, Out}
+use Rattle.ber_integers.specs.Digits.{pick, put, unchanged, outcome}
+use Rattle.ber_integers.proofs.Laws.{put-out}
+use Rattle.glow_grammar.specs.Leaf.{both}
+use Rattle.glow_trees.specs.Content.{Item}
+use Rattle.glow_trees.specs.Trees.{Trees, treesOf}
+use Rattle.glow_trees.specs.Legal.{isRoot, legal, legalRoot}
+use Rattle.glow_trees.specs.Written.{tagged, treesOctets, rootNumber, messageOctets, writtenReal}
+use Rattle.glow_sizes.specs.declared.Measured.{Measured}
 use Rattle.glow_writer.specs.declared.write.Placed.{Placed}
-use Rattle.tree_sizes.specs.Accepted.{isEnd, isWhole, octetsOf, fits, lengthOf}
+use Rattle.glow_sizes.specs.Accepted.{isEnd, isWhole, octetsOf, fits, lengthOf}
 use Rattle.glow_writer.specs.Writes.{writes}
-use Rattle.member_sizes.specs.Sizes.{cap, taggedSize}
-use Rattle.tree_sizes.specs.Sizes.{Gives}
+use Rattle.glow_member_sizes.specs.Sizes.{cap, taggedSize}
+use Rattle.glow_sizes.specs.Sizes.{Gives}
 use Rattle.glow_writer.specs.Puts.{Puts, head, treesAt, ItemsPut}
-use Rattle.member_sizes.proofs.Caps.{cap-in, over-tagged}
-use Rattle.member_sizes.proofs.Members.{tagged-length}
-use Rattle.tree_sizes.proofs.Entry.{both-left, both-right}
+use Rattle.glow_member_sizes.proofs.Caps.{cap-in, over-tagged}
+use Rattle.glow_member_sizes.proofs.Members.{tagged-length}
+use Rattle.glow_sizes.proofs.Entry.{both-left, both-right}
 use Rattle.glow_writer.proofs.Putting.{tagged-put}
 use Rattle.glow_writer.proofs.Placing.{measured-is}
 

@@ -8,25 +8,25 @@ use borrow.Author.Tests.{eq-eqb, ne-eqb, le-leb, leb-true}
 use lib.Dec.{T, leb, eqb}
 use lib.ListN.{length, take, drop, getD, length-append}
 use lib.Seq.{length-take-le, drop-drop, getD-take}
-use Rattle.integers.specs.Digits.{pick}
-use Rattle.entries.specs.Entry.{Rows}
-use Rattle.grammar.specs.Grammar.{applications, ruleOf, required, children, connections}
-use Rattle.grammar.specs.Grammar as grammar
-use Rattle.grammar.specs.Leaf.{both}
-use Rattle.forest.specs.Content.{Content, Item, itemOf, itemsOf, contentsOf}
-use Rattle.forest.specs.Rows.{cellsFrom, entryOf, entriesOf, itemsIn}
-use Rattle.forest.specs.Trees.{Trees, none, tree, standsIn, stands, Taken, taken, takenBy, count}
-use Rattle.forest.specs.Legal.{suited, complete, pathAfter, empty, inner, isNone, legal}
-use Rattle.forest.specs.Written.{tagged, membersOctets, wrapped, own, treesOctets, writtenReal}
-use Rattle.tree_sizes.specs.declared.Entered.{Entered}
-use Rattle.tree_sizes.specs.declared.Measured.{Measured}
+use Rattle.ber_integers.specs.Digits.{pick}
+use Rattle.glow_rows.specs.Entry.{Rows}
+use Rattle.glow_grammar.specs.Grammar.{applications, ruleOf, required, children, connections}
+use Rattle.glow_grammar.specs.Grammar as grammar
+use Rattle.glow_grammar.specs.Leaf.{both}
+use Rattle.glow_trees.specs.Content.{Content, Item, itemOf, itemsOf, contentsOf}
+use Rattle.glow_trees.specs.Rows.{cellsFrom, entryOf, entriesOf, itemsIn}
+use Rattle.glow_trees.specs.Trees.{Trees, none, tree, standsIn, stands, Taken, taken, takenBy, count}
+use Rattle.glow_trees.specs.Legal.{suited, complete, pathAfter, empty, inner, isNone, legal}
+use Rattle.glow_trees.specs.Written.{tagged, membersOctets, wrapped, own, treesOctets, writtenReal}
+use Rattle.glow_sizes.specs.declared.Entered.{Entered}
+use Rattle.glow_sizes.specs.declared.Measured.{Measured}
 use Rattle.glow_writer.specs.declared.write.Placed.{Placed}
-use Rattle.member_sizes.specs.Sizes.{cap, taggedSize}
-use Rattle.tree_sizes.specs.Sizes.{wrappedSize, entryOctets, entered, enteredAt, measured, Gives}
+use Rattle.glow_member_sizes.specs.Sizes.{cap, taggedSize}
+use Rattle.glow_sizes.specs.Sizes.{wrappedSize, entryOctets, entered, enteredAt, measured, Gives}
 use Rattle.glow_writer.specs.Puts.{Puts, heads, entryPart, treesAt, kidsAt, linksAt, oneAt, ItemsPut, ItemPuts, InsidePuts}
-use Rattle.member_sizes.proofs.Caps.{cap-in, over-tagged}
-use Rattle.member_sizes.proofs.Members.{outer-length}
-use Rattle.tree_sizes.proofs.Entry.{wrapped-length, tagged-some, entered-is}
+use Rattle.glow_member_sizes.proofs.Caps.{cap-in, over-tagged}
+use Rattle.glow_member_sizes.proofs.Members.{outer-length}
+use Rattle.glow_sizes.proofs.Entry.{wrapped-length, tagged-some, entered-is}
 use Rattle.glow_writer.proofs.Putting.{puts-then, puts-none, puts-as, outer-put, application-small, wrapped-within, wrapped-empty, wrapped-put}
 
 never : {P : Type 0} → false ≡ true → P

@@ -13,31 +13,31 @@ use lib.Seq.{length-take-le}
 use lib.IntN.{ℤ}
 use lib.Ieee as Ieee
 use lib.Ieee.{binary64}
-use Rattle.integers.specs.declared.Wrote.{Wrote}
-use Rattle.integers.specs.declared.Wrote.the-variants.{Next}
-use Rattle.integers.specs.Digits.{pick, Put, put, outcome}
-use Rattle.integers.specs.Integer.{shortest}
-use Rattle.integers.proofs.Laws.{put-in}
-use Rattle.integers.proofs.Radix.{lt-or-le}
-use Rattle.integers.proofs.Output.{put-next, put-length}
-use Rattle.reals.specs.Write.{Form, unwritten, octets, form, putForm, writeAt}
-use Rattle.reals.proofs.Puts.{put-then}
-use Rattle.tags.specs.Write.{bit, tagOctets, lengthOctets, putLength}
-use Rattle.values.specs.Write.{putPart}
-use Rattle.entries.specs.declared.Cell.{Cell}
-use Rattle.grammar.specs.Grammar.{applications}
-use Rattle.grammar.specs.Grammar as grammar
-use Rattle.grammar.specs.Leaf.{both, expects}
-use Rattle.forest.specs.Content.{Content, nothing, word, bytes, wrong, isPart, isWord, contentOf, contentsOf, intOf}
-use Rattle.forest.specs.Rows.{cellAt, cellsFrom}
-use Rattle.forest.specs.Legal.{isReal, isFormed, wordSuits, suits, ruleAt, suited, inner}
-use Rattle.forest.specs.Written.{tagged, spelled, memberOctets, membersOctets, wrapped, own, rootNumber, writtenReal, formOctets}
-use Rattle.member_sizes.specs.Sizes.{cap, taggedSize, nextOf, WordSized}
-use Rattle.tree_sizes.specs.Sizes.{cellsSize, split}
+use Rattle.ber_integers.specs.declared.Wrote.{Wrote}
+use Rattle.ber_integers.specs.declared.Wrote.the-variants.{Next}
+use Rattle.ber_integers.specs.Digits.{pick, Put, put, outcome}
+use Rattle.ber_integers.specs.Integer.{shortest}
+use Rattle.ber_integers.proofs.Laws.{put-in}
+use Rattle.ber_integers.proofs.Radix.{lt-or-le}
+use Rattle.ber_integers.proofs.Output.{put-next, put-length}
+use Rattle.ber_reals.specs.Write.{Form, unwritten, octets, form, putForm, writeAt}
+use Rattle.ber_reals.proofs.Puts.{put-then}
+use Rattle.ber_tags.specs.Write.{bit, tagOctets, lengthOctets, putLength}
+use Rattle.ber_values.specs.Write.{putPart}
+use Rattle.glow_rows.specs.declared.Cell.{Cell}
+use Rattle.glow_grammar.specs.Grammar.{applications}
+use Rattle.glow_grammar.specs.Grammar as grammar
+use Rattle.glow_grammar.specs.Leaf.{both, expects}
+use Rattle.glow_trees.specs.Content.{Content, nothing, word, bytes, wrong, isPart, isWord, contentOf, contentsOf, intOf}
+use Rattle.glow_trees.specs.Rows.{cellAt, cellsFrom}
+use Rattle.glow_trees.specs.Legal.{isReal, isFormed, wordSuits, suits, ruleAt, suited, inner}
+use Rattle.glow_trees.specs.Written.{tagged, spelled, memberOctets, membersOctets, wrapped, own, rootNumber, writtenReal, formOctets}
+use Rattle.glow_member_sizes.specs.Sizes.{cap, taggedSize, nextOf, WordSized}
+use Rattle.glow_sizes.specs.Sizes.{cellsSize, split}
 use Rattle.glow_writer.specs.Puts.{Puts, head, heads, entryPart}
-use Rattle.member_sizes.proofs.Caps.{cap-in, over-tagged}
-use Rattle.member_sizes.proofs.Members.{tagged-length, outer-length, content-part, content-out, part-small, word-small, word-known}
-use Rattle.tree_sizes.proofs.Entry.{both-left, both-right, cells-sized}
+use Rattle.glow_member_sizes.proofs.Caps.{cap-in, over-tagged}
+use Rattle.glow_member_sizes.proofs.Members.{tagged-length, outer-length, content-part, content-out, part-small, word-small, word-known}
+use Rattle.glow_sizes.proofs.Entry.{both-left, both-right, cells-sized}
 
 never : {P : Type 0} → false ≡ true → P
 never e = absurd (subst (λ (b : Bool). T (not b)) e tt)

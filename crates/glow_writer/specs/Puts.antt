@@ -5,17 +5,17 @@ use mathlib.Core.List.{List, [], _∷_, _++_}
 use mathlib.Core.Bool.{true}
 use lib.Dec.{eqb}
 use lib.ListN.{length, drop, getD}
-use Rattle.integers.specs.declared.Wrote.the-variants.{Next}
-use Rattle.integers.specs.Digits.{pick, put, outcome}
-use Rattle.tags.specs.Write.{lengthOctets}
-use Rattle.grammar.specs.Grammar.{children, connections}
-use Rattle.entries.specs.Entry.{Rows}
-use Rattle.forest.specs.Content.{Content, Item, contentsOf}
-use Rattle.forest.specs.Rows.{cellsFrom, itemsIn}
-use Rattle.forest.specs.Trees.{Trees, none, tree, takenBy, count}
-use Rattle.forest.specs.Legal.{isReal, suits, suited, inner, legal}
-use Rattle.forest.specs.Written.{spelled, memberOctets, membersOctets, wrapped, own, treesOctets, writtenReal}
-use Rattle.member_sizes.specs.Sizes.{taggedSize}
+use Rattle.ber_integers.specs.declared.Wrote.the-variants.{Next}
+use Rattle.ber_integers.specs.Digits.{pick, put, outcome}
+use Rattle.ber_tags.specs.Write.{lengthOctets}
+use Rattle.glow_grammar.specs.Grammar.{children, connections}
+use Rattle.glow_rows.specs.Entry.{Rows}
+use Rattle.glow_trees.specs.Content.{Content, Item, contentsOf}
+use Rattle.glow_trees.specs.Rows.{cellsFrom, itemsIn}
+use Rattle.glow_trees.specs.Trees.{Trees, none, tree, takenBy, count}
+use Rattle.glow_trees.specs.Legal.{isReal, suits, suited, inner, legal}
+use Rattle.glow_trees.specs.Written.{spelled, memberOctets, membersOctets, wrapped, own, treesOctets, writtenReal}
+use Rattle.glow_member_sizes.specs.Sizes.{taggedSize}
 use Rattle.glow_writer.specs.declared.write.Placed.{Placed}
 
 -- Octets of at most 16,384, for which there is room, stand at `at`, and r is the place after them.

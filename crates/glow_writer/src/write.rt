@@ -1,36 +1,36 @@
 // The message of a tree, written forward: each length is measured before what it counts is written.
-use entries::Cell;
-use integers::Wrote;
-use member_sizes::around;
-use member_sizes::index;
-use member_sizes::int_of;
-use member_sizes::is_part;
-use member_sizes::place;
-use member_sizes::plus;
-use member_sizes::wide;
-use member_sizes::word_size;
-use tree_sizes::cell_at;
-use tree_sizes::contents_size;
-use tree_sizes::entry_size;
-use tree_sizes::inside_of;
-use tree_sizes::measure;
-use tree_sizes::split_of;
-use tree_sizes::stands_in;
-use tree_sizes::trees_size;
-use tree_sizes::word_at;
-use tree_sizes::wrapped_size;
+use ber_integers::Wrote;
+use glow_member_sizes::around;
+use glow_member_sizes::index;
+use glow_member_sizes::int_of;
+use glow_member_sizes::is_part;
+use glow_member_sizes::place;
+use glow_member_sizes::plus;
+use glow_member_sizes::wide;
+use glow_member_sizes::word_size;
+use glow_rows::Cell;
+use glow_sizes::cell_at;
+use glow_sizes::contents_size;
+use glow_sizes::entry_size;
+use glow_sizes::inside_of;
+use glow_sizes::measure;
+use glow_sizes::split_of;
+use glow_sizes::stands_in;
+use glow_sizes::trees_size;
+use glow_sizes::word_at;
+use glow_sizes::wrapped_size;
 ghost use mathlib.Core.Path.{_≡_};
 ghost use mathlib.Core.List.{[], _∷_};
 ghost use Prim.Native.Nat.{_+_, _-_, _%_, _≤_, _<_};
 ghost use lib.ListN.{length, getD};
 ghost use lib.Dec.{eqb};
-ghost use Rattle.integers.specs.Digits.{pick, outcome};
-ghost use Rattle.grammar.specs.Grammar.{applications};
-ghost use Rattle.forest.specs.Content.{contentOf};
-ghost use Rattle.forest.specs.Rows.{itemsIn};
-ghost use Rattle.forest.specs.Written.{rootNumber};
+ghost use Rattle.ber_integers.specs.Digits.{pick, outcome};
+ghost use Rattle.glow_grammar.specs.Grammar.{applications};
+ghost use Rattle.glow_trees.specs.Content.{contentOf};
+ghost use Rattle.glow_trees.specs.Rows.{itemsIn};
+ghost use Rattle.glow_trees.specs.Written.{rootNumber};
 ghost use Rattle.glow_writer.specs.Writes.{writes};
-ghost use Rattle.member_sizes.specs.Sizes.{taggedSize};
+ghost use Rattle.glow_member_sizes.specs.Sizes.{taggedSize};
 ghost use Rattle.glow_writer.specs.Puts.{Puts, head, heads, rowCells, WordPuts, MemberPuts, MembersPut, EntryPuts, ItemsPut, ItemBy, InsideBy};
 
 // The next entry and the place after what was written.
@@ -42,7 +42,7 @@ pub struct Placed {
 fn put_octet(b: u8, out: &mut [u8], at: usize) -> usize
     ensures { λ r. ⌜ Puts (now (out .entry)) at (b ∷ []) r (now (out .exit)) ⌝ }
 {
-    place(integers::write_octet(b, out, at))
+    place(ber_integers::write_octet(b, out, at))
 }
 
 // A tag of one octet and a length.
@@ -50,7 +50,7 @@ fn put_head(tag: u8, n: u64, out: &mut [u8], at: usize) -> usize
     ensures { λ r. ⌜ (n ≤ 16384 → Puts (now (out .entry)) at (head tag n) r (now (out .exit))) ⌝ }
 {
     let a = put_octet(tag, out, at);
-    place(tags::write_length(n, out, a))
+    place(ber_tags::write_length(n, out, a))
 }
 
 // A context tag and the tag in it, around n octets.
@@ -82,9 +82,9 @@ fn put_word(kind: u64, w: u64, out: &mut [u8], at: usize) -> usize
         return put_octet(flag(w), out, at);
     }
     if kind == 2 {
-        return place(integers::write_int(int_of(w), out, at));
+        return place(ber_integers::write_int(int_of(w), out, at));
     }
-    place(reals::write_bits(w, out, at))
+    place(ber_reals::write_bits(w, out, at))
 }
 
 // A member with both tags; nothing for an absent one.
@@ -98,7 +98,7 @@ fn put_member(s: &[u8], v: Cell, number: u8, out: &mut [u8], at: usize) -> usize
     let tag = low(v.kind);
     if is_part(v.kind) {
         let a = put_outer(number, tag, v.second, out, at);
-        return place(values::write_part(s, index(v.first), index(v.second), out, a));
+        return place(ber_values::write_part(s, index(v.first), index(v.second), out, a));
     }
     let a = put_outer(number, tag, word_size(v.kind, v.first, false), out, at);
     put_word(v.kind, v.first, out, a)

@@ -5,11 +5,11 @@ mod line;
 
 use framing::Event;
 use framing::Session;
-use glow::Answer;
+use glow_reader::Answer;
 use libc::STDERR_FILENO;
 use libc::STDIN_FILENO;
 use line::Line;
-use requests::print;
+use program_lines::print;
 ghost use Prim.Native.Nat.{_≤_};
 
 // What is kept from chunk to chunk: the session, the count of events, and whether all is done.
@@ -48,7 +48,7 @@ fn number(answer: Answer) -> u64 {
 // What the tree reader answers to the first n bytes of the store.
 fn tree(store: &[u8], n: usize, table: &mut [[u64; 50]]) -> u64 {
     if n <= store.len() {
-        return number(glow::read(&store[..n], table));
+        return number(glow_reader::read(&store[..n], table));
     }
     1
 }
@@ -56,7 +56,7 @@ fn tree(store: &[u8], n: usize, table: &mut [[u64; 50]]) -> u64 {
 fn head(count: u64, event: Event) {
     print::decimal(count);
     print::say(b" ");
-    print::decimal(events::number(event));
+    print::decimal(framing_events::number(event));
 }
 
 // An event's line. Only a finished message goes on to the tree reader.

@@ -2,18 +2,18 @@
 use crate::put;
 use crate::put::Asked;
 use crate::value;
-use identifiers::Arc;
-use identifiers::Oid;
-use integers::Natural;
-use integers::Number;
-use reals::Read;
-use requests::print;
-use requests::text;
-use requests::text::Decimal;
-use requests::text::Hex;
-use tags::Head;
-use tags::Length;
-use values::Flag;
+use ber_identifiers::Arc;
+use ber_identifiers::Oid;
+use ber_integers::Natural;
+use ber_integers::Number;
+use ber_reals::Read;
+use ber_tags::Head;
+use ber_tags::Length;
+use ber_values::Flag;
+use program_lines::print;
+use program_lines::text;
+use program_lines::text::Decimal;
+use program_lines::text::Hex;
 
 fn word(x: usize) -> u64 {
     x as u64
@@ -24,7 +24,7 @@ fn wide(x: u8) -> u64 {
 }
 
 pub(crate) fn show_int(x: i64) {
-    let m = integers::magnitude(x);
+    let m = ber_integers::magnitude(x);
     if x < 0 {
         print::say(b"-");
         print::decimal(m + 1);
@@ -37,7 +37,7 @@ pub(crate) fn show_int(x: i64) {
 const AT: usize = 3;
 
 fn read_int(s: &[u8], n: usize) {
-    match integers::read_int(s, AT, n) {
+    match ber_integers::read_int(s, AT, n) {
         Number::Int(x) => {
             show_int(x);
             print::end();
@@ -54,12 +54,12 @@ pub(crate) fn show_real(x: f64) {
     }
     let mut room = [0u8; 8];
     let out: &mut [u8] = &mut room;
-    integers::write_octets(f64::to_bits(x), 8, out, 0);
+    ber_integers::write_octets(f64::to_bits(x), 8, out, 0);
     print::hex(out);
 }
 
 fn read_real(s: &[u8], n: usize) {
-    match reals::read_real(s, AT, n) {
+    match ber_reals::read_real(s, AT, n) {
         Read::Real(x) => {
             show_real(x);
             print::end();
@@ -77,7 +77,7 @@ pub(crate) fn show_bool(b: bool) {
 }
 
 fn read_bool(s: &[u8], n: usize) {
-    match values::read_bool(s, AT, n) {
+    match ber_values::read_bool(s, AT, n) {
         Flag::Is(b) => {
             show_bool(b);
             print::end();
@@ -102,7 +102,7 @@ fn from_there(next: usize) -> u64 {
 }
 
 fn read_tag(s: &[u8]) {
-    match tags::read_tag(s, AT, usize::MAX) {
+    match ber_tags::read_tag(s, AT, usize::MAX) {
         Head::Tag {
             class,
             constructed,
@@ -130,7 +130,7 @@ fn read_tag(s: &[u8]) {
 fn show_numbers(s: &[u8], end: usize) {
     let mut p: usize = AT;
     while p < end {
-        match identifiers::read_number(s, p, end) {
+        match ber_identifiers::read_number(s, p, end) {
             Arc::Number { number, next } => {
                 if AT < p {
                     print::dot();
@@ -150,7 +150,7 @@ fn show_numbers(s: &[u8], end: usize) {
 }
 
 fn read_oid(s: &[u8], n: usize) {
-    match identifiers::read_oid(s, AT, n) {
+    match ber_identifiers::read_oid(s, AT, n) {
         Oid::Numbers(count) => {
             if count == 0 {
                 print::say(b"-\n");
@@ -220,7 +220,7 @@ fn write_real(n: usize, work: &[u8]) {
         print::bad_line();
         return;
     }
-    match integers::read_unsigned(work, 0, 8) {
+    match ber_integers::read_unsigned(work, 0, 8) {
         Natural::Nat(bits) => put::put_plain(Asked::Bits(bits), work),
         Natural::Refused => print::bad_line(),
     }

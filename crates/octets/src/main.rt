@@ -16,9 +16,9 @@ mod ask;
 mod put;
 mod value;
 
-use requests::input;
-use requests::input::Input;
-use requests::print;
+use program_lines::input;
+use program_lines::input::Input;
+use program_lines::print;
 
 // Answers the line that was found.
 fn finish(found: Input, line: &[u8], work: &mut [u8], numbers: &mut [u64]) {

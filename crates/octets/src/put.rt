@@ -1,9 +1,9 @@
 // What the writers write, as the program tries it: with room enough, in one octet less than that took, and in exactly
 // as many.
-use integers::Wrote;
-use requests::print;
-use requests::room;
-use values::Value;
+use ber_integers::Wrote;
+use ber_values::Value;
+use program_lines::print;
+use program_lines::room;
 
 // What a request asks to be written. The numbers of an identifier, and a text or octets, are handed in beside it.
 pub enum Asked {
@@ -25,17 +25,17 @@ const AT: usize = 3;
 
 fn write(asked: Asked, src: &[u8], numbers: &[u64], out: &mut [u8]) -> Wrote {
     match asked {
-        Asked::Int(x) => integers::write_int(x, out, AT),
-        Asked::Bits(bits) => reals::write_bits(bits, out, AT),
-        Asked::Bool(b) => integers::write_octet(values::bool_octet(b), out, AT),
+        Asked::Int(x) => ber_integers::write_int(x, out, AT),
+        Asked::Bits(bits) => ber_reals::write_bits(bits, out, AT),
+        Asked::Bool(b) => ber_integers::write_octet(ber_values::bool_octet(b), out, AT),
         Asked::Tag {
             class,
             constructed,
             number,
-        } => tags::write_tag(class, constructed, number, out, AT),
-        Asked::Length(n) => tags::write_length(n, out, AT),
-        Asked::Oid => identifiers::write_oid(numbers, out, AT),
-        Asked::Whole(value) => values::write_value(value, src, out, AT),
+        } => ber_tags::write_tag(class, constructed, number, out, AT),
+        Asked::Length(n) => ber_tags::write_length(n, out, AT),
+        Asked::Oid => ber_identifiers::write_oid(numbers, out, AT),
+        Asked::Whole(value) => ber_values::write_value(value, src, out, AT),
     }
 }
 

@@ -3,13 +3,13 @@ use crate::ask;
 use crate::ask::Whole;
 use crate::put;
 use crate::put::Asked;
-use integers::Natural;
-use requests::print;
-use requests::text;
-use requests::text::Decimal;
-use requests::text::Hex;
-use values::Answer;
-use values::Value;
+use ber_integers::Natural;
+use ber_values::Answer;
+use ber_values::Value;
+use program_lines::print;
+use program_lines::text;
+use program_lines::text::Decimal;
+use program_lines::text::Hex;
 
 fn word(x: usize) -> u64 {
     x as u64
@@ -92,7 +92,7 @@ fn bound_of(line: &[u8], from: usize, end: usize) -> Decimal {
 }
 
 fn read_at(s: &[u8], at: u64, bound: u64) {
-    show(s, values::read_value(s, place(at), place(bound)));
+    show(s, ber_values::read_value(s, place(at), place(bound)));
 }
 
 // The value in the octets of a line that stand from a position on.
@@ -161,7 +161,7 @@ fn write_real(line: &[u8], from: usize, work: &mut [u8]) {
         print::bad_line();
         return;
     }
-    match integers::read_unsigned(work, 0, 8) {
+    match ber_integers::read_unsigned(work, 0, 8) {
         Natural::Nat(bits) => put_bits(bits, line),
         Natural::Refused => print::bad_line(),
     }

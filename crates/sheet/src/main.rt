@@ -1,8 +1,8 @@
 // sheet: the whole standard input is a route sheet. Prints the number of reading it and, after 0, the sheet of the desk that was read as it is written here.
 // An input of more than 600,000 bytes prints `too long`.
-use crosspoints::Figures;
+use desk_crosspoints::Figures;
 use libc::STDIN_FILENO;
-use requests::print;
+use program_lines::print;
 use sheet_reader::Sheet;
 use sheet_writer::Answer;
 ghost use mathlib.Core.Path.{_≡_};

@@ -8,25 +8,25 @@ use borrow.Author.Tests.{eq-eqb, ne-eqb}
 use lib.ListN.{length, take, drop, getD, length-take, drop-of-length-le}
 use lib.Seq.{take-at}
 use lib.Dec.{eqb}
-use Rattle.integers.specs.Digits.{pick}
-use Rattle.entries.specs.Entry.{Rows}
-use Rattle.entries.specs.declared.Cell.{Cell}
-use Rattle.forest.specs.Content.{Item, contentOf}
-use Rattle.forest.specs.Rows.{itemsIn}
-use Rattle.tree_sizes.specs.Accepted.{accepted}
-use Rattle.crosspoints.specs.declared.Figures.{Figures}
-use Rattle.crosspoints.specs.Figures.{both, figuresFit}
-use Rattle.crosspoints.specs.Crosspoints.{Cells, clear, Answer, answer, opened}
-use Rattle.crosspoints.proofs.Counts.{clear-length}
+use Rattle.ber_integers.specs.Digits.{pick}
+use Rattle.glow_rows.specs.Entry.{Rows}
+use Rattle.glow_rows.specs.declared.Cell.{Cell}
+use Rattle.glow_trees.specs.Content.{Item, contentOf}
+use Rattle.glow_trees.specs.Rows.{itemsIn}
+use Rattle.glow_sizes.specs.Accepted.{accepted}
+use Rattle.desk_crosspoints.specs.declared.Figures.{Figures}
+use Rattle.desk_crosspoints.specs.Figures.{both, figuresFit}
+use Rattle.desk_crosspoints.specs.Crosspoints.{Cells, clear, Answer, answer, opened}
+use Rattle.desk_crosspoints.proofs.Counts.{clear-length}
 use Rattle.desk_calls.specs.declared.Called.{Called}
-use Rattle.tree_sizes.specs.Sizes.{rowCell}
-use Rattle.connections.specs.Connections.{octetsOf, numbersIn, nobody}
+use Rattle.glow_sizes.specs.Sizes.{rowCell}
+use Rattle.desk_connections.specs.Connections.{octetsOf, numbersIn, nobody}
 use Rattle.desk_calls.specs.Calls.{pathFits, deskLegal, deskOpened, Served, handled, Outcome, filled, laid, called, told as answered}
-use Rattle.connections.proofs.Items.{in-at}
+use Rattle.desk_connections.proofs.Items.{in-at}
 use Rattle.desk_calls.proofs.Setup.{ready-from, called-ready, path-short, opened-not}
 use Rattle.desk_calls.proofs.Claims.{desk-opened-legal}
-use Rattle.sheets.specs.Reading as reading
-use Rattle.sheets.specs.Reading.{refused, firstRefused, applied, begun, opens, figuresIn, modeIn, pathIn, ofEntries}
+use Rattle.sheet_rules.specs.Reading as reading
+use Rattle.sheet_rules.specs.Reading.{refused, firstRefused, applied, begun, opens, figuresIn, modeIn, pathIn, ofEntries}
 use Rattle.sheet_reader.specs.declared.Sheet.{Sheet}
 use Rattle.sheet_reader.specs.declared.Sheet.the-variants.{Refused, Read}
 use Rattle.sheet_reader.specs.Calls.{leaves}
@@ -154,7 +154,7 @@ module _ (w : ℕ) (s : List ℕ) (rows : Rows) (n : ℕ) (h : n ≤ length rows
   module _ (v : Cell) (e : v ≡ rowCell rows 0 0) (r : ℕ) (list : List ℕ) (t : Taken (numbersIn (octetsOf (contentOf s v))) r list) where
     path-first : pathIn first ≡ numbersIn (octetsOf (contentOf s v))
     path-first =
-        ap (λ (c : Rattle.forest.specs.Content.Content). numbersIn (octetsOf c)) (first-member s rows)
+        ap (λ (c : Rattle.glow_trees.specs.Content.Content). numbersIn (octetsOf c)) (first-member s rows)
         ∙ ap (λ (x : Cell). numbersIn (octetsOf (contentOf s x))) (sym e)
 
     -- a path of more than sixteen numbers

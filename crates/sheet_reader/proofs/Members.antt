@@ -8,17 +8,17 @@ use borrow.Author.Tests.{eq-eqb, ne-eqb, eqb-true, lt-ltb}
 use lib.ListN.{length, take, drop, getD, drop-of-length-le}
 use lib.Seq.{drop-cons}
 use lib.Dec.{leb, eqb}
-use Rattle.integers.specs.Digits.{pick}
-use Rattle.entries.specs.Entry.{Rows}
-use Rattle.entries.specs.declared.Cell.{Cell}
-use Rattle.forest.specs.Content.{nothing, bytes, wrong, Item, contentOf, contentsOf, itemsOf, isPart, isWord}
-use Rattle.forest.specs.Rows.{cellsFrom, entriesOf, itemsIn}
-use Rattle.crosspoints.specs.declared.Limit.{Limit}
-use Rattle.crosspoints.specs.declared.Limit.the-variants.{Absent, Most}
-use Rattle.tree_sizes.specs.Sizes.{rowCell}
-use Rattle.connections.specs.Connections.{numberOf, memberOf, nobody}
-use Rattle.connections.proofs.Items.{in-length, in-kind}
-use Rattle.sheets.specs.Reading.{limitIn, figuresIn, modeIn, allLinks}
+use Rattle.ber_integers.specs.Digits.{pick}
+use Rattle.glow_rows.specs.Entry.{Rows}
+use Rattle.glow_rows.specs.declared.Cell.{Cell}
+use Rattle.glow_trees.specs.Content.{nothing, bytes, wrong, Item, contentOf, contentsOf, itemsOf, isPart, isWord}
+use Rattle.glow_trees.specs.Rows.{cellsFrom, entriesOf, itemsIn}
+use Rattle.desk_crosspoints.specs.declared.Limit.{Limit}
+use Rattle.desk_crosspoints.specs.declared.Limit.the-variants.{Absent, Most}
+use Rattle.glow_sizes.specs.Sizes.{rowCell}
+use Rattle.desk_connections.specs.Connections.{numberOf, memberOf, nobody}
+use Rattle.desk_connections.proofs.Items.{in-length, in-kind}
+use Rattle.sheet_rules.specs.Reading.{limitIn, figuresIn, modeIn, allLinks}
 use Rattle.sheet_reader.specs.Steps.{firstOf, isSheet}
 
 -- ---- a limit

@@ -7,26 +7,26 @@ use native.Mathlib.Omega.{arith}
 use borrow.Author.Tests.{le-ltb}
 use lib.Dec.{ltb}
 use lib.ListN.{length, getD}
-use Rattle.integers.specs.Digits.{pick}
-use Rattle.integers.proofs.Radix.{Below}
-use Rattle.containers.specs.declared.Onto.{Onto}
-use Rattle.containers.specs.declared.Onto.the-variants.{Next, Refused as Stopped}
-use Rattle.entries.specs.Entry.{Entries, Rows, overlay}
-use Rattle.glow.specs.declared.Answer.{Answer}
-use Rattle.glow.specs.declared.Answer.the-variants as glow
-use Rattle.walk.specs.Walk.{walk}
-use Rattle.glow.specs.Message.{Result, result, readOf, readAt, setup}
-use Rattle.glow.proofs.Answers.{rows-kept}
-use Rattle.forest.specs.Content.{itemsOf}
-use Rattle.forest.specs.Rows.{itemsIn}
-use Rattle.tree_sizes.specs.Accepted.{accepted}
-use Rattle.read_trees.proofs.Message.{is-legal}
-use Rattle.tree_round_trip.proofs.Rows.{rows-items, tree-sixteen}
-use Rattle.tree_round_trip.proofs.Reading.{read-walk}
-use Rattle.tree_round_trip.proofs.Rewriting.{in-rows}
-use Rattle.tree_round_trip.proofs.Theorems.{read-accepted}
-use Rattle.sheets.specs.Reading as reading
-use Rattle.sheets.specs.Reading.{refused, ofEntries, ofAnswer, ofMessage}
+use Rattle.ber_integers.specs.Digits.{pick}
+use Rattle.ber_integers.proofs.Radix.{Below}
+use Rattle.ber_containers.specs.declared.Onto.{Onto}
+use Rattle.ber_containers.specs.declared.Onto.the-variants.{Next, Refused as Stopped}
+use Rattle.glow_rows.specs.Entry.{Entries, Rows, overlay}
+use Rattle.glow_reader.specs.declared.Answer.{Answer}
+use Rattle.glow_reader.specs.declared.Answer.the-variants as glow
+use Rattle.glow_walk.specs.Walk.{walk}
+use Rattle.glow_reader.specs.Message.{Result, result, readOf, readAt, setup}
+use Rattle.glow_reader.proofs.Answers.{rows-kept}
+use Rattle.glow_trees.specs.Content.{itemsOf}
+use Rattle.glow_trees.specs.Rows.{itemsIn}
+use Rattle.glow_sizes.specs.Accepted.{accepted}
+use Rattle.trees_accepted.proofs.Message.{is-legal}
+use Rattle.trees_round_trip.proofs.Rows.{rows-items, tree-sixteen}
+use Rattle.trees_round_trip.proofs.Reading.{read-walk}
+use Rattle.trees_round_trip.proofs.Rewriting.{in-rows}
+use Rattle.trees_round_trip.proofs.Theorems.{read-accepted}
+use Rattle.sheet_rules.specs.Reading as reading
+use Rattle.sheet_rules.specs.Reading.{refused, ofEntries, ofAnswer, ofMessage}
 use Rattle.sheet_reader.specs.declared.Sheet.{Sheet}
 use Rattle.sheet_reader.specs.declared.Sheet.the-variants.{Setup, Refused, Read}
 use Rattle.sheet_reader.specs.Calls.{leaves}

@@ -9,35 +9,35 @@ use borrow.Author.Tests.{eqb-true, eqb-false, eq-eqb}
 use types.Run.{OneOf, hit}
 use lib.Dec.{ltb, eqb}
 use lib.ListN.{length}
-use Rattle.integers.specs.Digits.{pick}
-use Rattle.integers.proofs.Radix.{Below}
-use Rattle.containers.specs.declared.Onto.{Onto}
-use Rattle.containers.specs.declared.Onto.the-variants.{Next, Refused as Stopped}
-use Rattle.containers.proofs.Heads.{pick-by}
-use Rattle.entries.specs.Entry.{Entries}
-use Rattle.walk.specs.Walk.{walk}
-use Rattle.glow.specs.Message.{refusals}
-use Rattle.glow.proofs.Places.{OntoIn}
-use Rattle.glow.proofs.Within.{walk-in}
-use Rattle.forest.specs.Content.{Item, itemsOf}
-use Rattle.read_trees.proofs.Message.{is-legal}
-use Rattle.crosspoints.specs.declared.Figures.{Figures}
-use Rattle.crosspoints.specs.Figures.{side, both, figuresFit}
-use Rattle.crosspoints.specs.Crosspoints.{Cells, clear, opened, answer}
-use Rattle.crosspoints.proofs.Counts.{clear-length}
-use Rattle.connections.specs.Connections.{asksOf}
-use Rattle.connections.proofs.Paths.{asks-down}
-use Rattle.connections.proofs.Operations.{Operations, legal-operations}
+use Rattle.ber_integers.specs.Digits.{pick}
+use Rattle.ber_integers.proofs.Radix.{Below}
+use Rattle.ber_containers.specs.declared.Onto.{Onto}
+use Rattle.ber_containers.specs.declared.Onto.the-variants.{Next, Refused as Stopped}
+use Rattle.ber_containers.proofs.Heads.{pick-by}
+use Rattle.glow_rows.specs.Entry.{Entries}
+use Rattle.glow_walk.specs.Walk.{walk}
+use Rattle.glow_reader.specs.Message.{refusals}
+use Rattle.glow_reader.proofs.Places.{OntoIn}
+use Rattle.glow_reader.proofs.Within.{walk-in}
+use Rattle.glow_trees.specs.Content.{Item, itemsOf}
+use Rattle.trees_accepted.proofs.Message.{is-legal}
+use Rattle.desk_crosspoints.specs.declared.Figures.{Figures}
+use Rattle.desk_crosspoints.specs.Figures.{side, both, figuresFit}
+use Rattle.desk_crosspoints.specs.Crosspoints.{Cells, clear, opened, answer}
+use Rattle.desk_crosspoints.proofs.Counts.{clear-length}
+use Rattle.desk_connections.specs.Connections.{asksOf}
+use Rattle.desk_connections.proofs.Paths.{asks-down}
+use Rattle.desk_connections.proofs.Operations.{Operations, legal-operations}
 use Rattle.desk_calls.specs.Calls.{requests, pathFits, deskLegal, deskOpened, handled}
 use Rattle.desk_calls.specs.Steps.{has}
 use Rattle.desk_calls.specs.Numbers.{answerNumbers, allHas}
 use Rattle.desk_calls.proofs.Setup.{desk-legal}
 use Rattle.desk_calls.proofs.Claims.{desk-opened-legal}
 use Rattle.desk_calls.proofs.Numbers.{served-numbers}
-use Rattle.sheets.specs.Lines.{linesIn}
-use Rattle.sheets.specs.Reading as reading
-use Rattle.sheets.specs.Reading.{Held, refusal, message, refused, firstRefused, applied, begun, opens, figuresIn, pathIn, modeIn, allLinks, ofEntries}
-use Rattle.sheets.specs.Reading.{ofAnswer, ofMessage, heldIn, ofHeld, readSheet}
+use Rattle.sheet_rules.specs.Lines.{linesIn}
+use Rattle.sheet_rules.specs.Reading as reading
+use Rattle.sheet_rules.specs.Reading.{Held, refusal, message, refused, firstRefused, applied, begun, opens, figuresIn, pathIn, modeIn, allLinks, ofEntries}
+use Rattle.sheet_rules.specs.Reading.{ofAnswer, ofMessage, heldIn, ofHeld, readSheet}
 use Rattle.sheet_stream.specs.Finding.{heldNumbers, storeAfter}
 use Rattle.sheet_stream.proofs.Messages.{held-short, held-octets}
 use Rattle.sheet_stream.proofs.Numbers.{held-numbers}

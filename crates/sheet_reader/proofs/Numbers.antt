@@ -6,12 +6,12 @@ use native.Mathlib.Omega.{arith}
 use borrow.Author.Tests.{eq-eqb, ne-eqb}
 use lib.ListN.{length, take, drop, getD, set, drop-of-length-le, length-append, length-drop}
 use lib.Seq.{drop-cons, take-suc, take-suc-set, append-snoc, set-at, length-take-le, take-length}
-use Rattle.entries.specs.declared.Cell.{Cell}
-use Rattle.forest.specs.Content.{contentOf}
-use Rattle.identifiers.specs.Identifier.{arcsFrom}
-use Rattle.connections.specs.Connections.{octetsOf, numbersIn}
-use Rattle.connections.proofs.Items.{part-is}
-use Rattle.sheets.specs.Reading.{firstRefused}
+use Rattle.glow_rows.specs.declared.Cell.{Cell}
+use Rattle.glow_trees.specs.Content.{contentOf}
+use Rattle.ber_identifiers.specs.Identifier.{arcsFrom}
+use Rattle.desk_connections.specs.Connections.{octetsOf, numbersIn}
+use Rattle.desk_connections.proofs.Items.{part-is}
+use Rattle.sheet_rules.specs.Reading.{firstRefused}
 use Rattle.sheet_reader.specs.Steps.{Taken}
 
 -- ---- numbers taken one by one: the first k are in the list, xs are left

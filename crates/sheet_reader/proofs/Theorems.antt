@@ -9,24 +9,24 @@ use borrow.Author.Tests.{eq-eqb, eqb-true}
 use lib.Dec.{ltb, eqb}
 use lib.ListN.{length, take, drop}
 use lib.Seq.{take-at, drop-at}
-use Rattle.containers.specs.declared.Onto.{Onto}
-use Rattle.containers.specs.declared.Onto.the-variants.{Next, Refused as Stopped}
-use Rattle.containers.proofs.Heads.{pick-by}
-use Rattle.entries.specs.Entry.{Entries}
-use Rattle.forest.specs.Content.{Item, itemsOf}
-use Rattle.walk.specs.Walk.{walk}
-use Rattle.crosspoints.specs.declared.Figures.{Figures}
-use Rattle.crosspoints.specs.Figures.{side, both}
-use Rattle.crosspoints.specs.Crosspoints.{Cells, clear}
+use Rattle.ber_containers.specs.declared.Onto.{Onto}
+use Rattle.ber_containers.specs.declared.Onto.the-variants.{Next, Refused as Stopped}
+use Rattle.ber_containers.proofs.Heads.{pick-by}
+use Rattle.glow_rows.specs.Entry.{Entries}
+use Rattle.glow_trees.specs.Content.{Item, itemsOf}
+use Rattle.glow_walk.specs.Walk.{walk}
+use Rattle.desk_crosspoints.specs.declared.Figures.{Figures}
+use Rattle.desk_crosspoints.specs.Figures.{side, both}
+use Rattle.desk_crosspoints.specs.Crosspoints.{Cells, clear}
 use Rattle.desk_calls.specs.Calls.{deskLegal, deskOpened, handled}
 use Rattle.desk_calls.proofs.Setup.{desk-fits, desk-legal, desk-rest}
 use Rattle.desk_calls.proofs.Claims.{desk-opened-legal, handled-legal}
-use Rattle.sheets.specs.Sheet.{Desk, desk, sheetOf}
-use Rattle.sheets.specs.Lines.{Stream, linesIn, isBad}
-use Rattle.sheets.specs.Reading as reading
-use Rattle.sheets.specs.Reading.{Held, refusal, message, refused, firstRefused, applied, begun, opens, figuresIn, pathIn, modeIn, allLinks, ofEntries}
-use Rattle.sheets.specs.Reading.{ofAnswer, ofMessage, heldIn, ofHeld, readSheet}
-use Rattle.sheets.proofs.Theorems.{sheet-read}
+use Rattle.sheet_rules.specs.Sheet.{Desk, desk, sheetOf}
+use Rattle.sheet_rules.specs.Lines.{Stream, linesIn, isBad}
+use Rattle.sheet_rules.specs.Reading as reading
+use Rattle.sheet_rules.specs.Reading.{Held, refusal, message, refused, firstRefused, applied, begun, opens, figuresIn, pathIn, modeIn, allLinks, ofEntries}
+use Rattle.sheet_rules.specs.Reading.{ofAnswer, ofMessage, heldIn, ofHeld, readSheet}
+use Rattle.sheet_rules.proofs.Theorems.{sheet-read}
 use Rattle.sheet_stream.specs.Finding.{storeAfter}
 use Rattle.sheet_stream.proofs.Lines.{lines-bad}
 use Rattle.sheet_reader.specs.declared.Sheet.{Sheet}

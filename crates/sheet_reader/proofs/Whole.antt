@@ -7,9 +7,9 @@ use borrow.Author.Tests.{eq-eqb, ne-eqb}
 use lib.Dec.{eqb}
 use lib.ListN.{length, take}
 use Rattle.framing.specs.Numbers.{storeLength}
-use Rattle.crosspoints.specs.Figures.{both}
-use Rattle.sheets.specs.Lines.{linesIn}
-use Rattle.sheets.specs.Reading.{Held, refusal, message, heldIn, ofHeld, ofMessage, readSheet}
+use Rattle.desk_crosspoints.specs.Figures.{both}
+use Rattle.sheet_rules.specs.Lines.{linesIn}
+use Rattle.sheet_rules.specs.Reading.{Held, refusal, message, heldIn, ofHeld, ofMessage, readSheet}
 use Rattle.sheet_stream.specs.declared.Found.{Found}
 use Rattle.sheet_stream.specs.declared.Found.the-variants as found
 use Rattle.sheet_stream.proofs.Messages.{held-short}

@@ -5,17 +5,17 @@ use mathlib.Core.List.{List, [], _∷_}
 use mathlib.Core.Bool.{Bool, false}
 use lib.ListN.{length, take, getD}
 use lib.Dec.{eqb}
-use Rattle.integers.specs.Digits.{pick}
-use Rattle.entries.specs.Entry.{Rows}
-use Rattle.grammar.specs.Grammar.{qualifiedMatrix}
-use Rattle.forest.specs.Content.{Item, itemOf}
-use Rattle.forest.specs.Rows.{entryOf}
-use Rattle.crosspoints.specs.declared.Figures.{Figures}
-use Rattle.crosspoints.specs.Figures.{both}
-use Rattle.crosspoints.specs.Crosspoints.{Cells}
-use Rattle.sheets.specs.Sheet.{desk}
-use Rattle.sheets.specs.Reading as reading
-use Rattle.sheets.specs.Reading.{refused, read, allLinks}
+use Rattle.ber_integers.specs.Digits.{pick}
+use Rattle.glow_rows.specs.Entry.{Rows}
+use Rattle.glow_grammar.specs.Grammar.{qualifiedMatrix}
+use Rattle.glow_trees.specs.Content.{Item, itemOf}
+use Rattle.glow_trees.specs.Rows.{entryOf}
+use Rattle.desk_crosspoints.specs.declared.Figures.{Figures}
+use Rattle.desk_crosspoints.specs.Figures.{both}
+use Rattle.desk_crosspoints.specs.Crosspoints.{Cells}
+use Rattle.sheet_rules.specs.Sheet.{desk}
+use Rattle.sheet_rules.specs.Reading as reading
+use Rattle.sheet_rules.specs.Reading.{refused, read, allLinks}
 use Rattle.sheet_reader.specs.declared.Sheet.{Sheet}
 use Rattle.sheet_reader.specs.Calls.{leaves, told}
 

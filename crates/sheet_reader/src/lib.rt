@@ -1,20 +1,20 @@
 // The route sheet reader: from a sheet's text to a desk, or the first refusal.
-use crosspoints::Figures;
-use crosspoints::Limit;
-use entries::Cell;
-use glow::Answer;
+use desk_crosspoints::Figures;
+use desk_crosspoints::Limit;
+use glow_reader::Answer;
+use glow_rows::Cell;
 use sheet_stream::Found;
 ghost use mathlib.Core.Path.{_≡_};
 ghost use mathlib.Core.Bool.{true};
 ghost use mathlib.Core.List.{List, _++_};
 ghost use Prim.Native.Nat.{ℕ, _≤_};
 ghost use lib.ListN.{length, drop};
-ghost use Rattle.forest.specs.Content.{contentOf, isWord};
-ghost use Rattle.forest.specs.Rows.{itemsIn};
-ghost use Rattle.tree_sizes.specs.Accepted.{accepted};
-ghost use Rattle.crosspoints.specs.Figures.{side};
-ghost use Rattle.connections.specs.Connections.{octetsOf, numbersIn};
-ghost use Rattle.sheets.specs.Reading.{firstRefused, limitIn, figuresIn, opens, ofEntries, ofMessage};
+ghost use Rattle.glow_trees.specs.Content.{contentOf, isWord};
+ghost use Rattle.glow_trees.specs.Rows.{itemsIn};
+ghost use Rattle.glow_sizes.specs.Accepted.{accepted};
+ghost use Rattle.desk_crosspoints.specs.Figures.{side};
+ghost use Rattle.desk_connections.specs.Connections.{octetsOf, numbersIn};
+ghost use Rattle.sheet_rules.specs.Reading.{firstRefused, limitIn, figuresIn, opens, ofEntries, ofMessage};
 ghost use Rattle.sheet_reader.specs.Calls.{sheetRead, told};
 ghost use Rattle.sheet_reader.specs.Steps.{firstOf, isSheet, Taken, sheetBy, Tells};
 
@@ -66,11 +66,11 @@ fn limit_of(v: Cell) -> Limit
 fn figures_of(rows: &[[u64; 50]]) -> Figures
     ensures { λ r. ⌜ ((s : List ℕ) → figuresIn (firstOf s (now (rows .entry))) ≡ r) ⌝ }
 {
-    let kind = connections::number_of(tree_sizes::cell_at(rows, 0, 3));
-    let targets = connections::number_of(tree_sizes::cell_at(rows, 0, 5));
-    let sources = connections::number_of(tree_sizes::cell_at(rows, 0, 6));
-    let total = limit_of(tree_sizes::cell_at(rows, 0, 7));
-    let each = limit_of(tree_sizes::cell_at(rows, 0, 8));
+    let kind = desk_connections::number_of(glow_sizes::cell_at(rows, 0, 3));
+    let targets = desk_connections::number_of(glow_sizes::cell_at(rows, 0, 5));
+    let sources = desk_connections::number_of(glow_sizes::cell_at(rows, 0, 6));
+    let total = limit_of(glow_sizes::cell_at(rows, 0, 7));
+    let each = limit_of(glow_sizes::cell_at(rows, 0, 8));
     Figures {
         kind,
         targets,
@@ -106,11 +106,11 @@ fn numbers_of(octets: &[u8], list: &mut [u64]) -> usize
     requires { ⌜ length (now list) ≡ 16 ⌝ }
     ensures { λ r. ⌜ Taken (numbersIn (now (octets .entry))) r (now (list .exit)) ⌝ }
 {
-    let end = connections::list_end(octets);
+    let end = desk_connections::list_end(octets);
     let mut p: usize = 0;
     let mut k: usize = 0;
     while p < end {
-        let x = connections::next_number(octets, p, end);
+        let x = desk_connections::next_number(octets, p, end);
         if 16 <= k {
             return 17;
         }
@@ -254,12 +254,12 @@ fn of_entries(
         return Sheet::Refused { number: 33 };
     }
     let mut numbers = [0u64; 16];
-    let n = path_of(s, tree_sizes::cell_at(rows, 0, 0), &mut numbers);
+    let n = path_of(s, glow_sizes::cell_at(rows, 0, 0), &mut numbers);
     if 16 < n {
         return Sheet::Refused { number: 45 };
     }
     let f = figures_of(rows);
-    let mode = connections::number_of(tree_sizes::cell_at(rows, 0, 4));
+    let mode = desk_connections::number_of(glow_sizes::cell_at(rows, 0, 4));
     let mut cells = [0u8; 4096];
     let number = apply(f, mode, &numbers[..n], rows, count, root, s, &mut cells);
     hand_over(number, f, &numbers[..n], &cells, path, crosspoints)
@@ -271,7 +271,7 @@ fn of_rows(m: &[u8], table: &mut [[u64; 50]], path: &mut [u64], crosspoints: &mu
     requires { ⌜ (length (now table) ≡ 256) × ((length (now path) ≡ 16) × (length (now crosspoints) ≡ 4096)) ⌝ }
     ensures { λ r. ⌜ Tells (ofMessage side (now (m .entry))) (now (path .entry)) (now (crosspoints .entry)) r (now (path .exit)) (now (crosspoints .exit)) ⌝ }
 {
-    match glow::read(m, table) {
+    match glow_reader::read(m, table) {
         Answer::Setup => Sheet::Setup,
         Answer::Refused { number, place: _ } => Sheet::Refused { number },
         Answer::Room { count: _ } => Sheet::Refused { number: 38 },

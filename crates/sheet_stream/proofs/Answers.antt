@@ -6,10 +6,10 @@ use mathlib.Core.Bool.{Bool, true, false, true≢false}
 use borrow.Author.Tests.{eqb-true, eqb-false}
 use lib.Dec.{eqb}
 use lib.ListN.{length}
-use Rattle.integers.specs.Digits.{pick}
+use Rattle.ber_integers.specs.Digits.{pick}
 use Rattle.framing.specs.Numbers.{storeLength}
-use Rattle.sheets.specs.Lines.{linesIn}
-use Rattle.sheets.specs.Reading.{Held, heldIn}
+use Rattle.sheet_rules.specs.Lines.{linesIn}
+use Rattle.sheet_rules.specs.Reading.{Held, heldIn}
 use Rattle.sheet_stream.specs.declared.Found.the-variants.{Setup}
 use Rattle.sheet_stream.specs.Finding.{Outcome, setup, holds, storeAfter, finds, foundBy}
 

@@ -7,14 +7,14 @@ use native.Mathlib.Omega.{arith}
 use borrow.Author.Tests.{eqb-true, eqb-false}
 use lib.Dec.{eqb}
 use lib.ListN.{length}
-use Rattle.integers.specs.Digits.{pick}
-use Rattle.integers.proofs.Radix.{Below}
+use Rattle.ber_integers.specs.Digits.{pick}
+use Rattle.ber_integers.proofs.Radix.{Below}
 use Rattle.framing.specs.Numbers.{messageLimit}
 use Rattle.framing.specs.Rules.{State, begin, step, Happening, noted, happens, after}
 use Rattle.framing.proofs.Laws.{Bounded, bounded-begin, bounded-next, within-step}
 use Rattle.turns.proofs.Octets.{OctetsIn, happens-octets, begin-octets}
-use Rattle.sheets.specs.Lines.{digitOf, Stream, bad, stream, push, Come, fresh, pairs, half, linesFrom, linesIn}
-use Rattle.sheets.specs.Reading.{Held, refusal, message, finished, firstFault, somethingOpen, oneOf, ofEvents, heldIn}
+use Rattle.sheet_rules.specs.Lines.{digitOf, Stream, bad, stream, push, Come, fresh, pairs, half, linesFrom, linesIn}
+use Rattle.sheet_rules.specs.Reading.{Held, refusal, message, finished, firstFault, somethingOpen, oneOf, ofEvents, heldIn}
 use Rattle.sheet_stream.proofs.Lines.{digit-small}
 use Rattle.sheet_stream.proofs.Events.{finished-here, finished-later}
 use Rattle.sheet_stream.proofs.Ways.{said-short}

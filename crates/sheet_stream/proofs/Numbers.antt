@@ -13,10 +13,10 @@ use Rattle.framing.specs.Rules.{State, Said, begin, step, happens, after}
 use Rattle.framing.specs.Session.{kept}
 use Rattle.framing.proofs.Laws.{Bounded, bounded-begin, bounded-next, within-step, event-numbered}
 use Rattle.framing.proofs.Sayable.{step-sayable}
-use Rattle.crosspoints.specs.Crosspoints.{clear}
-use Rattle.crosspoints.proofs.Counts.{clear-length}
-use Rattle.sheets.specs.Lines.{Stream, bad, stream}
-use Rattle.sheets.specs.Reading.{Held, refusal, message, firstFault, finished, somethingOpen, oneOf, ofEvents, heldIn}
+use Rattle.desk_crosspoints.specs.Crosspoints.{clear}
+use Rattle.desk_crosspoints.proofs.Counts.{clear-length}
+use Rattle.sheet_rules.specs.Lines.{Stream, bad, stream}
+use Rattle.sheet_rules.specs.Reading.{Held, refusal, message, firstFault, finished, somethingOpen, oneOf, ofEvents, heldIn}
 use Rattle.sheet_stream.specs.Finding.{heldNumbers}
 use Rattle.sheet_stream.proofs.Events.{fault-here, fault-later}
 

@@ -25,9 +25,9 @@ use Rattle.framing.specs.Rules.{Message, none, part, isOpen, State, Step, begin
 use Rattle.framing.specs.Session.{saidBy, placeOf, messageOf, stateOf, sessionOf, legal, Legal, content, held, kept, Whole, whole, answers, run, feeds}
 use Rattle.framing.proofs.Lists.{take-sets-le}
 use Rattle.framing.proofs.Laws.{legal-true, true-legal, Bounded, bounded-state, Within, within-step, kept-state, legal-next, number-high}
-use Rattle.sheets.specs.Lines.{Stream, linesIn}
-use Rattle.sheets.specs.Reading.{Held, refusal, message, inFrame, somethingOpen, ofEvents, heldIn}
-use Rattle.sheets.specs.Lines.{isBad}
+use Rattle.sheet_rules.specs.Lines.{Stream, linesIn}
+use Rattle.sheet_rules.specs.Reading.{Held, refusal, message, inFrame, somethingOpen, ofEvents, heldIn}
+use Rattle.sheet_rules.specs.Lines.{isBad}
 use Rattle.sheet_stream.specs.declared.Tally.{Tally}
 use Rattle.sheet_stream.specs.declared.Found.{Found}
 use Rattle.sheet_stream.specs.Finding.{setup, holds, storeFrom, storeAfter, finds, foundBy}

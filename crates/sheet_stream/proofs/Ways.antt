@@ -9,7 +9,7 @@ use borrow.Author.Tests.{le-leb, eq-eqb}
 use lib.Bits.{bitXor}
 use lib.Dec.{leb, ltb, eqb}
 use lib.ListN.{length}
-use Rattle.integers.specs.Digits as int
+use Rattle.ber_integers.specs.Digits as int
 use Rattle.framing.specs.declared.Content.{Content}
 use Rattle.framing.specs.declared.Content.the-variants.{Refused, Request, Response, Piece}
 use Rattle.framing.specs.declared.Fault.{Fault}
@@ -20,7 +20,7 @@ use Rattle.framing.specs.Rules.{Place, outside, stray, inside, escaped, badByte
 use Rattle.framing.specs.Rules.{makes, refuses, adds, joins, pieces, reads, ends, faulted, cuts, inPlace, step}
 use Rattle.framing.specs.Session.{held}
 use Rattle.framing.proofs.Laws.{pick-by, number-high, Bounded, within-step}
-use Rattle.sheets.specs.Reading.{refusal, message, inFrame, somethingOpen}
+use Rattle.sheet_rules.specs.Reading.{refusal, message, inFrame, somethingOpen}
 use Rattle.sheet_stream.specs.Steps.{another, collects}
 
 -- an event from 10 up; a message finished; one left open; or all as it was, m

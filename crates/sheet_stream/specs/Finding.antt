@@ -1,15 +1,15 @@
 -- The first half of reading a route sheet (document 01, "Desk"): from its text to the one finished message, or the first refusal: "12 for any bad line, the
--- first event from 10 up, 33 unless exactly one message is finished and nothing is open at the end" (`heldIn`, crates/sheets/specs/Reading.antt).
+-- first event from 10 up, 33 unless exactly one message is finished and nothing is open at the end" (`heldIn`, crates/sheet_rules/specs/Reading.antt).
 use Prim.Native.Nat.{ℕ}
 use mathlib.Core.List.{List, [], _∷_}
 use lib.ListN.{length, take}
 use lib.Dec.{leb, eqb}
-use Rattle.integers.specs.Digits.{pick}
+use Rattle.ber_integers.specs.Digits.{pick}
 use Rattle.framing.specs.Numbers.{storeLength, faultNumbers}
 use Rattle.framing.specs.Rules.{State, Step, begin, step}
 use Rattle.framing.specs.Session.{kept}
-use Rattle.sheets.specs.Lines.{Stream, bad, stream, linesIn}
-use Rattle.sheets.specs.Reading.{Held, refusal, message, heldIn}
+use Rattle.sheet_rules.specs.Lines.{Stream, bad, stream, linesIn}
+use Rattle.sheet_rules.specs.Reading.{Held, refusal, message, heldIn}
 use Rattle.sheet_stream.specs.declared.Found.{Found}
 use Rattle.sheet_stream.specs.declared.Found.the-variants.{Setup, Refused, Message}
 

@@ -5,7 +5,7 @@ use mathlib.Core.Bool.{Bool, true, false}
 use mathlib.Core.List.{List, [], _∷_}
 use lib.ListN.{length, take}
 use lib.Dec.{leb, eqb}
-use Rattle.integers.specs.Digits.{pick}
+use Rattle.ber_integers.specs.Digits.{pick}
 use Rattle.framing.specs.declared.Frame.{Frame}
 use Rattle.framing.specs.declared.Frame.the-variants.{Outside, Stray, Inside, Escaped, BadByte, TooLong}
 use Rattle.framing.specs.declared.Pending.{Pending}
@@ -14,8 +14,8 @@ use Rattle.framing.specs.declared.Session.{Session}
 use Rattle.framing.specs.Numbers.{messageLimit}
 use Rattle.framing.specs.Rules.{State, Step, step}
 use Rattle.framing.specs.Session.{stateOf, legal}
-use Rattle.sheets.specs.Lines.{digitOf}
-use Rattle.sheets.specs.Reading.{Held, refusal, message, somethingOpen}
+use Rattle.sheet_rules.specs.Lines.{digitOf}
+use Rattle.sheet_rules.specs.Reading.{Held, refusal, message, somethingOpen}
 use Rattle.sheet_stream.specs.declared.Tally.{Tally}
 use Rattle.sheet_stream.specs.Finding.{storeFrom}
 

@@ -5,8 +5,8 @@ use mathlib.Core.List.{List, [], _∷_, _++_}
 use Rattle.framing.specs.Checksum.{table, crcStep, crcFrom, checksum}
 use Rattle.framing.specs.Content.{contentOf, bodyOf, commandOf, packetOf}
 use Rattle.framing.specs.Rules.{step, inPlace, adds, cuts, ends, pieces, faulted, happens, after}
-use Rattle.sheets.specs.Lines.{digitOf, linesFrom, linesIn}
-use Rattle.sheets.specs.Reading.{Held, refusal, message, finished, somethingOpen, firstFault, ofEvents, heldIn}
+use Rattle.sheet_rules.specs.Lines.{digitOf, linesFrom, linesIn}
+use Rattle.sheet_rules.specs.Reading.{Held, refusal, message, finished, somethingOpen, firstFault, ofEvents, heldIn}
 use Rattle.framing.specs.Session.{kept}
 use Rattle.sheet_stream.specs.Finding.{setup, storeFrom, storeAfter, finds}
 

@@ -9,7 +9,7 @@ ghost use Prim.Native.Nat.{ℕ};
 ghost use lib.ListN.{length};
 ghost use Rattle.framing.specs.Numbers.{storeLength};
 ghost use Rattle.framing.specs.Rules.{begin, happens, after};
-ghost use Rattle.sheets.specs.Reading.{ofEvents};
+ghost use Rattle.sheet_rules.specs.Reading.{ofEvents};
 ghost use Rattle.sheet_stream.specs.Finding.{storeFrom, finds, foundBy, holds};
 ghost use Rattle.sheet_stream.specs.Steps.{frameOpen, partOpen, openIn, another as anotherOf, bytesFrom, left, Sound, Taken};
 
@@ -80,7 +80,7 @@ fn take_byte(tally: Tally, store: &mut [u8], b: u8) -> Tally
     let fed = framing::feed(before, store, &[b]);
     let event = fed.event;
     let session = fed.session;
-    let number = events::number(event);
+    let number = framing_events::number(event);
     if 10 <= number {
         return Tally {
             session,
@@ -120,7 +120,7 @@ fn take_text(text: &[u8], store: &mut [u8]) -> Tally
     let mut first = 16;
     let mut i = 0;
     while i < text.len() {
-        let d = sheets::digit(text[i]);
+        let d = sheet_rules::digit(text[i]);
         i += 1;
         if d == 16 {
             continue;
@@ -167,7 +167,7 @@ pub fn find_message(text: &[u8], store: &mut [u8]) -> Found
     if store.len() != framing::STORE_LENGTH {
         return Found::Setup;
     }
-    if sheets::has_bad_line(text) {
+    if sheet_rules::has_bad_line(text) {
         return Found::Refused { number: 12 };
     }
     let tally = take_text(text, store);

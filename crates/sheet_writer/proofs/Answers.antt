@@ -5,22 +5,22 @@ use mathlib.Core.List.{List, [], _∷_}
 use mathlib.Core.Bool.{true, false}
 use native.Mathlib.Omega.{arith}
 use lib.ListN.{length}
-use Rattle.integers.proofs.Radix.{Below}
+use Rattle.ber_integers.proofs.Radix.{Below}
 use Rattle.framing_writer.specs.declared.Written.{Written}
 use Rattle.framing_writer.specs.declared.Written.the-variants as written
 use Rattle.framing_writer.specs.Written.{outcome, into, inPackets}
 use Rattle.framing_writer.specs.Read.{Bytes}
 use Rattle.framing_writer.proofs.Laws.{limited-fits}
-use Rattle.crosspoints.specs.declared.Figures.{Figures}
-use Rattle.crosspoints.specs.Crosspoints.{Cells}
+use Rattle.desk_crosspoints.specs.declared.Figures.{Figures}
+use Rattle.desk_crosspoints.specs.Crosspoints.{Cells}
 use Rattle.desk_calls.specs.Calls.{deskLegal}
-use Rattle.sheets.specs.Sheet.{desk, sheetMessage, sheetOf}
-use Rattle.sheets.specs.Sheet.{breaksInto}
-use Rattle.sheets.proofs.Suited.{sheet-legal}
-use Rattle.sheets.proofs.Theorems.{bytes-of}
-use Rattle.sheets.proofs.Sizes.{sheet-octets, sheet-size}
-use Rattle.sheets.proofs.Reals.{sheet-below}
-use Rattle.sheets.proofs.Breaks.{message-break}
+use Rattle.sheet_rules.specs.Sheet.{desk, sheetMessage, sheetOf}
+use Rattle.sheet_rules.specs.Sheet.{breaksInto}
+use Rattle.sheet_rules.proofs.Suited.{sheet-legal}
+use Rattle.sheet_rules.proofs.Theorems.{bytes-of}
+use Rattle.sheet_rules.proofs.Sizes.{sheet-octets, sheet-size}
+use Rattle.sheet_rules.proofs.Reals.{sheet-below}
+use Rattle.sheet_rules.proofs.Breaks.{message-break}
 use Rattle.sheet_writer.specs.declared.Answer.{Answer}
 use Rattle.sheet_writer.specs.declared.Answer.the-variants.{Setup}
 use Rattle.sheet_writer.specs.Calls.{told, writesSheet}

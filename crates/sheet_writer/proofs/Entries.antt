@@ -8,40 +8,40 @@ use borrow.Author.Tests.{le-leb, leb-true, lt-ltb, ne-eqb}
 use lib.ListN.{length, take, drop, set, length-append, length-drop}
 use lib.Seq.{sets, sets-eq, take-at, drop-at}
 use lib.Dec.{leb, eqb}
-use Rattle.integers.specs.Digits.{pick, digits, countBy, Put, put, outcome}
-use Rattle.integers.specs.declared.Wrote.{Wrote}
-use Rattle.integers.specs.declared.Wrote.the-variants.{Next}
-use Rattle.integers.specs.Digits as digit
-use Rattle.integers.proofs.Radix.{count-least}
-use Rattle.tags.specs.Write.{septets}
-use Rattle.identifiers.specs.Identifier.{oidOctets, inRange, putOid}
-use Rattle.entries.specs.Cell.{absent, numbersCell}
-use Rattle.entries.specs.Entry.{Entry, Entries, blanks, row, Rows, overlay}
+use Rattle.ber_integers.specs.Digits.{pick, digits, countBy, Put, put, outcome}
+use Rattle.ber_integers.specs.declared.Wrote.{Wrote}
+use Rattle.ber_integers.specs.declared.Wrote.the-variants.{Next}
+use Rattle.ber_integers.specs.Digits as digit
+use Rattle.ber_integers.proofs.Radix.{count-least}
+use Rattle.ber_tags.specs.Write.{septets}
+use Rattle.ber_identifiers.specs.Identifier.{oidOctets, inRange, putOid}
+use Rattle.glow_rows.specs.Cell.{absent, numbersCell}
+use Rattle.glow_rows.specs.Entry.{Entry, Entries, blanks, row, Rows, overlay}
 use Rattle.framing.proofs.Lists.{sets-append}
-use Rattle.forest.specs.Content.{Content, bytes, contentOf, contentsOf, Item, item, itemsOf}
-use Rattle.forest.specs.Rows.{itemsIn}
-use Rattle.forest.specs.Trees.{none, flat, count}
-use Rattle.forest.specs.Written.{messageOctets, writtenReal}
-use Rattle.member_sizes.specs.Sizes.{nextOf}
-use Rattle.tree_sizes.specs.Accepted.{octetsOf}
+use Rattle.glow_trees.specs.Content.{Content, bytes, contentOf, contentsOf, Item, item, itemsOf}
+use Rattle.glow_trees.specs.Rows.{itemsIn}
+use Rattle.glow_trees.specs.Trees.{none, flat, count}
+use Rattle.glow_trees.specs.Written.{messageOctets, writtenReal}
+use Rattle.glow_member_sizes.specs.Sizes.{nextOf}
+use Rattle.glow_sizes.specs.Accepted.{octetsOf}
 use Rattle.glow_writer.specs.Writes.{writes}
-use Rattle.grammar.specs.Grammar.{qualifiedMatrix, connection}
-use Rattle.read_trees.proofs.Lists.{items-length, flat-length}
-use Rattle.tree_round_trip.proofs.Rows.{rows-items, tree-sixteen}
-use Rattle.tree_round_trip.proofs.Writing.{whole-tree, octets-tree, fits-by, writes-yes}
-use Rattle.crosspoints.specs.declared.Limit.{Limit}
-use Rattle.crosspoints.specs.declared.Limit.the-variants.{Absent, Most}
-use Rattle.crosspoints.specs.declared.Figures.{Figures}
-use Rattle.crosspoints.specs.Figures.{isLimit, figuresFit}
-use Rattle.crosspoints.specs.Crosspoints.{Cells, rowAt}
-use Rattle.crosspoints.proofs.Laws.{both-right, fit-targets-le, fit-sources-le, fit-kind-le}
-use Rattle.crosspoints.proofs.Legal.{legal-fit, legal-length}
-use Rattle.crosspoints.proofs.Under.{take-short}
+use Rattle.glow_grammar.specs.Grammar.{qualifiedMatrix, connection}
+use Rattle.trees_accepted.proofs.Lists.{items-length, flat-length}
+use Rattle.trees_round_trip.proofs.Rows.{rows-items, tree-sixteen}
+use Rattle.trees_round_trip.proofs.Writing.{whole-tree, octets-tree, fits-by, writes-yes}
+use Rattle.desk_crosspoints.specs.declared.Limit.{Limit}
+use Rattle.desk_crosspoints.specs.declared.Limit.the-variants.{Absent, Most}
+use Rattle.desk_crosspoints.specs.declared.Figures.{Figures}
+use Rattle.desk_crosspoints.specs.Figures.{isLimit, figuresFit}
+use Rattle.desk_crosspoints.specs.Crosspoints.{Cells, rowAt}
+use Rattle.desk_crosspoints.proofs.Laws.{both-right, fit-targets-le, fit-sources-le, fit-kind-le}
+use Rattle.desk_crosspoints.proofs.Legal.{legal-fit, legal-length}
+use Rattle.desk_crosspoints.proofs.Under.{take-short}
 use Rattle.desk_calls.specs.Calls.{deskLegal}
-use Rattle.sheets.specs.Sheet.{desk, sourcesFrom, sourcesAt, number, list, limit, leftOut, linkMembers, matrixMembers, links, sheetTree, sheetMessage}
-use Rattle.sheets.proofs.Asked.{flat-sheet, path-ok, cells-ok, path-small}
-use Rattle.sheets.proofs.Suited.{path-short, total-fits, each-fits, sheet-legal, sheet-count}
-use Rattle.sheets.proofs.Sizes.{sheet-size, path-size as path-octets}
+use Rattle.sheet_rules.specs.Sheet.{desk, sourcesFrom, sourcesAt, number, list, limit, leftOut, linkMembers, matrixMembers, links, sheetTree, sheetMessage}
+use Rattle.sheet_rules.proofs.Asked.{flat-sheet, path-ok, cells-ok, path-small}
+use Rattle.sheet_rules.proofs.Suited.{path-short, total-fits, each-fits, sheet-legal, sheet-count}
+use Rattle.sheet_rules.proofs.Sizes.{sheet-size, path-size as path-octets}
 use Rattle.sheet_writer.specs.Steps.{numberCell, limitCell, listCell, matrixEntry, linkEntry, Filled, filled, withLink, withLinks}
 
 -- ---- the octets of identifiers

@@ -9,17 +9,17 @@ use borrow.Author.Tests.{eq-eqb, ne-eqb}
 use lib.ListN.{length, take, drop, getD, set, drop-of-length-le}
 use lib.Seq.{drop-cons}
 use lib.Dec.{eqb}
-use Rattle.integers.specs.Digits.{pick}
-use Rattle.entries.specs.declared.Cell.{Cell}
-use Rattle.entries.specs.Cell.{absent, numbersCell}
-use Rattle.entries.specs.Entry.{blanks, words, row, Rows}
+use Rattle.ber_integers.specs.Digits.{pick}
+use Rattle.glow_rows.specs.declared.Cell.{Cell}
+use Rattle.glow_rows.specs.Cell.{absent, numbersCell}
+use Rattle.glow_rows.specs.Entry.{blanks, words, row, Rows}
 use Rattle.framing_writer.specs.Stores.{wrote}
 use Rattle.framing_writer.specs.Stores as stores
 use Rattle.framing_writer.proofs.Laws.{wrote-none}
-use Rattle.crosspoints.specs.declared.Figures.{Figures}
-use Rattle.crosspoints.specs.Crosspoints.{Cells, rowAt}
-use Rattle.crosspoints.proofs.Under.{take-short}
-use Rattle.sheets.specs.Sheet.{sourcesFrom, sourcesAt}
+use Rattle.desk_crosspoints.specs.declared.Figures.{Figures}
+use Rattle.desk_crosspoints.specs.Crosspoints.{Cells, rowAt}
+use Rattle.desk_crosspoints.proofs.Under.{take-short}
+use Rattle.sheet_rules.specs.Sheet.{sourcesFrom, sourcesAt}
 use Rattle.sheet_writer.specs.Steps.{oneSource, numberCell, limitCell, listCell, matrixEntry, linkEntry, Filled, filled, withLink, withLinks}
 
 -- ---- sources

@@ -12,7 +12,7 @@ use Rattle.framing_writer.specs.Written.{packet, payloadLimit, earlier, inPacke
 use Rattle.framing_writer.specs.Written.{Outcome, outcome, messageInto}
 use Rattle.framing_writer.proofs.Laws.{limited-fits}
 use Rattle.framing_writer.proofs.Sizes.{packet-length, packets-length, into-fits}
-use Rattle.sheets.specs.Sheet.{hexText, lineOf, packetLines, messageLines}
+use Rattle.sheet_rules.specs.Sheet.{hexText, lineOf, packetLines, messageLines}
 
 pub frames-length : (m : List ℕ) → length m ≤ 6144 → length (inPackets m) ≤ 16384
 frames-length m h =

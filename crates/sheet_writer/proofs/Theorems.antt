@@ -6,16 +6,16 @@ use mathlib.Core.Bool.{Bool, true, false}
 use native.Mathlib.Omega.{arith}
 use borrow.Author.Tests.{le-leb}
 use lib.ListN.{length, take, drop}
-use Rattle.integers.specs.Digits.{pick}
+use Rattle.ber_integers.specs.Digits.{pick}
 use Rattle.framing_writer.specs.Written.{Outcome, into}
 use Rattle.framing_writer.proofs.Laws.{into-back}
-use Rattle.crosspoints.specs.declared.Figures.{Figures}
-use Rattle.crosspoints.specs.Figures.{side}
-use Rattle.crosspoints.specs.Crosspoints.{Cells}
+use Rattle.desk_crosspoints.specs.declared.Figures.{Figures}
+use Rattle.desk_crosspoints.specs.Figures.{side}
+use Rattle.desk_crosspoints.specs.Crosspoints.{Cells}
 use Rattle.desk_calls.specs.Calls.{deskLegal}
-use Rattle.sheets.specs.Sheet.{desk, sheetOf}
-use Rattle.sheets.specs.Reading.{read, readSheet}
-use Rattle.sheets.proofs.Theorems.{sheet-read}
+use Rattle.sheet_rules.specs.Sheet.{desk, sheetOf}
+use Rattle.sheet_rules.specs.Reading.{read, readSheet}
+use Rattle.sheet_rules.proofs.Theorems.{sheet-read}
 use Rattle.sheet_writer.specs.declared.Answer.the-variants.{Setup, Done}
 use Rattle.sheet_writer.specs.Calls.{told, writesSheet}
 use Rattle.sheet_writer.proofs.Answers.{sheet-into, sheet-length}

@@ -1,12 +1,12 @@
 -- The route sheet writer (document 01, "Desk" and "Numbers answered").
 use Prim.Native.Nat.{ℕ}
 use mathlib.Core.List.{List}
-use Rattle.integers.specs.Digits.{pick}
+use Rattle.ber_integers.specs.Digits.{pick}
 use Rattle.framing_writer.specs.Written.{Outcome, into}
-use Rattle.crosspoints.specs.declared.Figures.{Figures}
-use Rattle.crosspoints.specs.Crosspoints.{Cells}
+use Rattle.desk_crosspoints.specs.declared.Figures.{Figures}
+use Rattle.desk_crosspoints.specs.Crosspoints.{Cells}
 use Rattle.desk_calls.specs.Calls.{deskLegal}
-use Rattle.sheets.specs.Sheet.{desk, sheetOf}
+use Rattle.sheet_rules.specs.Sheet.{desk, sheetOf}
 use Rattle.sheet_writer.specs.declared.Answer.{Answer}
 use Rattle.sheet_writer.specs.declared.Answer.the-variants.{Setup, Out, Done}
 

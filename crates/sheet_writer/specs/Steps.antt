@@ -4,18 +4,18 @@ use mathlib.Core.List.{List, [], _∷_}
 use lib.ListN.{length, set}
 use lib.Seq.{sets}
 use lib.Dec.{eqb}
-use Rattle.integers.specs.Digits.{pick}
-use Rattle.entries.specs.declared.Cell.{Cell}
-use Rattle.entries.specs.Cell.{cell, absent, numbersCell}
-use Rattle.entries.specs.Entry.{Entry, blanks, row, Rows}
-use Rattle.grammar.specs.Grammar.{qualifiedMatrix, connection}
+use Rattle.ber_integers.specs.Digits.{pick}
+use Rattle.glow_rows.specs.declared.Cell.{Cell}
+use Rattle.glow_rows.specs.Cell.{cell, absent, numbersCell}
+use Rattle.glow_rows.specs.Entry.{Entry, blanks, row, Rows}
+use Rattle.glow_grammar.specs.Grammar.{qualifiedMatrix, connection}
 use Rattle.framing_writer.specs.declared.Written.{Written}
 use Rattle.framing_writer.specs.declared.Written.the-variants as written
-use Rattle.crosspoints.specs.declared.Limit.{Limit}
-use Rattle.crosspoints.specs.declared.Limit.the-variants.{Absent, Most}
-use Rattle.crosspoints.specs.declared.Figures.{Figures}
-use Rattle.crosspoints.specs.Crosspoints.{Cells}
-use Rattle.sheets.specs.Sheet.{sourcesAt}
+use Rattle.desk_crosspoints.specs.declared.Limit.{Limit}
+use Rattle.desk_crosspoints.specs.declared.Limit.the-variants.{Absent, Most}
+use Rattle.desk_crosspoints.specs.declared.Figures.{Figures}
+use Rattle.desk_crosspoints.specs.Crosspoints.{Cells}
+use Rattle.sheet_rules.specs.Sheet.{sourcesAt}
 use Rattle.sheet_writer.specs.declared.Answer.{Answer}
 use Rattle.sheet_writer.specs.declared.Answer.the-variants as answers
 

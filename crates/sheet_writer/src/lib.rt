@@ -1,23 +1,23 @@
 // The route sheet writer: a legal desk's sheet, into a lent output.
-use crosspoints::Figures;
-use crosspoints::Limit;
-use entries::Cell;
+use ber_integers::Wrote;
+use desk_crosspoints::Figures;
+use desk_crosspoints::Limit;
 use framing_writer::Written;
-use integers::Wrote;
+use glow_rows::Cell;
 ghost use mathlib.Core.Path.{_≡_};
 ghost use mathlib.Core.Bool.{true};
 ghost use mathlib.Core.List.{[], _∷_};
 ghost use Prim.Native.Nat.{_+_, _≤_, _<_};
 ghost use lib.ListN.{length, take};
-ghost use Rattle.entries.specs.Entry.{row};
-ghost use Rattle.forest.specs.Rows.{itemsIn};
-ghost use Rattle.forest.specs.Trees.{flat};
+ghost use Rattle.glow_rows.specs.Entry.{row};
+ghost use Rattle.glow_trees.specs.Rows.{itemsIn};
+ghost use Rattle.glow_trees.specs.Trees.{flat};
 ghost use Rattle.framing_writer.specs.Written.{inPackets};
 ghost use Rattle.framing_writer.specs.Stores.{wrote};
-ghost use Rattle.member_sizes.specs.Sizes.{nextOf};
-ghost use Rattle.crosspoints.specs.Figures.{side};
+ghost use Rattle.glow_member_sizes.specs.Sizes.{nextOf};
+ghost use Rattle.desk_crosspoints.specs.Figures.{side};
 ghost use Rattle.desk_calls.specs.Calls.{deskLegal};
-ghost use Rattle.sheets.specs.Sheet.{desk, sourcesFrom, sheetTree, sheetMessage};
+ghost use Rattle.sheet_rules.specs.Sheet.{desk, sourcesFrom, sheetTree, sheetMessage};
 ghost use Rattle.sheet_writer.specs.Calls.{told, writesSheet};
 ghost use Rattle.sheet_writer.specs.Steps.{oneSource, limitCell, listCell, matrixEntry, linkEntry, filled, withLink, withLinks, said};
 
@@ -222,7 +222,7 @@ fn put_entries(
     ensures { λ r. ⌜ r ≤ 65 ⌝ }
 {
     let targets = index(f.targets);
-    let end = end_of(identifiers::write_oid(path, octets, 0));
+    let end = end_of(ber_identifiers::write_oid(path, octets, 0));
     rows[0] = matrix_row(f, wide(end));
     put_links(cells, targets, rows, octets, end);
     targets + 1
@@ -273,5 +273,5 @@ pub fn write(f: Figures, path: &[u64], crosspoints: &[u8], out: &mut [u8]) -> An
     let n = put_message(f, path, crosspoints, &mut message);
     let mut frames = [0u8; 16384];
     let k = put_frames(&message[..n], &mut frames);
-    tell(sheets::write_lines(&frames[..k], out))
+    tell(sheet_rules::write_lines(&frames[..k], out))
 }

@@ -1,5 +1,5 @@
 -- What is proved, on one page: each final theorem, stated in full over the definitions of specs/ and proved by naming the original. These definitions are what
--- the functions' contracts equate their answers with: `feeds` of framing::feed, `readAt` of glow::read, `writes` of glow_writer::write, `called` of
+-- the functions' contracts equate their answers with: `feeds` of framing::feed, `readAt` of glow_reader::read, `writes` of glow_writer::write, `called` of
 -- desk_calls::call, `calls` and `turns` of the C functions, and so on. Octets, words and cells are numbers; `Below 256` says that they are octets.
 use Prim.Native.Nat.{ℕ, _+_, _*_, _≤_, _<_}
 use mathlib.Core.Path.{_≡_}
@@ -12,22 +12,22 @@ use lib.IntN.{ℤ}
 use lib.Ieee as Ieee
 use lib.Ieee.{Float, binary64}
 use lib.ListN.{length, take, getD}
-use Rattle.integers.specs.Digits.{outcome, unchanged}
-use Rattle.integers.specs.Integer.{integer, shortest}
-use Rattle.integers.specs.declared.Number.the-variants.{Int}
-use Rattle.integers.specs.declared.Wrote.the-variants.{Next}
-use Rattle.integers.proofs.Radix.{Below}
-use Rattle.integers.proofs.RoundTrip as integers
-use Rattle.reals.specs.Real.{real}
-use Rattle.reals.specs.Means.{Means}
-use Rattle.reals.specs.declared.Read.the-variants.{Real, Refused as NoReal}
-use Rattle.reals.proofs.Exactly as reals
-use Rattle.values.specs.declared.Value.{Value}
-use Rattle.values.specs.declared.Answer.the-variants.{Found}
-use Rattle.values.specs.Value.{valueAt}
-use Rattle.values.specs.Write.{putValue}
-use Rattle.values.proofs.RoundTrip.{Held, moved, octetsOf}
-use Rattle.values.proofs.RoundTrip as values
+use Rattle.ber_integers.specs.Digits.{outcome, unchanged}
+use Rattle.ber_integers.specs.Integer.{integer, shortest}
+use Rattle.ber_integers.specs.declared.Number.the-variants.{Int}
+use Rattle.ber_integers.specs.declared.Wrote.the-variants.{Next}
+use Rattle.ber_integers.proofs.Radix.{Below}
+use Rattle.ber_integers.proofs.RoundTrip as integers
+use Rattle.ber_reals.specs.Real.{real}
+use Rattle.ber_reals.specs.Means.{Means}
+use Rattle.ber_reals.specs.declared.Read.the-variants.{Real, Refused as NoReal}
+use Rattle.ber_reals.proofs.Exactly as reals
+use Rattle.ber_values.specs.declared.Value.{Value}
+use Rattle.ber_values.specs.declared.Answer.the-variants.{Found}
+use Rattle.ber_values.specs.Value.{valueAt}
+use Rattle.ber_values.specs.Write.{putValue}
+use Rattle.ber_values.proofs.RoundTrip.{Held, moved, octetsOf}
+use Rattle.ber_values.proofs.RoundTrip as values
 use Rattle.framing.specs.declared.Session.{Session}
 use Rattle.framing.specs.Numbers.{storeLength, messageLimit}
 use Rattle.framing.specs.Rules as framing
@@ -39,36 +39,36 @@ use Rattle.framing.proofs.Calls as framing-calls
 use Rattle.framing_writer.proofs.Calls as framing-writer
 use Rattle.framing_writer.specs.Written.{inPackets}
 use Rattle.framing_writer.specs.Read.{Bytes, messageEvents}
-use Rattle.entries.specs.Entry.{Rows, blank}
-use Rattle.walk.specs.Walk.{walk}
-use Rattle.glow.specs.declared.Answer.the-variants.{Read}
-use Rattle.glow.specs.Message.{readNumbers, readAt}
-use Rattle.glow.proofs.Answers as glow
-use Rattle.forest.specs.Content.{Item}
-use Rattle.forest.specs.Rows.{itemsIn}
-use Rattle.forest.specs.Trees.{Trees}
-use Rattle.forest.specs.Written.{writtenReal}
-use Rattle.member_sizes.specs.Spelling.{leastReal}
-use Rattle.tree_sizes.specs.Accepted.{octetsOf as messageOf, accepted, fits}
-use Rattle.tree_round_trip.proofs.Theorems as trees
-use Rattle.read_records.specs.Told.{Told}
-use Rattle.read_records.proofs.Theorems as records
+use Rattle.glow_rows.specs.Entry.{Rows, blank}
+use Rattle.glow_walk.specs.Walk.{walk}
+use Rattle.glow_reader.specs.declared.Answer.the-variants.{Read}
+use Rattle.glow_reader.specs.Message.{readNumbers, readAt}
+use Rattle.glow_reader.proofs.Answers as glow
+use Rattle.glow_trees.specs.Content.{Item}
+use Rattle.glow_trees.specs.Rows.{itemsIn}
+use Rattle.glow_trees.specs.Trees.{Trees}
+use Rattle.glow_trees.specs.Written.{writtenReal}
+use Rattle.glow_member_sizes.specs.Spelling.{leastReal}
+use Rattle.glow_sizes.specs.Accepted.{octetsOf as messageOf, accepted, fits}
+use Rattle.trees_round_trip.proofs.Theorems as trees
+use Rattle.entries_from_rows.specs.Told.{Told}
+use Rattle.entries_from_rows.proofs.Theorems as records
 use Rattle.encodings.specs.Encodes.{Encodes}
 use Rattle.encodings.specs.Reading.{AnswersExactly}
 use Rattle.encodings.proofs.ReadExactly as encodings
 use Rattle.encodings.proofs.Exactly as encodings-exactly
-use Rattle.crosspoints.specs.declared.Figures.{Figures}
-use Rattle.crosspoints.specs.Figures.{side}
-use Rattle.crosspoints.specs.Crosspoints.{Cells, legal, count}
-use Rattle.routing.specs.Request.{named, requested}
-use Rattle.routing.proofs.Claims as requests
+use Rattle.desk_crosspoints.specs.declared.Figures.{Figures}
+use Rattle.desk_crosspoints.specs.Figures.{side}
+use Rattle.desk_crosspoints.specs.Crosspoints.{Cells, legal, count}
+use Rattle.desk_requests.specs.Request.{named, requested}
+use Rattle.desk_requests.proofs.Claims as requests
 use Rattle.desk_calls.specs.Calls.{deskLegal, deskOpened}
 use Rattle.desk_calls.proofs.Claims as desk-calls
-use Rattle.sheets.specs.Sheet as sheet
-use Rattle.sheets.specs.Sheet.{sheetOf}
-use Rattle.sheets.specs.Reading.{readSheet, read}
-use Rattle.sheets.specs.KeepAlives.{sheetFrames, WithAlives, Lines}
-use Rattle.sheets.proofs.Theorems as sheets
+use Rattle.sheet_rules.specs.Sheet as sheet
+use Rattle.sheet_rules.specs.Sheet.{sheetOf}
+use Rattle.sheet_rules.specs.Reading.{readSheet, read}
+use Rattle.sheet_rules.specs.KeepAlives.{sheetFrames, WithAlives, Lines}
+use Rattle.sheet_rules.proofs.Theorems as sheets
 use Rattle.turns.specs.Rules.{Desk, isLegal, keep, tells, after}
 use Rattle.turns.specs.Turns as turns
 use Rattle.turns.specs.Samples.{All, p1-to-p12}
@@ -89,7 +89,7 @@ use Rattle.supervision_c.specs.Calls.{starts as link-starts}
 use Rattle.supervision_c.specs.Promise as supervision-c
 use Rattle.supervision_c.specs.Promise.{Seen, showings}
 use Rattle.supervision_c.proofs.Promise as supervision-c-promise
-use Rattle.session_words.specs.Words.{wordsOf}
+use Rattle.framing_words.specs.Words.{wordsOf}
 use Rattle.turns.specs.Whole.{deskAt}
 use Rattle.ember.specs.Words.{figuresAt}
 use Rattle.ember.specs.Rounds.{Round, Rounds}

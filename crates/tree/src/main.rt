@@ -17,17 +17,17 @@ mod names;
 mod show;
 mod value;
 
-use glow::Answer;
-use integers::Wrote;
-use requests::input;
-use requests::input::Input;
-use requests::print;
-use requests::text;
-use requests::text::Decimal;
-use requests::text::Hex;
+use ber_integers::Wrote;
+use glow_reader::Answer;
+use program_lines::input;
+use program_lines::input::Input;
+use program_lines::print;
+use program_lines::text;
+use program_lines::text::Decimal;
+use program_lines::text::Hex;
 
 fn read(s: &[u8], table: &mut [[u64; 50]]) {
-    let found = glow::read(s, table);
+    let found = glow_reader::read(s, table);
     show::answer(s, table, found);
 }
 
@@ -49,7 +49,7 @@ fn written(w: Wrote, out: &[u8]) {
 
 // Reads with the table and writes what was read.
 fn write(s: &[u8], table: &mut [[u64; 50]], out: &mut [u8]) {
-    let found = glow::read(s, table);
+    let found = glow_reader::read(s, table);
     match found {
         Answer::Read { root, count } => {
             let w = glow_writer::write::write(table, count, root, s, out);

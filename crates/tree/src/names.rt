@@ -1,5 +1,5 @@
 // Words for kinds and members. A new member is one more arm.
-use requests::print;
+use program_lines::print;
 
 pub(crate) fn root(which: u64) {
     if which == 0 {
@@ -93,7 +93,7 @@ fn of_stream_entry(n: u64) {
 
 // An element's number or path, by what the grammar has there.
 fn of_key(kind: u64) {
-    if grammar::rule_of(kind, 0) == 6 {
+    if glow_grammar::rule_of(kind, 0) == 6 {
         print::say(b" path=");
     } else {
         print::say(b" number=");
@@ -102,7 +102,7 @@ fn of_key(kind: u64) {
 
 // The row of members that a cell of a kind belongs to: an element's cells but the first keep its contents.
 fn row_of(kind: u64, c: u64) -> u64 {
-    let contents = grammar::contents_of(kind);
+    let contents = glow_grammar::contents_of(kind);
     if contents == 0 {
         return kind;
     }
@@ -139,7 +139,7 @@ pub(crate) fn member(kind: u64, c: u64) {
 
 // Whether that member may be of any kind.
 pub(crate) fn is_any(kind: u64, c: u64) -> bool {
-    grammar::rule_of(row_of(kind, c), number_of(kind, c)) == 4
+    glow_grammar::rule_of(row_of(kind, c), number_of(kind, c)) == 4
 }
 
 // A value's kind, by its universal tag number.

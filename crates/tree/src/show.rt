@@ -1,8 +1,8 @@
 // Answers: the first line, and a line for each entry.
 use crate::names;
 use crate::value;
-use glow::Answer;
-use requests::print;
+use glow_reader::Answer;
+use program_lines::print;
 
 fn word(x: usize) -> u64 {
     x as u64

@@ -1,6 +1,6 @@
 // What a cell keeps, as text.
-use identifiers::Arc;
-use requests::print;
+use ber_identifiers::Arc;
+use program_lines::print;
 ghost use Prim.Native.Nat.{_≤_};
 
 fn place(x: u64) -> usize {
@@ -29,7 +29,7 @@ fn integer(x: u64) {
 fn real(bits: u64) {
     let mut room = [0u8; 8];
     let out: &mut [u8] = &mut room;
-    integers::write_octets(bits, 8, out, 0);
+    ber_integers::write_octets(bits, 8, out, 0);
     print::hex(out);
 }
 
@@ -112,7 +112,7 @@ fn numbers(octets: &[u8]) {
     let end = octets.len();
     let mut p: usize = 0;
     while p < end {
-        match identifiers::read_number(octets, p, end) {
+        match ber_identifiers::read_number(octets, p, end) {
             Arc::Number { number, next } => {
                 if 0 < p {
                     print::dot();

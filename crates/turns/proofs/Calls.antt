@@ -16,16 +16,16 @@ use Rattle.framing.specs.declared.Session.{Session}
 use Rattle.framing.specs.Session.{answers, feeds}
 use Rattle.framing.specs.Offers as offers
 use Rattle.framing.proofs.Calls as framing
-use Rattle.entries.specs.Entry.{Rows}
-use Rattle.glow.specs.declared.Answer.{Answer}
-use Rattle.glow.specs.declared.Answer.the-variants.{Read}
-use Rattle.glow.specs.Message.{result, readAt}
-use Rattle.glow.proofs.read
-use Rattle.glow.proofs.read.Kinds as read-kinds
-use Rattle.glow.proofs.read.Reads as read-reads
-use Rattle.crosspoints.specs.declared.Figures.{Figures}
-use Rattle.crosspoints.specs.Figures.{side}
-use Rattle.crosspoints.specs.Crosspoints.{Cells}
+use Rattle.glow_rows.specs.Entry.{Rows}
+use Rattle.glow_reader.specs.declared.Answer.{Answer}
+use Rattle.glow_reader.specs.declared.Answer.the-variants.{Read}
+use Rattle.glow_reader.specs.Message.{result, readAt}
+use Rattle.glow_reader.proofs.read
+use Rattle.glow_reader.proofs.read.Kinds as read-kinds
+use Rattle.glow_reader.proofs.read.Reads as read-reads
+use Rattle.desk_crosspoints.specs.declared.Figures.{Figures}
+use Rattle.desk_crosspoints.specs.Figures.{side}
+use Rattle.desk_crosspoints.specs.Crosspoints.{Cells}
 use Rattle.desk_calls.specs.declared.Called.{Called}
 use Rattle.desk_calls.specs.Calls.{called, told as answered}
 use Rattle.desk_calls.proofs.call
@@ -45,7 +45,7 @@ use Rattle.turns.proofs.turn.Reads as turn-reads
 lent-slice : {A : Type 0} → List A → RefT (List A)
 lent-slice xs = record { ptr = (0, 0); name = 0; now = xs }
 
--- `glow::read` was called with the message s and the table, gave a, and left the table′: what its contract has it ensure.
+-- `glow_reader::read` was called with the message s and the table, gave a, and left the table′: what its contract has it ensure.
 pub record ReadCall (s : List ℕ) (table : Rows) (a : Answer) (table′ : Rows) : Type 0 where
   pub κs : Lfts 2
   pub args : World.ArgsD read.signature κs
@@ -131,7 +131,7 @@ come-calls {d = d} (turns.serves {t = t} {n = n} table root count table′ r cel
     serves table root count table′ r cells′ k (read-called (Read root count) q)
     (desk-called (d .figures) (d .path) table′ count root (take n t) (d .crosspoints) r cells′ p)
 
--- Turns made call by call: calls of `framing::feed`, `glow::read` and `desk_calls::call`, by what their contracts have them ensure.
+-- Turns made call by call: calls of `framing::feed`, `glow_reader::read` and `desk_calls::call`, by what their contracts have them ensure.
 pub data CallByCall (rows : ℕ) : Session → List ℕ → Desk → List ℕ → List Turn → Session → List ℕ → Desk → List ℕ → Type 0 where
   end : {s : Session} {t : List ℕ} {d : Desk} {rest : List ℕ} → CallByCall rows s t d rest [] s t d rest
   next : {s s″ : Session} {t t′ t″ : List ℕ} {d d′ d″ : Desk} {rest″ : List ℕ} {ts : List Turn} (c later : List ℕ) (r : Fed) (x : Later)

@@ -5,20 +5,20 @@ use mathlib.Core.List.{List, _∷_, _++_}
 use mathlib.Core.Path.{_≡_, refl, ap, subst, _∙_}
 use lib.Dec.{ltb}
 use lib.ListN.{length, take, drop}
-use Rattle.containers.specs.declared.Onto.{Onto}
-use Rattle.containers.specs.declared.Onto.the-variants.{Next, Refused as Stopped}
-use Rattle.containers.proofs.Heads.{pick-by}
+use Rattle.ber_containers.specs.declared.Onto.{Onto}
+use Rattle.ber_containers.specs.declared.Onto.the-variants.{Next, Refused as Stopped}
+use Rattle.ber_containers.proofs.Heads.{pick-by}
 use Rattle.framing.specs.declared.Event.{Event}
 use Rattle.framing.specs.declared.Event.the-variants as ev
 use Rattle.framing.specs.declared.Session.{Session}
 use Rattle.framing.specs.Session.{answers, feeds}
-use Rattle.entries.specs.Entry.{Entries, Rows}
-use Rattle.glow.specs.declared.Answer.{Answer}
-use Rattle.glow.specs.declared.Answer.the-variants.{Setup, Refused, Room, Read}
-use Rattle.walk.specs.Walk.{walk}
-use Rattle.glow.specs.Message.{Result, result, readOf, readAt, setup}
-use Rattle.crosspoints.specs.Figures.{side}
-use Rattle.crosspoints.specs.Crosspoints.{Cells}
+use Rattle.glow_rows.specs.Entry.{Entries, Rows}
+use Rattle.glow_reader.specs.declared.Answer.{Answer}
+use Rattle.glow_reader.specs.declared.Answer.the-variants.{Setup, Refused, Room, Read}
+use Rattle.glow_walk.specs.Walk.{walk}
+use Rattle.glow_reader.specs.Message.{Result, result, readOf, readAt, setup}
+use Rattle.desk_crosspoints.specs.Figures.{side}
+use Rattle.desk_crosspoints.specs.Crosspoints.{Cells}
 use Rattle.desk_calls.specs.declared.Called.{Called}
 use Rattle.desk_calls.specs.Calls.{Outcome, called}
 use Rattle.turns.specs.declared.Turned.{Turned}

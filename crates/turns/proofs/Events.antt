@@ -8,7 +8,7 @@ use lib.Dec.{eqb}
 use Rattle.framing.specs.Numbers as numbers
 use Rattle.framing.specs.Rules as framing
 use Rattle.framing.specs.Rules.{State, Said, step, Happening, happens}
-use Rattle.integers.specs.Digits.{pick}
+use Rattle.ber_integers.specs.Digits.{pick}
 use Rattle.turns.specs.Rules.{Desk, keep, Follow, follow, nothing, follows, Told, noted, next, tells, after}
 
 -- what is told of the events, and the desk after them

@@ -7,27 +7,27 @@ use native.Mathlib.Omega.{arith}
 use lib.Dec.{eqb}
 use lib.ListN.{length, take}
 use lib.Seq.{take-at}
-use Rattle.integers.proofs.Radix.{Below}
+use Rattle.ber_integers.proofs.Radix.{Below}
 use Rattle.framing.specs.declared.Event.{Event}
 use Rattle.framing.specs.declared.Event.the-variants as ev
 use Rattle.framing.specs.Rules as framing
 use Rattle.framing.specs.Session.{saidBy}
 use Rattle.framing.proofs.Laws.{number-apart}
-use Rattle.entries.specs.Entry.{Rows}
-use Rattle.glow.specs.declared.Answer.{Answer}
-use Rattle.glow.specs.declared.Answer.the-variants.{Read}
-use Rattle.glow.specs.Message.{Result, result, readAt, saidBy as treeSaid}
-use Rattle.forest.specs.Content.{Item}
-use Rattle.forest.specs.Rows.{itemsIn}
-use Rattle.crosspoints.specs.Figures.{side}
-use Rattle.crosspoints.specs.Crosspoints.{Cells, clear}
+use Rattle.glow_rows.specs.Entry.{Rows}
+use Rattle.glow_reader.specs.declared.Answer.{Answer}
+use Rattle.glow_reader.specs.declared.Answer.the-variants.{Read}
+use Rattle.glow_reader.specs.Message.{Result, result, readAt, saidBy as treeSaid}
+use Rattle.glow_trees.specs.Content.{Item}
+use Rattle.glow_trees.specs.Rows.{itemsIn}
+use Rattle.desk_crosspoints.specs.Figures.{side}
+use Rattle.desk_crosspoints.specs.Crosspoints.{Cells, clear}
 use Rattle.desk_calls.specs.Calls.{deskLegal, Served, handled, Outcome, filled, laid, isReady, called, told as answered}
 use Rattle.desk_calls.proofs.Setup.{called-ready, ready-from}
 use Rattle.desk_calls.proofs.Claims.{called-legal}
-use Rattle.tree_round_trip.proofs.Theorems.{read-accepted}
-use Rattle.glow.proofs.Answers.{rows-kept}
-use Rattle.tree_round_trip.proofs.Reading.{read-walk}
-use Rattle.tree_round_trip.proofs.Rewriting.{in-rows}
+use Rattle.trees_round_trip.proofs.Theorems.{read-accepted}
+use Rattle.glow_reader.proofs.Answers.{rows-kept}
+use Rattle.trees_round_trip.proofs.Reading.{read-walk}
+use Rattle.trees_round_trip.proofs.Rewriting.{in-rows}
 use Rattle.turns.specs.Rules.{Desk, isLegal, withCells, refusal, treeOf, Then, nothing, served, follow, asked, follows}
 use Rattle.turns.specs.Turns.{Later, read, desk, isMessage, isRead, Comes, ends, reads, serves, thenOf}
 use Rattle.turns.proofs.Trees.{tree-refused, tree-read}

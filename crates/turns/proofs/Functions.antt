@@ -4,7 +4,7 @@ use mathlib.Core.List.{List, [], append-nil}
 use mathlib.Core.Path.{_≡_, sym, ap, subst, _∙_}
 use Prim.Native.Nat.{ℕ}
 use lib.ListN.{length}
-use Rattle.integers.proofs.Radix.{Below}
+use Rattle.ber_integers.proofs.Radix.{Below}
 use Rattle.framing.specs.declared.Session.{Session}
 use Rattle.framing.specs.Numbers.{storeLength}
 use Rattle.framing.specs.Rules.{begin}
@@ -12,16 +12,16 @@ use Rattle.framing.specs.Session.{stateOf, sessionOf}
 use Rattle.framing.specs.Offers as offers
 use Rattle.framing.proofs.Chunks.{fresh-legal}
 use Rattle.framing.proofs.Calls as framing
-use Rattle.entries.specs.Entry.{Rows}
-use Rattle.crosspoints.specs.declared.Figures.{Figures}
-use Rattle.crosspoints.specs.Crosspoints.{Cells}
+use Rattle.glow_rows.specs.Entry.{Rows}
+use Rattle.desk_crosspoints.specs.declared.Figures.{Figures}
+use Rattle.desk_crosspoints.specs.Crosspoints.{Cells}
 use Rattle.turns.specs.Rules.{Desk, isLegal, keep, tells, after}
 use Rattle.turns.specs.Turns.{Turn, calls, told, AsRules}
 use Rattle.turns.specs.Whole.{deskAt}
 use Rattle.turns.proofs.Calls.{CallByCall, calls-turns, Made, made-turns, some-made}
 use Rattle.turns.proofs.Claim.{claim}
 
--- Whatever list of turns is made by calls of `framing::feed`, `glow::read` and `desk_calls::call`, from a fresh session, any store of the right length and a
+-- Whatever list of turns is made by calls of `framing::feed`, `glow_reader::read` and `desk_calls::call`, from a fresh session, any store of the right length and a
 -- desk in any legal state, it tells what the rules tell for the bytes consumed so far, and leaves what they keep. (`turns-calls`: every list of turns can be
 -- made so, and there is one for every stream and every cut of it: `every-cut`, Some.antt.)
 pub calls-claim : {rows : ℕ} {s : Session} {t t′ : List ℕ} {d d′ : Desk} {bytes rest : List ℕ} {ts : List Turn} → length t ≡ storeLength

@@ -5,22 +5,22 @@ use mathlib.Core.List.{List, []}
 use mathlib.Core.Bool.{Bool, true, false}
 use lib.ListN.{length, take}
 use lib.Dec.{leb}
-use Rattle.integers.specs.Digits.{pick}
+use Rattle.ber_integers.specs.Digits.{pick}
 use Rattle.framing.specs.declared.Event.{Event}
-use Rattle.entries.specs.Entry.{Rows}
-use Rattle.grammar.specs.Leaf as leaf
-use Rattle.forest.specs.Content.{Item}
-use Rattle.forest.specs.Rows.{itemsIn}
-use Rattle.forest.specs.Trees.{flat, treesOf}
-use Rattle.member_sizes.specs.Spelling.{leastReal}
-use Rattle.tree_sizes.specs.Accepted.{accepted, isWhole, octetsOf}
-use Rattle.tree_round_trip.proofs.Writing.{made}
-use Rattle.crosspoints.specs.declared.Figures.{Figures}
-use Rattle.crosspoints.specs.Figures.{side}
-use Rattle.crosspoints.specs.Crosspoints.{Cells, clear}
-use Rattle.connections.specs.Connections.{Ask, asksOf}
-use Rattle.connections.proofs.Paths.{right, asks-down}
-use Rattle.connections.proofs.Operations.{Operations, legal-operations}
+use Rattle.glow_rows.specs.Entry.{Rows}
+use Rattle.glow_grammar.specs.Leaf as leaf
+use Rattle.glow_trees.specs.Content.{Item}
+use Rattle.glow_trees.specs.Rows.{itemsIn}
+use Rattle.glow_trees.specs.Trees.{flat, treesOf}
+use Rattle.glow_member_sizes.specs.Spelling.{leastReal}
+use Rattle.glow_sizes.specs.Accepted.{accepted, isWhole, octetsOf}
+use Rattle.trees_round_trip.proofs.Writing.{made}
+use Rattle.desk_crosspoints.specs.declared.Figures.{Figures}
+use Rattle.desk_crosspoints.specs.Figures.{side}
+use Rattle.desk_crosspoints.specs.Crosspoints.{Cells, clear}
+use Rattle.desk_connections.specs.Connections.{Ask, asksOf}
+use Rattle.desk_connections.proofs.Paths.{right, asks-down}
+use Rattle.desk_connections.proofs.Operations.{Operations, legal-operations}
 use Rattle.desk_calls.specs.Calls.{Outcome, requests, served, handled, isReady, called}
 use Rattle.desk_calls.specs.Steps.{has}
 use Rattle.desk_calls.specs.Numbers.{callNumbers, answerNumbers, allHas}

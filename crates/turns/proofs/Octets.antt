@@ -6,8 +6,8 @@ use native.Mathlib.Omega.{arith}
 use lib.Bits.{bitXor, xor-lt}
 use lib.Dec.{leb, ltb, eqb}
 use lib.ListN.{length}
-use Rattle.integers.proofs.Radix.{Below}
-use Rattle.integers.proofs.Signs.{below-take, below-drop}
+use Rattle.ber_integers.proofs.Radix.{Below}
+use Rattle.ber_integers.proofs.Signs.{below-take, below-drop}
 use Rattle.framing.specs.declared.Content.{Content}
 use Rattle.framing.specs.declared.Content.the-variants.{Refused, Request, Response, Piece}
 use Rattle.framing.specs.declared.Event.{Event}

@@ -2,27 +2,27 @@
 use mathlib.Core.Path.{refl}
 use mathlib.Core.List.{List}
 use Prim.Native.Nat.{ℕ}
-use Rattle.integers.specs.Digits.{horner, digits}
-use Rattle.integers.specs.Integer.{signed, nineFree, twos, integer, integerAt, sizeBy, octets, shortest}
+use Rattle.ber_integers.specs.Digits.{horner, digits}
+use Rattle.ber_integers.specs.Integer.{signed, nineFree, twos, integer, integerAt, sizeBy, octets, shortest}
 use Rattle.framing.specs.Checksum.{table, crcStep, crcFrom, checksum}
 use Rattle.framing.specs.Content.{contentOf as frameOf, bodyOf, commandOf}
 use Rattle.framing.specs.Rules.{step, inPlace, adds, cuts, ends, happens}
 use Rattle.framing_writer.specs.Written.{escape, escapes, frame}
-use Rattle.tags.specs.Tag.{stop, cut, longNumber, tagNumber, sized, lengthAt, headAt}
-use Rattle.identifiers.specs.Identifier.{arcIs, arcFrom, arcAt, arcsFrom}
-use Rattle.values.specs.Value.{boolean, boolAt, isListed, kindAt, contentAt}
-use Rattle.containers.specs.Ends.{zeroAt, closingAt, standingAt, deep, enterAt, firstAt, lastAt, isTag}
-use Rattle.containers.specs.Passing.{skipped, crossAt, throughBy, passedAt}
-use Rattle.entries.specs.Entry.{blanks, withCell, putCell, words, overlay}
-use Rattle.grammar.specs.Grammar.{members, ruleOf, requirements, required, isSet, contentsRows, contentsOf, applications, holds, kindAmong, kindIn}
-use Rattle.grammar.specs.Grammar.{innerClass, innerNumber, collectionOf, rootOf}
-use Rattle.grammar.specs.Leaf.{expects, least, most, inRange, isLetter, noSlash, isName, allPositive, isPath, numberLeaf, textLeaf, numbersAt, leafAt}
-use Rattle.members.specs.Members.{marked, mark, due, inOrder, again, afterListed, afterOther, column}
-use Rattle.members.specs.Members.{plainAt, innerAt, listedAt, ruledAt, memberAt, kindOf, itemAt}
-use Rattle.walk.specs.Tree.{closed, membersBy, itemsBy}
-use Rattle.members.specs.Root.{rootKind, topAt}
-use Rattle.walk.specs.Walk.{finished, walk}
-use Rattle.glow.specs.Message.{setup, readAt}
+use Rattle.ber_tags.specs.Tag.{stop, cut, longNumber, tagNumber, sized, lengthAt, headAt}
+use Rattle.ber_identifiers.specs.Identifier.{arcIs, arcFrom, arcAt, arcsFrom}
+use Rattle.ber_values.specs.Value.{boolean, boolAt, isListed, kindAt, contentAt}
+use Rattle.ber_containers.specs.Ends.{zeroAt, closingAt, standingAt, deep, enterAt, firstAt, lastAt, isTag}
+use Rattle.ber_containers.specs.Passing.{skipped, crossAt, throughBy, passedAt}
+use Rattle.glow_rows.specs.Entry.{blanks, withCell, putCell, words, overlay}
+use Rattle.glow_grammar.specs.Grammar.{members, ruleOf, requirements, required, isSet, contentsRows, contentsOf, applications, holds, kindAmong, kindIn}
+use Rattle.glow_grammar.specs.Grammar.{innerClass, innerNumber, collectionOf, rootOf}
+use Rattle.glow_grammar.specs.Leaf.{expects, least, most, inRange, isLetter, noSlash, isName, allPositive, isPath, numberLeaf, textLeaf, numbersAt, leafAt}
+use Rattle.glow_steps.specs.Members.{marked, mark, due, inOrder, again, afterListed, afterOther, column}
+use Rattle.glow_steps.specs.Members.{plainAt, innerAt, listedAt, ruledAt, memberAt, kindOf, itemAt}
+use Rattle.glow_walk.specs.Tree.{closed, membersBy, itemsBy}
+use Rattle.glow_steps.specs.Root.{rootKind, topAt}
+use Rattle.glow_walk.specs.Walk.{finished, walk}
+use Rattle.glow_reader.specs.Message.{setup, readAt}
 use Rattle.turns.specs.Samples.{All, p1-to-p12}
 
 pub samples : All p1-to-p12

@@ -4,7 +4,7 @@ use mathlib.Core.List.{List, [], _∷_, append-nil}
 use mathlib.Core.Bool.{true}
 use mathlib.Core.Path.{_≡_, refl, sym, ap, subst, _∙_}
 use lib.ListN.{length}
-use Rattle.integers.proofs.Radix.{Below}
+use Rattle.ber_integers.proofs.Radix.{Below}
 use Rattle.framing.specs.declared.Session.{Session}
 use Rattle.framing.specs.Numbers.{storeLength}
 use Rattle.framing.specs.Rules.{begin}
@@ -12,7 +12,7 @@ use Rattle.framing.specs.Session.{stateOf, sessionOf, Legal}
 use Rattle.framing.specs.Offers as offers
 use Rattle.framing.proofs.Chunks.{fresh-legal}
 use Rattle.framing.proofs.Calls as framing
-use Rattle.entries.specs.Entry.{Rows}
+use Rattle.glow_rows.specs.Entry.{Rows}
 use Rattle.turns.specs.Rules.{Desk, isLegal, withCells, keep, tells, after}
 use Rattle.turns.specs.Turns.{Turn, Turns, none, turn, calls, told, Consumed}
 use Rattle.turns.specs.Whole.{laterAt}

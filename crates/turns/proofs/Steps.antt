@@ -12,13 +12,13 @@ use lib.Seq.{take-all, take-length}
 use Rattle.framing.proofs.Event as event
 use Rattle.framing.specs.declared.Event.{Event}
 use Rattle.framing.specs.declared.Event.the-variants as ev
-use Rattle.entries.specs.Entry.{Rows}
-use Rattle.glow.proofs.Answer as answer
-use Rattle.glow.specs.declared.Answer.{Answer}
-use Rattle.glow.specs.declared.Answer.the-variants.{Setup, Refused, Room, Read}
-use Rattle.glow.specs.Message.{Result, result, readAt}
-use Rattle.crosspoints.specs.Figures.{side}
-use Rattle.crosspoints.specs.Crosspoints.{Cells}
+use Rattle.glow_rows.specs.Entry.{Rows}
+use Rattle.glow_reader.proofs.Answer as answer
+use Rattle.glow_reader.specs.declared.Answer.{Answer}
+use Rattle.glow_reader.specs.declared.Answer.the-variants.{Setup, Refused, Room, Read}
+use Rattle.glow_reader.specs.Message.{Result, result, readAt}
+use Rattle.desk_crosspoints.specs.Figures.{side}
+use Rattle.desk_crosspoints.specs.Crosspoints.{Cells}
 use Rattle.desk_calls.specs.declared.Called.{Called}
 use Rattle.desk_calls.specs.Calls.{called, told as answered}
 use Rattle.turns.specs.Rules.{Desk}

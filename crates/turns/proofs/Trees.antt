@@ -6,21 +6,21 @@ use mathlib.Core.Path.{_≡_, refl, sym, ap, _∙_}
 use native.Mathlib.Omega.{arith}
 use lib.Dec.{ltb}
 use lib.ListN.{length}
-use Rattle.integers.specs.Digits.{pick}
-use Rattle.integers.proofs.Radix.{Below}
-use Rattle.containers.specs.declared.Onto.{Onto}
-use Rattle.containers.specs.declared.Onto.the-variants.{Next, Refused as Stopped}
-use Rattle.entries.specs.Entry.{Entries, Rows, overlay}
-use Rattle.glow.specs.declared.Answer.{Answer}
-use Rattle.glow.specs.declared.Answer.the-variants.{Setup, Refused, Room, Read}
-use Rattle.walk.specs.Walk.{walk}
-use Rattle.glow.specs.Message.{saidBy, result, readOf, readAt, setup}
-use Rattle.forest.specs.Content.{Item, itemsOf}
-use Rattle.forest.specs.Rows.{itemsIn}
-use Rattle.read_trees.proofs.Lists.{items-length}
-use Rattle.read_trees.proofs.Message.{is-legal}
-use Rattle.tree_round_trip.proofs.Rows.{rows-items, tree-sixteen}
-use Rattle.tree_round_trip.proofs.Reading.{Walked, read-walk}
+use Rattle.ber_integers.specs.Digits.{pick}
+use Rattle.ber_integers.proofs.Radix.{Below}
+use Rattle.ber_containers.specs.declared.Onto.{Onto}
+use Rattle.ber_containers.specs.declared.Onto.the-variants.{Next, Refused as Stopped}
+use Rattle.glow_rows.specs.Entry.{Entries, Rows, overlay}
+use Rattle.glow_reader.specs.declared.Answer.{Answer}
+use Rattle.glow_reader.specs.declared.Answer.the-variants.{Setup, Refused, Room, Read}
+use Rattle.glow_walk.specs.Walk.{walk}
+use Rattle.glow_reader.specs.Message.{saidBy, result, readOf, readAt, setup}
+use Rattle.glow_trees.specs.Content.{Item, itemsOf}
+use Rattle.glow_trees.specs.Rows.{itemsIn}
+use Rattle.trees_accepted.proofs.Lists.{items-length}
+use Rattle.trees_accepted.proofs.Message.{is-legal}
+use Rattle.trees_round_trip.proofs.Rows.{rows-items, tree-sixteen}
+use Rattle.trees_round_trip.proofs.Reading.{Walked, read-walk}
 use Rattle.turns.specs.Rules.{Tree, entries, refusal, treeBy, treeOf}
 use Rattle.turns.specs.Turns.{isRead}
 

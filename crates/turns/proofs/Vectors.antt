@@ -6,29 +6,29 @@ use mathlib.Core.List.{List, [], _∷_, _++_}
 use Rattle.framing.specs.Checksum.{table, crcStep, crcFrom, checksum}
 use Rattle.framing.specs.Content.{contentOf as frameOf, bodyOf, commandOf, packetOf}
 use Rattle.framing.specs.Rules.{begin, step, inPlace, adds, cuts, ends, pieces}
-use Rattle.integers.specs.Digits.{horner}
-use Rattle.integers.specs.Integer.{signed, nineFree, twos, integer, integerAt}
-use Rattle.tags.specs.Tag.{stop, cut, longNumber, tagNumber, sized, lengthAt, headAt}
-use Rattle.identifiers.specs.Identifier.{arcIs, arcFrom, arcAt, arcsFrom}
-use Rattle.values.specs.Value.{boolean, boolAt, isListed, kindAt, contentAt}
-use Rattle.containers.specs.Ends.{zeroAt, closingAt, standingAt, deep, enterAt, firstAt, lastAt, isTag}
-use Rattle.containers.specs.Passing.{skipped, crossAt, throughBy, passedAt}
-use Rattle.entries.specs.Entry.{blanks, withCell, putCell}
-use Rattle.grammar.specs.Grammar.{members, ruleOf, requirements, required, isSet, contentsRows, contentsOf, applications, holds, kindAmong, kindIn}
-use Rattle.grammar.specs.Grammar.{innerClass, innerNumber, collectionOf, rootOf}
-use Rattle.grammar.specs.Leaf.{expects, least, most, inRange, isLetter, noSlash, isName, allPositive, isPath, numberLeaf, textLeaf, numbersAt, leafAt}
-use Rattle.glow.specs.declared.Answer.the-variants.{Room, Read}
-use Rattle.members.specs.Members.{marked as markedAt, mark, due, inOrder, again, afterListed, afterOther, column}
-use Rattle.members.specs.Members.{plainAt, innerAt, listedAt, ruledAt, memberAt, kindOf, itemAt}
-use Rattle.walk.specs.Tree.{closed, membersBy, itemsBy}
-use Rattle.members.specs.Root.{rootKind, topAt}
-use Rattle.walk.specs.Walk.{finished, walk}
-use Rattle.glow.specs.Message.{setup, saidBy}
-use Rattle.forest.specs.Content.{Content, nothing as absent, word, bytes, Item, item, contentOf, contentsOf as contentsIn, itemsOf}
-use Rattle.crosspoints.specs.declared.Figures.{Figures}
-use Rattle.crosspoints.specs.Figures.{side}
-use Rattle.crosspoints.specs.Crosspoints.{Cells}
-use Rattle.connections.specs.Connections.{numbersIn, isQualified, pathUp, askOf, asksIn, same}
+use Rattle.ber_integers.specs.Digits.{horner}
+use Rattle.ber_integers.specs.Integer.{signed, nineFree, twos, integer, integerAt}
+use Rattle.ber_tags.specs.Tag.{stop, cut, longNumber, tagNumber, sized, lengthAt, headAt}
+use Rattle.ber_identifiers.specs.Identifier.{arcIs, arcFrom, arcAt, arcsFrom}
+use Rattle.ber_values.specs.Value.{boolean, boolAt, isListed, kindAt, contentAt}
+use Rattle.ber_containers.specs.Ends.{zeroAt, closingAt, standingAt, deep, enterAt, firstAt, lastAt, isTag}
+use Rattle.ber_containers.specs.Passing.{skipped, crossAt, throughBy, passedAt}
+use Rattle.glow_rows.specs.Entry.{blanks, withCell, putCell}
+use Rattle.glow_grammar.specs.Grammar.{members, ruleOf, requirements, required, isSet, contentsRows, contentsOf, applications, holds, kindAmong, kindIn}
+use Rattle.glow_grammar.specs.Grammar.{innerClass, innerNumber, collectionOf, rootOf}
+use Rattle.glow_grammar.specs.Leaf.{expects, least, most, inRange, isLetter, noSlash, isName, allPositive, isPath, numberLeaf, textLeaf, numbersAt, leafAt}
+use Rattle.glow_reader.specs.declared.Answer.the-variants.{Room, Read}
+use Rattle.glow_steps.specs.Members.{marked as markedAt, mark, due, inOrder, again, afterListed, afterOther, column}
+use Rattle.glow_steps.specs.Members.{plainAt, innerAt, listedAt, ruledAt, memberAt, kindOf, itemAt}
+use Rattle.glow_walk.specs.Tree.{closed, membersBy, itemsBy}
+use Rattle.glow_steps.specs.Root.{rootKind, topAt}
+use Rattle.glow_walk.specs.Walk.{finished, walk}
+use Rattle.glow_reader.specs.Message.{setup, saidBy}
+use Rattle.glow_trees.specs.Content.{Content, nothing as absent, word, bytes, Item, item, contentOf, contentsOf as contentsIn, itemsOf}
+use Rattle.desk_crosspoints.specs.declared.Figures.{Figures}
+use Rattle.desk_crosspoints.specs.Figures.{side}
+use Rattle.desk_crosspoints.specs.Crosspoints.{Cells}
+use Rattle.desk_connections.specs.Connections.{numbersIn, isQualified, pathUp, askOf, asksIn, same}
 use Rattle.desk_calls.specs.Calls.{answered, Served, served as servedIn, handled}
 use Rattle.turns.specs.Rules.{Desk, keep, treeOf, Then, nothing, refused, served, follows, Told, tells, after}
 

@@ -6,17 +6,17 @@ use mathlib.Core.Bool.{Bool}
 use mathlib.Core.List.{List, [], _∷_}
 use lib.Dec.{ltb, eqb}
 use lib.ListN.{length}
-use Rattle.integers.specs.Digits.{pick}
-use Rattle.containers.specs.declared.Onto.{Onto}
-use Rattle.containers.specs.declared.Onto.the-variants.{Next, Refused as Stopped}
+use Rattle.ber_integers.specs.Digits.{pick}
+use Rattle.ber_containers.specs.declared.Onto.{Onto}
+use Rattle.ber_containers.specs.declared.Onto.the-variants.{Next, Refused as Stopped}
 use Rattle.framing.specs.Rules.{State, Said, step}
-use Rattle.glow.specs.declared.Answer.the-variants.{Setup, Refused, Room, Read}
-use Rattle.walk.specs.Walk.{walk}
-use Rattle.glow.specs.Message.{setup, saidBy, Said as TreeSaid}
-use Rattle.forest.specs.Content.{Item, itemsOf}
-use Rattle.crosspoints.specs.declared.Figures.{Figures}
-use Rattle.crosspoints.specs.Figures.{side}
-use Rattle.crosspoints.specs.Crosspoints.{Cells}
+use Rattle.glow_reader.specs.declared.Answer.the-variants.{Setup, Refused, Room, Read}
+use Rattle.glow_walk.specs.Walk.{walk}
+use Rattle.glow_reader.specs.Message.{setup, saidBy, Said as TreeSaid}
+use Rattle.glow_trees.specs.Content.{Item, itemsOf}
+use Rattle.desk_crosspoints.specs.declared.Figures.{Figures}
+use Rattle.desk_crosspoints.specs.Figures.{side}
+use Rattle.desk_crosspoints.specs.Crosspoints.{Cells}
 use Rattle.desk_calls.specs.Calls.{deskLegal, Served, handled}
 
 -- The desk: figures, path and crosspoints.

@@ -4,14 +4,14 @@ use mathlib.Core.Path.{_≡_}
 use mathlib.Core.List.{List, [], _∷_, map}
 use lib.IntN.{ℤ, pos, negsuc}
 use lib.ListN.{length}
-use Rattle.integers.specs.declared.Number.the-variants.{Int}
-use Rattle.integers.specs.Integer.{integer, shortest}
+use Rattle.ber_integers.specs.declared.Number.the-variants.{Int}
+use Rattle.ber_integers.specs.Integer.{integer, shortest}
 use Rattle.framing.specs.Rules.{Happening, begin, happens}
 use Rattle.framing_writer.specs.Written.{frame}
-use Rattle.glow.specs.declared.Answer.the-variants.{Read}
-use Rattle.glow.specs.Message.{result, readAt}
-use Rattle.entries.specs.Cell.{cell}
-use Rattle.entries.specs.Entry.{Entry, Entries, blank, withCell, overlay}
+use Rattle.glow_reader.specs.declared.Answer.the-variants.{Read}
+use Rattle.glow_reader.specs.Message.{result, readAt}
+use Rattle.glow_rows.specs.Cell.{cell}
+use Rattle.glow_rows.specs.Entry.{Entry, Entries, blank, withCell, overlay}
 
 pub data Sample : Type 0 where
   -- an integer, and its content octets

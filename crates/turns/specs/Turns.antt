@@ -1,6 +1,6 @@
 -- Turns (document 01, "Contracts"): "A turn is a session call, offered 0 or more bytes from the first not yet consumed; if it gives 3, then the tree
 -- reader's call on that message; if that gives 0, then the desk's call on those entries, as read."
--- What a call gives is what its contract says: `feeds` (framing::feed), `readAt` (glow::read), `called` (desk_calls::call).
+-- What a call gives is what its contract says: `feeds` (framing::feed), `readAt` (glow_reader::read), `called` (desk_calls::call).
 use Prim.Native.Nat.{ℕ, _+_, _≤_}
 use mathlib.Core.Bool.{Bool, true, false}
 use mathlib.Core.List.{List, [], _∷_, _++_}
@@ -13,13 +13,13 @@ use Rattle.framing.specs.declared.Session.{Session}
 use Rattle.framing.specs.Rules.{State}
 use Rattle.framing.specs.Session.{saidBy, stateOf, Legal, answers, feeds}
 use Rattle.framing.specs.Offers as offers
-use Rattle.entries.specs.Entry.{Rows}
-use Rattle.glow.specs.declared.Answer.{Answer}
-use Rattle.glow.specs.declared.Answer.the-variants.{Setup, Refused, Room, Read}
-use Rattle.glow.specs.Message.{result, readAt, saidBy as treeSaid}
-use Rattle.forest.specs.Rows.{itemsIn}
-use Rattle.crosspoints.specs.Figures.{side}
-use Rattle.crosspoints.specs.Crosspoints.{Cells}
+use Rattle.glow_rows.specs.Entry.{Rows}
+use Rattle.glow_reader.specs.declared.Answer.{Answer}
+use Rattle.glow_reader.specs.declared.Answer.the-variants.{Setup, Refused, Room, Read}
+use Rattle.glow_reader.specs.Message.{result, readAt, saidBy as treeSaid}
+use Rattle.glow_trees.specs.Rows.{itemsIn}
+use Rattle.desk_crosspoints.specs.Figures.{side}
+use Rattle.desk_crosspoints.specs.Crosspoints.{Cells}
 use Rattle.desk_calls.specs.declared.Called.{Called}
 use Rattle.desk_calls.specs.Calls.{Outcome, called, told as answered}
 use Rattle.turns.specs.Rules.{Desk, isLegal, withCells, keep, Then, nothing, refused, served, Told, noted, tells, after}

@@ -1,9 +1,9 @@
 // A whole turn: session, tree reader and desk. The claim over every list of turns is proofs/Claim.antt.
-use crosspoints::Figures;
+use desk_crosspoints::Figures;
 use framing::Event;
 use framing::Fed;
 use framing::Session;
-use glow::Answer;
+use glow_reader::Answer;
 ghost use mathlib.Core.Path.{_≡_};
 ghost use Prim.Native.Nat.{_≤_};
 ghost use lib.ListN.{length, take};
@@ -59,7 +59,7 @@ pub fn message(
     ensures { λ r. ⌜ readTo (deskAt figures (now (path .entry)) (now (crosspoints .entry))) (now (m .entry)) (now (table .entry))
         ≡ gave (r .after) (r .answers) (now (table .exit)) (now (crosspoints .exit)) ⌝ }
 {
-    let answer = glow::read(m, table);
+    let answer = glow_reader::read(m, table);
     let Answer::Read { root, count } = answer else {
         return Handled {
             after: After::Refused { answer },

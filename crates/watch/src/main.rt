@@ -7,11 +7,11 @@
 //
 // The answers are `-`, `ask`, `answer` and `dead`. TICK is decimal, 0 to 4294967295. Any other line is answered with
 // `bad line`, and so are one before the start and a second start.
-use requests::input;
-use requests::input::Input;
-use requests::print;
-use requests::text;
-use requests::text::Decimal;
+use program_lines::input;
+use program_lines::input::Input;
+use program_lines::print;
+use program_lines::text;
+use program_lines::text::Decimal;
 use supervision::Answer;
 use supervision::Happened;
 use supervision::Link;

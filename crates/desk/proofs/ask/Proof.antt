@@ -7,7 +7,7 @@ use Rattle.desk.proofs.ask.Tie as tie
 use Rattle.desk.proofs.ask.Reads as reads
 use Rattle.desk.proofs.ask.Lts as lts
 use Rattle.desk.proofs.number_line.Reads as number-line-reads
-use Rattle.requests.proofs.print.bad_line.Reads as bad-line-reads
+use Rattle.program_lines.proofs.print.bad_line.Reads as bad-line-reads
 use Rattle.desk_calls.proofs.request.Reads as request-reads
 
 -- src/main.rt:139:49

@@ -1,5 +1,5 @@
 use mathlib.Core.Path.{sym, _∙_}
-use Rattle.connections.proofs.Walk.{has-is}
+use Rattle.desk_connections.proofs.Walk.{has-is}
 use borrow.Author.Tests.{not-true, not-false}
 use Rattle.desk_calls.proofs.Served.{other-matrix, own-matrix}
 use borrow.Author.Needs.{needs}

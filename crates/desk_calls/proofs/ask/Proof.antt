@@ -1,5 +1,5 @@
-use Rattle.crosspoints.specs.Crosspoints.{count}
-use Rattle.routing.proofs.Answers.{told-target, told-source, asked-no, asked-yes}
+use Rattle.desk_crosspoints.specs.Crosspoints.{count}
+use Rattle.desk_requests.proofs.Answers.{told-target, told-source, asked-no, asked-yes}
 use borrow.Author.Tests.{not-true, not-false}
 use mathlib.Core.Path.{sym, ap, _∙_}
 use native.Mathlib.Omega.{arith}

@@ -2,9 +2,9 @@ use mathlib.Core.Path.{_≡_, refl, sym, _∙_}
 use lib.ListN.{length}
 use lib.Seq.{length-take-le}
 use native.Mathlib.Omega.{arith}
-use Rattle.crosspoints.specs.Crosspoints.{clear}
-use Rattle.crosspoints.proofs.Laws.{fit-sources-le}
-use Rattle.crosspoints.proofs.Legal.{legal-fit}
+use Rattle.desk_crosspoints.specs.Crosspoints.{clear}
+use Rattle.desk_crosspoints.proofs.Laws.{fit-sources-le}
+use Rattle.desk_crosspoints.proofs.Legal.{legal-fit}
 use Rattle.desk_calls.proofs.Sources.{ask-is}
 use borrow.Author.Needs.{needs}
 use Rattle.desk_calls.proofs.ask_member.Statement.{statement}

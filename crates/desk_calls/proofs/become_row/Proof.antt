@@ -1,6 +1,6 @@
 use native.Mathlib.Omega.{arith}
 use mathlib.Core.Path.{_≡_, refl, sym, _∙_}
-use Rattle.routing.proofs.Laws.{becomes-less, becomes-list, becomes-one, becomes-more}
+use Rattle.desk_requests.proofs.Laws.{becomes-less, becomes-list, becomes-one, becomes-more}
 use borrow.Author.Needs.{needs}
 use Rattle.desk_calls.proofs.become_row.Statement.{statement}
 use Rattle.desk_calls.proofs.become_row.Tie as tie

@@ -1,7 +1,7 @@
 use Rattle.desk_calls.proofs.Setup.{measure-rows, measure-few, desk-legal, desk-fits, path-short}
 use Rattle.desk_calls.proofs.Setup.{setup-rows, setup-message, setup-desk, setup-entries, not-setup, unready-told, laid-zeros}
-use Rattle.crosspoints.specs.Crosspoints.{clear}
-use Rattle.member_sizes.specs.Spelling.{leastReal}
+use Rattle.desk_crosspoints.specs.Crosspoints.{clear}
+use Rattle.glow_member_sizes.specs.Spelling.{leastReal}
 use borrow.Author.Tests.{not-true, not-false}
 use mathlib.Core.Path.{refl, _∙_}
 use native.Mathlib.Omega.{arith}

@@ -3,7 +3,7 @@ use borrow.Author.Needs.{needs}
 use native.Mathlib.Omega.{arith}
 use Prim.Native.Nat.{_-_, _+_, _≤_}
 use mathlib.Core.Path.{_≡_, refl, sym, _∙_}
-use Rattle.routing.proofs.Laws.{copy-more, copy-end}
+use Rattle.desk_requests.proofs.Laws.{copy-more, copy-end}
 use Rattle.desk_calls.proofs.copy.Statement.{statement}
 use Rattle.desk_calls.proofs.copy.Tie as tie
 

@@ -1,4 +1,4 @@
-use Rattle.routing.proofs.Parts.{others-kind, others-less, others-none, others-take, first-below}
+use Rattle.desk_requests.proofs.Parts.{others-kind, others-less, others-none, others-take, first-below}
 use mathlib.Core.Path.{sym, _∙_}
 use native.Mathlib.Omega.{arith}
 use borrow.Author.Needs.{needs}

@@ -6,8 +6,8 @@ use Prim.Native.Nat.{ℕ, _-_}
 use lib.ListN.{length-set}
 use lib.ListN.{length, take}
 use Rattle.desk_calls.specs.Steps.{Kept}
-use Rattle.connections.specs.Connections.{numbersIn, Left}
-use Rattle.connections.proofs.Numbers.{left-none}
+use Rattle.desk_connections.specs.Connections.{numbersIn, Left}
+use Rattle.desk_connections.proofs.Numbers.{left-none}
 use Rattle.desk_calls.proofs.Sources.{Alike, kept-none, kept-le, gather-more, gather-end, gather-out}
 use Rattle.desk_calls.proofs.gather.Statement.{statement}
 use Rattle.desk_calls.proofs.gather.Tie as tie

@@ -1,4 +1,4 @@
-use Rattle.crosspoints.proofs.Laws.{row-is}
+use Rattle.desk_crosspoints.proofs.Laws.{row-is}
 use mathlib.Core.Path.{_∙_}
 use Prim.Native.Nat.{_+_, _-_}
 use native.Mathlib.Omega.{arith}

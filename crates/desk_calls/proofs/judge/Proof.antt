@@ -1,7 +1,7 @@
 use native.Mathlib.Omega.{arith}
 use mathlib.Core.Path.{refl, sym, _∙_}
-use Rattle.routing.proofs.Answers.{row-from, told-less, told-many, told-total}
-use Rattle.routing.proofs.Parts.{before-le, total-after, all-under}
+use Rattle.desk_requests.proofs.Answers.{row-from, told-less, told-many, told-total}
+use Rattle.desk_requests.proofs.Parts.{before-le, total-after, all-under}
 use borrow.Author.Needs.{needs}
 use Rattle.desk_calls.proofs.judge.Statement.{statement}
 use Rattle.desk_calls.proofs.judge.Tie as tie

@@ -1,5 +1,5 @@
 use native.Mathlib.Omega.{arith}
-use Rattle.routing.proofs.Laws.{listed}
+use Rattle.desk_requests.proofs.Laws.{listed}
 use borrow.Author.Needs.{needs}
 use Rattle.desk_calls.proofs.list_row.Statement.{statement}
 use Rattle.desk_calls.proofs.list_row.Tie as tie

@@ -1,5 +1,5 @@
-use Rattle.routing.proofs.Parts.{all-under}
-use Rattle.routing.proofs.Answers.{over-yes, over-no, over-other}
+use Rattle.desk_requests.proofs.Parts.{all-under}
+use Rattle.desk_requests.proofs.Answers.{over-yes, over-no, over-other}
 use native.Mathlib.Omega.{arith}
 use mathlib.Core.Path.{refl, _∙_}
 use Prim.Native.Nat.{ℕ, _-_, _+_}

@@ -1,5 +1,5 @@
 use Prim.Native.Nat.{_+_}
-use Rattle.routing.proofs.Parts.{row-put}
+use Rattle.desk_requests.proofs.Parts.{row-put}
 use native.Mathlib.Omega.{arith}
 use borrow.Author.Needs.{needs}
 use Rattle.desk_calls.proofs.put_row.Statement.{statement}

@@ -1,6 +1,6 @@
 use mathlib.Core.Path.{sym, _∙_}
 use borrow.Author.Tests.{not-true, not-false}
-use Rattle.routing.proofs.Answers.{request-legal-not}
+use Rattle.desk_requests.proofs.Answers.{request-legal-not}
 use borrow.Author.Needs.{needs}
 use Rattle.desk_calls.proofs.request.Statement.{statement}
 use Rattle.desk_calls.proofs.request.Tie as tie

@@ -1,8 +1,8 @@
 use native.Mathlib.Omega.{arith}
 use mathlib.Core.Path.{refl, _∙_}
-use Rattle.routing.proofs.Answers.{request-none, request-asked}
-use Rattle.crosspoints.proofs.Laws.{fit-targets-le, fit-sources-le}
-use Rattle.crosspoints.proofs.Legal.{legal-fit, legal-length}
+use Rattle.desk_requests.proofs.Answers.{request-none, request-asked}
+use Rattle.desk_crosspoints.proofs.Laws.{fit-targets-le, fit-sources-le}
+use Rattle.desk_crosspoints.proofs.Legal.{legal-fit, legal-length}
 use borrow.Author.Needs.{needs}
 use Rattle.desk_calls.proofs.request_legal.Statement.{statement}
 use Rattle.desk_calls.proofs.request_legal.Tie as tie

@@ -2,8 +2,8 @@ use mathlib.Core.Path.{_≡_, refl, _∙_}
 use Prim.Native.Nat.{_-_, _≤_}
 use lib.ListN.{length}
 use mathlib.Core.Bool.{true}
-use Rattle.crosspoints.specs.Figures.{side}
-use Rattle.crosspoints.specs.Crosspoints.{legal}
+use Rattle.desk_crosspoints.specs.Figures.{side}
+use Rattle.desk_crosspoints.specs.Crosspoints.{legal}
 use native.Mathlib.Omega.{arith}
 use Rattle.desk_calls.specs.Steps.{servedIn, leftFrom, laidAt}
 use Rattle.desk_calls.proofs.Served.{serve-start, serve-end}

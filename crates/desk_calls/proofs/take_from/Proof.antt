@@ -3,8 +3,8 @@ use borrow.Author.Needs.{needs}
 use native.Mathlib.Omega.{arith}
 use Prim.Native.Nat.{_-_, _+_, _≤_}
 use mathlib.Core.Path.{_≡_, refl, sym, _∙_}
-use Rattle.crosspoints.specs.Crosspoints.{takenFrom}
-use Rattle.routing.proofs.Laws.{taken-end, taken-more}
+use Rattle.desk_crosspoints.specs.Crosspoints.{takenFrom}
+use Rattle.desk_requests.proofs.Laws.{taken-end, taken-more}
 use Rattle.desk_calls.proofs.take_from.Statement.{statement}
 use Rattle.desk_calls.proofs.take_from.Tie as tie
 

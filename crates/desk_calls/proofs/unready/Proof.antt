@@ -1,4 +1,4 @@
-use Rattle.crosspoints.specs.Crosspoints.{clear}
+use Rattle.desk_crosspoints.specs.Crosspoints.{clear}
 use mathlib.Core.Path.{refl}
 use Rattle.desk_calls.proofs.unready.Statement.{statement}
 use Rattle.desk_calls.proofs.unready.Tie as tie

@@ -1,4 +1,4 @@
-use Rattle.crosspoints.specs.Crosspoints as crosspoints
+use Rattle.desk_crosspoints.specs.Crosspoints as crosspoints
 use Rattle.ember.proofs.Laws.{next-nothing, next-message}
 use borrow.Author.Needs.{needs}
 use Rattle.ember.proofs.follow.Statement.{statement}

@@ -5,7 +5,7 @@ use Rattle.ember.proofs.put_answers.Statement.{statement}
 use Rattle.ember.proofs.put_answers.Tie as tie
 use Rattle.ember.proofs.put_answers.Reads as reads
 use Rattle.ember.proofs.put_answers.Lts as lts
-use Rattle.session_words.proofs.word.Reads as word-reads
+use Rattle.framing_words.proofs.word.Reads as word-reads
 
 -- src/lib.rt:182:9
 returns : tie.Need-returns

@@ -1,7 +1,7 @@
 use mathlib.Core.List.{List}
 use Prim.Native.Nat.{ℕ}
-use Rattle.session_words.specs.Words.{wordsOf}
-use Rattle.session_words.proofs.Laws.{put-four}
+use Rattle.framing_words.specs.Words.{wordsOf}
+use Rattle.framing_words.proofs.Laws.{put-four}
 use mathlib.Core.Path.{sym, ap, _∙_}
 use borrow.Author.Tests.{eq-eqb, ne-eqb}
 use Rattle.framing_c.specs.Calls.{starts}

@@ -4,7 +4,7 @@ use Rattle.glow_c.proofs.glow_accepts.Statement.{statement}
 use Rattle.glow_c.proofs.glow_accepts.Tie as tie
 use Rattle.glow_c.proofs.glow_accepts.Reads as reads
 use Rattle.glow_c.proofs.glow_accepts.Lts as lts
-use Rattle.tree_sizes.proofs.is_tree.Reads as is-tree-reads
+use Rattle.glow_sizes.proofs.is_tree.Reads as is-tree-reads
 
 -- src/lib.rt:103:8
 is-tree-requires : tie.Need-is-tree-requires

@@ -6,7 +6,7 @@ use Rattle.sheet.proofs.lines.Statement.{statement}
 use Rattle.sheet.proofs.lines.Tie as tie
 use Rattle.sheet.proofs.lines.Reads as reads
 use Rattle.sheet.proofs.lines.Lts as lts
-use Rattle.requests.proofs.print.say.Reads as say-reads
+use Rattle.program_lines.proofs.print.say.Reads as say-reads
 use Rattle.sheet.proofs.number.Reads as number-reads
 
 -- src/main.rt:16:5

@@ -6,7 +6,7 @@ use Rattle.sheet.proofs.take.Statement.{statement}
 use Rattle.sheet.proofs.take.Tie as tie
 use Rattle.sheet.proofs.take.Reads as reads
 use Rattle.sheet.proofs.take.Lts as lts
-use Rattle.requests.proofs.print.say.Reads as say-reads
+use Rattle.program_lines.proofs.print.say.Reads as say-reads
 use Rattle.sheet.proofs.read.Reads as read-reads
 
 -- src/main.rt:64:20

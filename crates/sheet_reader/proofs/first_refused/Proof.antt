@@ -3,7 +3,7 @@ use native.Mathlib.Omega.{arith}
 use mathlib.Core.Path.{_≡_, refl, sym, _∙_}
 use Prim.Native.Nat.{_-_}
 use lib.ListN.{length, drop}
-use Rattle.sheets.specs.Reading.{firstRefused}
+use Rattle.sheet_rules.specs.Reading.{firstRefused}
 use Rattle.sheet_reader.proofs.Numbers.{refused-none, refused-one, refused-more}
 use Rattle.sheet_reader.proofs.first_refused.Statement.{statement}
 use Rattle.sheet_reader.proofs.first_refused.Tie as tie

@@ -1,8 +1,8 @@
 use borrow.Author.Needs.{needs}
 use Rattle.sheet_reader.proofs.Members.{sheet-none, sheet-other, sheet-links, links-end, links-other, links-more}
 use Rattle.sheet_reader.specs.Steps.{isSheet}
-use Rattle.sheets.specs.Reading.{allLinks}
-use Rattle.forest.specs.Rows.{itemsIn}
+use Rattle.sheet_rules.specs.Reading.{allLinks}
+use Rattle.glow_trees.specs.Rows.{itemsIn}
 use lib.ListN.{drop}
 use Prim.Native.Nat.{ℕ, _-_}
 use mathlib.Core.List.{List}

@@ -1,5 +1,5 @@
 use native.Mathlib.Omega.{arith}
-use Rattle.connections.proofs.Items.{octets-other, octets-out}
+use Rattle.desk_connections.proofs.Items.{octets-other, octets-out}
 use Rattle.sheet_reader.proofs.Numbers.{path-none, path-is}
 use borrow.Author.Needs.{needs}
 use Rattle.sheet_reader.proofs.path_of.Statement.{statement}

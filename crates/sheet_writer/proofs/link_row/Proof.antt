@@ -1,4 +1,4 @@
-use Rattle.entries.specs.Entry.{words, blanks}
+use Rattle.glow_rows.specs.Entry.{words, blanks}
 use mathlib.Core.Path.{refl}
 use borrow.Author.Needs.{needs}
 use Rattle.sheet_writer.proofs.link_row.Statement.{statement}

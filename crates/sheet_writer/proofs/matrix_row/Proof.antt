@@ -1,5 +1,5 @@
 use Rattle.sheet_writer.proofs.Laws.{matrix-put}
-use Rattle.entries.specs.Entry.{words, blanks}
+use Rattle.glow_rows.specs.Entry.{words, blanks}
 use borrow.Author.Needs.{needs}
 use Rattle.sheet_writer.proofs.matrix_row.Statement.{statement}
 use Rattle.sheet_writer.proofs.matrix_row.Tie as tie

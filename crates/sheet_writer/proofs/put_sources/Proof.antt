@@ -1,7 +1,7 @@
 use Rattle.sheet_writer.proofs.Laws.{sources-more, sources-end}
 use Rattle.framing_writer.proofs.Laws.{wrote-none, wrote-then}
 use Rattle.framing_writer.specs.Stores.{wrote}
-use Rattle.sheets.specs.Sheet.{sourcesFrom}
+use Rattle.sheet_rules.specs.Sheet.{sourcesFrom}
 use lib.ListN.{length, drop}
 use native.Mathlib.Omega.{arith}
 use mathlib.Core.Path.{_≡_, refl, _∙_}

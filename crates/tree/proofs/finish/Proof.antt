@@ -6,7 +6,7 @@ use Rattle.tree.proofs.finish.Statement.{statement}
 use Rattle.tree.proofs.finish.Tie as tie
 use Rattle.tree.proofs.finish.Reads as reads
 use Rattle.tree.proofs.finish.Lts as lts
-use Rattle.requests.proofs.print.bad_line.Reads as bad-line-reads
+use Rattle.program_lines.proofs.print.bad_line.Reads as bad-line-reads
 use Rattle.tree.proofs.answer.Reads as answer-reads
 
 -- src/main.rt:139:9

@@ -4,8 +4,8 @@ use Rattle.tree.proofs.main.Tie as tie
 use Rattle.tree.proofs.main.Reads as reads
 use Rattle.tree.proofs.main.Lts as lts
 use Rattle.io.proofs.large_buffer.Reads as large-buffer-reads
-use Rattle.requests.proofs.input.next.Reads as next-reads
-use Rattle.requests.proofs.input.start.Reads as start-reads
+use Rattle.program_lines.proofs.input.next.Reads as next-reads
+use Rattle.program_lines.proofs.input.start.Reads as start-reads
 use Rattle.tree.proofs.finish.Reads as finish-reads
 
 abbrev Inv-loop : tie.InvT-loop

@@ -6,8 +6,8 @@ use Rattle.tree.proofs.rewrite.Statement.{statement}
 use Rattle.tree.proofs.rewrite.Tie as tie
 use Rattle.tree.proofs.rewrite.Reads as reads
 use Rattle.tree.proofs.rewrite.Lts as lts
-use Rattle.requests.proofs.print.bad_line.Reads as bad-line-reads
-use Rattle.requests.proofs.text.octets.Reads as octets-reads
+use Rattle.program_lines.proofs.print.bad_line.Reads as bad-line-reads
+use Rattle.program_lines.proofs.text.octets.Reads as octets-reads
 use Rattle.tree.proofs.write_with.Reads as write-with-reads
 
 -- src/main.rt:96:28

@@ -6,9 +6,9 @@ use Rattle.tree.proofs.written.Statement.{statement}
 use Rattle.tree.proofs.written.Tie as tie
 use Rattle.tree.proofs.written.Reads as reads
 use Rattle.tree.proofs.written.Lts as lts
-use Rattle.requests.proofs.print.end.Reads as end-reads
-use Rattle.requests.proofs.print.hex.Reads as hex-reads
-use Rattle.requests.proofs.print.say.Reads as say-reads
+use Rattle.program_lines.proofs.print.end.Reads as end-reads
+use Rattle.program_lines.proofs.print.hex.Reads as hex-reads
+use Rattle.program_lines.proofs.print.say.Reads as say-reads
 
 -- src/main.rt:37:21
 enum-known-w : tie.Need-enum-known-w

@@ -1,5 +1,5 @@
 use Rattle.turns.proofs.Steps.{other-answer, to-refused, to-served}
-use Rattle.crosspoints.specs.Crosspoints.{clear}
+use Rattle.desk_crosspoints.specs.Crosspoints.{clear}
 use borrow.Author.Needs.{needs}
 use Rattle.turns.proofs.message.Statement.{statement}
 use Rattle.turns.proofs.message.Tie as tie

@@ -7,7 +7,7 @@ use Rattle.desk.proofs.figures.read.Tie as tie
 use Rattle.desk.proofs.figures.read.Reads as reads
 use Rattle.desk.proofs.figures.read.Lts as lts
 use Rattle.desk.proofs.figures.put_part.Reads as put-part-reads
-use Rattle.requests.proofs.text.find.Reads as find-reads
+use Rattle.program_lines.proofs.text.find.Reads as find-reads
 
 abbrev Inv-loop : tie.InvT-loop
 Inv-loop line start numbers₀ given₀ from₀ i₀ numbers given from i = (length numbers ≡ length numbers₀) × (length given ≡ length given₀)

@@ -6,7 +6,7 @@ use Rattle.desk.proofs.route.lines.Statement.{statement}
 use Rattle.desk.proofs.route.lines.Tie as tie
 use Rattle.desk.proofs.route.lines.Reads as reads
 use Rattle.desk.proofs.route.lines.Lts as lts
-use Rattle.requests.proofs.print.say.Reads as say-reads
+use Rattle.program_lines.proofs.print.say.Reads as say-reads
 
 -- src/route.rt:8:20
 slice-aggregate-say : tie.Need-slice-aggregate-say

@@ -6,8 +6,8 @@ use Rattle.desk.proofs.show.flush.Statement.{statement}
 use Rattle.desk.proofs.show.flush.Tie as tie
 use Rattle.desk.proofs.show.flush.Reads as reads
 use Rattle.desk.proofs.show.flush.Lts as lts
-use Rattle.requests.proofs.print.end.Reads as end-reads
-use Rattle.requests.proofs.print.say.Reads as say-reads
+use Rattle.program_lines.proofs.print.end.Reads as end-reads
+use Rattle.program_lines.proofs.print.say.Reads as say-reads
 
 -- src/show.rt:146:17
 add-n : tie.Need-add-n

@@ -5,7 +5,7 @@ use Rattle.desk.proofs.show.row.Tie as tie
 use Rattle.desk.proofs.show.row.Reads as reads
 use Rattle.desk.proofs.show.row.Lts as lts
 use Rattle.desk.proofs.show.source.Reads as source-reads
-use Rattle.requests.proofs.print.say.Reads as say-reads
+use Rattle.program_lines.proofs.print.say.Reads as say-reads
 
 abbrev Inv-loop : tie.InvT-loop
 Inv-loop cells t sources begun₀ s₀ t6 begun s = Unit {0}

@@ -6,7 +6,7 @@ use Rattle.desk.proofs.show.show.Reads as reads
 use Rattle.desk.proofs.show.show.Lts as lts
 use Rattle.desk.proofs.show.side.Reads as side-reads
 use Rattle.desk.proofs.show.target.Reads as target-reads
-use Rattle.requests.proofs.print.end.Reads as end-reads
+use Rattle.program_lines.proofs.print.end.Reads as end-reads
 
 abbrev Inv-loop : tie.InvT-loop
 Inv-loop cells targets sources t₀ t = Unit {0}

@@ -7,7 +7,7 @@ use Rattle.desk.proofs.stream.first.Tie as tie
 use Rattle.desk.proofs.stream.first.Reads as reads
 use Rattle.desk.proofs.stream.first.Lts as lts
 use Rattle.desk.proofs.stream.list.Reads as list-reads
-use Rattle.requests.proofs.print.say.Reads as say-reads
+use Rattle.program_lines.proofs.print.say.Reads as say-reads
 
 -- src/stream.rt:34:20
 slice-aggregate-say : tie.Need-slice-aggregate-say

@@ -7,7 +7,7 @@ use Rattle.desk.proofs.words.numbers.Tie as tie
 use Rattle.desk.proofs.words.numbers.Reads as reads
 use Rattle.desk.proofs.words.numbers.Lts as lts
 use Rattle.desk.proofs.words.put.Reads as put-reads
-use Rattle.requests.proofs.text.find.Reads as find-reads
+use Rattle.program_lines.proofs.text.find.Reads as find-reads
 
 abbrev Inv-loop : tie.InvT-loop
 Inv-loop word list₀ from₀ n₀ list from n = length list ≡ length list₀

@@ -4,7 +4,7 @@ use Rattle.ember.proofs.words.figures_at.Tie as tie
 use Rattle.ember.proofs.words.figures_at.Reads as reads
 use Rattle.ember.proofs.words.figures_at.Lts as lts
 use Rattle.ember.proofs.words.limit_at.Reads as limit-at-reads
-use Rattle.session_words.proofs.word_at.Reads as word-at-reads
+use Rattle.framing_words.proofs.word_at.Reads as word-at-reads
 
 -- src/words.rt:52:15
 word-at-requires : tie.Need-word-at-requires

@@ -5,7 +5,7 @@ use native.Mathlib.Omega.{arith}
 use borrow.Author.Needs.{needs}
 use borrow.Author.Tests.{not-true, not-false}
 use lib.ListN.{length}
-use Rattle.forest.specs.Rows.{itemsIn}
+use Rattle.glow_trees.specs.Rows.{itemsIn}
 use Rattle.glow_writer.specs.declared.write.Placed.{Placed}
 use Rattle.glow_writer.specs.Puts.{ItemsPut}
 use Rattle.glow_writer.proofs.Placing.{inside-none, inside-put, item-put, rows-end, rows-parent, rows-kind, rows-step}
@@ -21,14 +21,14 @@ use Rattle.glow_writer.proofs.write.+put_inside+put_item+put_items.Lts-
 use Rattle.glow_writer.proofs.write.put_items.Reads as put-items
 use Rattle.glow_writer.proofs.write.put_items.Kinds as put-items-kinds
 use Rattle.glow_writer.proofs.write.+put_inside+put_item+put_items.Lts-put_items as put-items-lts
-use Rattle.tree_sizes.proofs.entry_size.Reads as entry-size-reads
-use Rattle.tree_sizes.proofs.inside_of.Reads as inside-of-reads
-use Rattle.tree_sizes.proofs.trees_size.Reads as trees-size-reads
-use Rattle.member_sizes.proofs.plus.Reads as plus-reads
-use Rattle.tree_sizes.proofs.stands_in.Reads as stands-in-reads
-use Rattle.member_sizes.proofs.wide.Reads as wide-reads
-use Rattle.tree_sizes.proofs.word_at.Reads as word-at-reads
-use Rattle.tree_sizes.proofs.wrapped_size.Reads as wrapped-size-reads
+use Rattle.glow_sizes.proofs.entry_size.Reads as entry-size-reads
+use Rattle.glow_sizes.proofs.inside_of.Reads as inside-of-reads
+use Rattle.glow_sizes.proofs.trees_size.Reads as trees-size-reads
+use Rattle.glow_member_sizes.proofs.plus.Reads as plus-reads
+use Rattle.glow_sizes.proofs.stands_in.Reads as stands-in-reads
+use Rattle.glow_member_sizes.proofs.wide.Reads as wide-reads
+use Rattle.glow_sizes.proofs.word_at.Reads as word-at-reads
+use Rattle.glow_sizes.proofs.wrapped_size.Reads as wrapped-size-reads
 use Rattle.glow_writer.proofs.write.put_entry.Reads as put-entry-reads
 use Rattle.glow_writer.proofs.write.put_outer.Reads as put-outer-reads
 use Rattle.glow_writer.proofs.write.tag_of.Reads as tag-of-reads

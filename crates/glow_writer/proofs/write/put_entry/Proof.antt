@@ -1,5 +1,5 @@
-use Rattle.forest.specs.Written.{writtenReal}
-use Rattle.tree_sizes.proofs.Cells.{contents-at}
+use Rattle.glow_trees.specs.Written.{writtenReal}
+use Rattle.glow_sizes.proofs.Cells.{contents-at}
 use Rattle.glow_writer.proofs.Putting.{entry-none, entry-some}
 use native.Mathlib.Omega.{arith}
 use mathlib.Core.Path.{_≡_}
@@ -8,8 +8,8 @@ use Rattle.glow_writer.proofs.write.put_entry.Statement.{statement}
 use Rattle.glow_writer.proofs.write.put_entry.Tie as tie
 use Rattle.glow_writer.proofs.write.put_entry.Reads as reads
 use Rattle.glow_writer.proofs.write.put_entry.Lts as lts
-use Rattle.tree_sizes.proofs.contents_size.Reads as contents-size-reads
-use Rattle.tree_sizes.proofs.split_of.Reads as split-of-reads
+use Rattle.glow_sizes.proofs.contents_size.Reads as contents-size-reads
+use Rattle.glow_sizes.proofs.split_of.Reads as split-of-reads
 use Rattle.glow_writer.proofs.write.put_cells.Reads as put-cells-reads
 use Rattle.glow_writer.proofs.write.put_outer.Reads as put-outer-reads
 

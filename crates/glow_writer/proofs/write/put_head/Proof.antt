@@ -4,9 +4,9 @@ use Rattle.glow_writer.proofs.write.put_head.Statement.{statement}
 use Rattle.glow_writer.proofs.write.put_head.Tie as tie
 use Rattle.glow_writer.proofs.write.put_head.Reads as reads
 use Rattle.glow_writer.proofs.write.put_head.Lts as lts
-use Rattle.member_sizes.proofs.place.Reads as place-reads
+use Rattle.glow_member_sizes.proofs.place.Reads as place-reads
 use Rattle.glow_writer.proofs.write.put_octet.Reads as put-octet-reads
-use Rattle.tags.proofs.write_length.Reads as write-length-reads
+use Rattle.ber_tags.proofs.write_length.Reads as write-length-reads
 
 -- src/write.rt:54:9
 put-octet-requires : tie.Need-put-octet-requires

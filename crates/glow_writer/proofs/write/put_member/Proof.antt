@@ -6,14 +6,14 @@ use Rattle.glow_writer.proofs.write.put_member.Statement.{statement}
 use Rattle.glow_writer.proofs.write.put_member.Tie as tie
 use Rattle.glow_writer.proofs.write.put_member.Reads as reads
 use Rattle.glow_writer.proofs.write.put_member.Lts as lts
-use Rattle.member_sizes.proofs.index.Reads as index-reads
-use Rattle.member_sizes.proofs.is_part.Reads as is-part-reads
-use Rattle.member_sizes.proofs.place.Reads as place-reads
-use Rattle.member_sizes.proofs.word_size.Reads as word-size-reads
+use Rattle.glow_member_sizes.proofs.index.Reads as index-reads
+use Rattle.glow_member_sizes.proofs.is_part.Reads as is-part-reads
+use Rattle.glow_member_sizes.proofs.place.Reads as place-reads
+use Rattle.glow_member_sizes.proofs.word_size.Reads as word-size-reads
 use Rattle.glow_writer.proofs.write.low.Reads as low-reads
 use Rattle.glow_writer.proofs.write.put_outer.Reads as put-outer-reads
 use Rattle.glow_writer.proofs.write.put_word.Reads as put-word-reads
-use Rattle.values.proofs.write_part.Reads as write-part-reads
+use Rattle.ber_values.proofs.write_part.Reads as write-part-reads
 
 -- src/write.rt:96:9
 returns : tie.Need-returns

@@ -4,8 +4,8 @@ use Rattle.glow_writer.proofs.write.put_octet.Statement.{statement}
 use Rattle.glow_writer.proofs.write.put_octet.Tie as tie
 use Rattle.glow_writer.proofs.write.put_octet.Reads as reads
 use Rattle.glow_writer.proofs.write.put_octet.Lts as lts
-use Rattle.member_sizes.proofs.place.Reads as place-reads
-use Rattle.integers.proofs.write_octet.Reads as write-octet-reads
+use Rattle.glow_member_sizes.proofs.place.Reads as place-reads
+use Rattle.ber_integers.proofs.write_octet.Reads as write-octet-reads
 
 -- src/write.rt:47:11
 write-octet-requires : tie.Need-write-octet-requires

@@ -6,7 +6,7 @@ use Rattle.glow_writer.proofs.write.put_outer.Statement.{statement}
 use Rattle.glow_writer.proofs.write.put_outer.Tie as tie
 use Rattle.glow_writer.proofs.write.put_outer.Reads as reads
 use Rattle.glow_writer.proofs.write.put_outer.Lts as lts
-use Rattle.member_sizes.proofs.around.Reads as around-reads
+use Rattle.glow_member_sizes.proofs.around.Reads as around-reads
 use Rattle.glow_writer.proofs.write.put_head.Reads as put-head-reads
 
 -- src/write.rt:63:22

@@ -7,12 +7,12 @@ use Rattle.glow_writer.proofs.write.put_word.Statement.{statement}
 use Rattle.glow_writer.proofs.write.put_word.Tie as tie
 use Rattle.glow_writer.proofs.write.put_word.Reads as reads
 use Rattle.glow_writer.proofs.write.put_word.Lts as lts
-use Rattle.member_sizes.proofs.int_of.Reads as int-of-reads
-use Rattle.member_sizes.proofs.place.Reads as place-reads
+use Rattle.glow_member_sizes.proofs.int_of.Reads as int-of-reads
+use Rattle.glow_member_sizes.proofs.place.Reads as place-reads
 use Rattle.glow_writer.proofs.write.flag.Reads as flag-reads
 use Rattle.glow_writer.proofs.write.put_octet.Reads as put-octet-reads
-use Rattle.integers.proofs.write_int.Reads as write-int-reads
-use Rattle.reals.proofs.write_bits.Reads as write-bits-reads
+use Rattle.ber_integers.proofs.write_int.Reads as write-int-reads
+use Rattle.ber_reals.proofs.write_bits.Reads as write-bits-reads
 
 -- src/write.rt:84:26
 flag-requires : tie.Need-flag-requires

@@ -1,5 +1,5 @@
 use Rattle.glow_writer.proofs.Putting.{tag-at, tag-none}
-use Rattle.grammar.specs.Grammar.{applications}
+use Rattle.glow_grammar.specs.Grammar.{applications}
 use native.Mathlib.Omega.{arith}
 use mathlib.Core.Path.{_≡_, refl}
 use borrow.Author.Needs.{needs}

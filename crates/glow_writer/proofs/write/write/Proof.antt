@@ -6,10 +6,10 @@ use Rattle.glow_writer.proofs.write.write.Statement.{statement}
 use Rattle.glow_writer.proofs.write.write.Tie as tie
 use Rattle.glow_writer.proofs.write.write.Reads as reads
 use Rattle.glow_writer.proofs.write.write.Lts as lts
-use Rattle.member_sizes.proofs.around.Reads as around-reads
-use Rattle.tree_sizes.proofs.trees_size.Reads as trees-size-reads
-use Rattle.tree_sizes.proofs.measure.Reads as measure-reads
-use Rattle.member_sizes.proofs.wide.Reads as wide-reads
+use Rattle.glow_member_sizes.proofs.around.Reads as around-reads
+use Rattle.glow_sizes.proofs.trees_size.Reads as trees-size-reads
+use Rattle.glow_sizes.proofs.measure.Reads as measure-reads
+use Rattle.glow_member_sizes.proofs.wide.Reads as wide-reads
 use Rattle.glow_writer.proofs.write.put_head.Reads as put-head-reads
 use Rattle.glow_writer.proofs.write.put_items.Reads as put-items-reads
 use Rattle.glow_writer.proofs.write.root_tag.Reads as root-tag-reads

@@ -1,6 +1,6 @@
 use Prim.Native.Nat.{_<_, _-_, _^_}
 use native.Mathlib.Omega.{arith}
-use Rattle.integers.proofs.Signs.{minus-fits}
+use Rattle.ber_integers.proofs.Signs.{minus-fits}
 use borrow.Author.Needs.{needs}
 use Rattle.octets.proofs.ask.negated.Statement.{statement}
 use Rattle.octets.proofs.ask.negated.Tie as tie

@@ -1,7 +1,7 @@
 use Prim.Native.Nat.{_-_}
 use mathlib.Core.Path.{subst}
 use native.Mathlib.Omega.{arith}
-use Rattle.identifiers.specs.Identifier.{ArcWithin}
+use Rattle.ber_identifiers.specs.Identifier.{ArcWithin}
 use borrow.Author.Needs.{needs}
 use Rattle.tree.proofs.value.numbers.Statement.{statement}
 use Rattle.tree.proofs.value.numbers.Tie as tie

@@ -1,0 +1,533 @@
+// Containers of tags, lengths and values: what stands at a place, what surrounds the one value of an outer tag, and what is passed over.
+use ber_tags::Head;
+use ber_tags::Length;
+ghost use Prim.Native.Nat.{_+_, _-_, _≤_, _<_};
+ghost use mathlib.Core.Path.{_≡_};
+ghost use lib.ListN.{length};
+ghost use lib.Dec.{eqb};
+ghost use Rattle.ber_containers.specs.Ends.{openOf, bit, zeroAt, closingAt, standingAt, deep, enterAt, firstAt, lastAt, isTag};
+ghost use Rattle.ber_containers.specs.Passing.{skipped, crossAt, Through, passedAt};
+ghost use Rattle.ber_containers.specs.Short.{shortTag, Shuts, Shortens, Passes};
+ghost use Rattle.ber_containers.specs.Progress.{Fits, Onward, FoundOnward, OntoOnward, CrossOnward};
+
+// A refusal: its number and its place.
+pub struct No(pub u64, pub usize);
+
+// An open container: definite (1) with its end, or of indefinite length (0), which 00 00 ends before `end`.
+pub struct Open {
+    pub definite: u64,
+    pub end: usize,
+}
+
+// A tag that was read, where its content starts, and how that is open. A struct of words alone is copied fastest.
+pub struct Tag {
+    pub class: u64,
+    pub constructed: u64,
+    pub number: u64,
+    pub start: usize,
+    pub inner: Open,
+}
+
+// What stands at a position: the end and the place after it, or a tag.
+pub enum Stands {
+    Ended(usize),
+    Here(Tag),
+    Refused(No),
+}
+
+// The one value of an outer tag.
+pub enum Found {
+    Value(Tag),
+    Refused(No),
+}
+
+// The place to go on from.
+pub enum Onto {
+    Next(usize),
+    Refused(No),
+}
+
+// One turn of passing over: the end, a value passed, or a container to go into.
+pub enum Crossing {
+    Over(usize),
+    Past(usize),
+    Into(Tag),
+    Refused(No),
+}
+
+fn zero_at(s: &[u8], p: usize) -> bool
+    ensures { λ r. ⌜ zeroAt (now (s .entry)) p ≡ r ⌝ }
+{
+    if s.len() <= p {
+        return false;
+    }
+    s[p] == 0
+}
+
+// A 00 stands at p.
+fn closing(s: &[u8], p: usize, o: Open) -> Stands
+    requires { ⌜ p < length (now s) ⌝ }
+    ensures { λ r. ⌜ closingAt (now (s .entry)) p o ≡ r ⌝ }
+    ensures { λ r. ⌜ Onward (now (s .entry)) p r ⌝ }
+{
+    if o.definite == 1 {
+        return Stands::Refused(No(30, p));
+    }
+    let q = p + 1;
+    if q == o.end {
+        return Stands::Refused(No(30, p));
+    }
+    if s.len() <= q {
+        return Stands::Refused(No(30, s.len()));
+    }
+    if s[q] == 0 {
+        return Stands::Ended(p + 2);
+    }
+    Stands::Refused(No(30, p))
+}
+
+fn open_of(bound: usize, start: usize, length: Length) -> Open
+    requires { ⌜ Fits bound start length ⌝ }
+    ensures { λ r. ⌜ openOf bound start length ≡ r ⌝ }
+    ensures { λ r. ⌜ start ≤ r .end ⌝ }
+{
+    match length {
+        Length::Definite(n) => Open {
+            definite: 1,
+            end: start + n,
+        },
+        Length::Indefinite => Open {
+            definite: 0,
+            end: bound,
+        },
+    }
+}
+
+fn wide(x: u8) -> u64
+    ensures { λ r. ⌜ r ≡ x ⌝ }
+{
+    x as u64
+}
+
+fn flag(b: bool) -> u64
+    ensures { λ r. ⌜ bit b ≡ r ⌝ }
+{
+    if b { 1 } else { 0 }
+}
+
+fn size(x: u8) -> usize
+    ensures { λ r. ⌜ r ≡ x ⌝ }
+{
+    x as usize
+}
+
+// The place after the open container o if it ends at p, or 2^64 - 1 where that is for `standing` to say.
+pub fn shut(s: &[u8], p: usize, o: Open) -> usize
+    ensures { λ r. ⌜ Shuts (now (s .entry)) p o r ⌝ }
+{
+    if p == o.end {
+        if o.definite == 1 {
+            return p;
+        }
+        return 18446744073709551615;
+    }
+    if o.definite == 1 {
+        return 18446744073709551615;
+    }
+    if s.len() <= p {
+        return 18446744073709551615;
+    }
+    let q = p + 1;
+    if s.len() <= q {
+        return 18446744073709551615;
+    }
+    if q == o.end {
+        return 18446744073709551615;
+    }
+    if s[p] == 0 {
+        if s[q] == 0 {
+            return p + 2;
+        }
+    }
+    18446744073709551615
+}
+
+// The length of a tag at p whose tag and length take one octet each; 128 for one that 00 00 ends, 129 where that is for `standing` to say.
+pub fn short(s: &[u8], p: usize, end: usize) -> usize
+    ensures { λ r. ⌜ Shortens (now (s .entry)) p end r ⌝ }
+{
+    if s.len() <= p {
+        return 129;
+    }
+    let q = p + 1;
+    if s.len() <= q {
+        return 129;
+    }
+    if end <= q {
+        return 129;
+    }
+    let b = s[p];
+    if b == 0 {
+        return 129;
+    }
+    if b % 32 == 31 {
+        return 129;
+    }
+    let l = size(s[q]);
+    if l < 128 {
+        if end - q <= l {
+            return 129;
+        }
+        return l;
+    }
+    if l == 128 {
+        if 32 <= b % 64 {
+            return 128;
+        }
+    }
+    129
+}
+
+// Such a tag, from its first octet.
+fn short_tag(b: u8, start: usize, n: usize, end: usize) -> Tag
+    requires { ⌜ (n < 128 → start + n ≤ end) ⌝ }
+    ensures { λ r. ⌜ shortTag b start n end ≡ r ⌝ }
+{
+    if n < 128 {
+        return Tag {
+            class: wide(b / 64),
+            constructed: wide(b % 64 / 32),
+            number: wide(b % 32),
+            start,
+            inner: Open {
+                definite: 1,
+                end: start + n,
+            },
+        };
+    }
+    Tag {
+        class: wide(b / 64),
+        constructed: wide(b % 64 / 32),
+        number: wide(b % 32),
+        start,
+        inner: Open { definite: 0, end },
+    }
+}
+
+// What stands at p in the open container o.
+pub fn standing(s: &[u8], p: usize, o: Open) -> Stands
+    ensures { λ r. ⌜ standingAt (now (s .entry)) p o ≡ r ⌝ }
+    ensures { λ r. ⌜ Onward (now (s .entry)) p r ⌝ }
+{
+    let end = o.end;
+    if p == end {
+        if o.definite == 1 {
+            return Stands::Ended(p);
+        }
+        return Stands::Refused(No(30, p));
+    }
+    if zero_at(s, p) {
+        return closing(s, p, o);
+    }
+    match ber_tags::read_tag(s, p, end) {
+        Head::Refused { place } => Stands::Refused(No(30, place)),
+        Head::Tag {
+            class,
+            constructed,
+            number,
+            length,
+            next,
+        } => Stands::Here(Tag {
+            class: wide(class),
+            constructed: flag(constructed),
+            number,
+            start: next,
+            inner: open_of(end, next, length),
+        }),
+    }
+}
+
+fn agree(a: u64, b: u64) -> bool
+    ensures { λ r. ⌜ eqb a b ≡ r ⌝ }
+{
+    a == b
+}
+
+// Whether a constructed tag stands where no container is allowed any more.
+fn too_deep(constructed: u64, k: usize) -> bool
+    ensures { λ r. ⌜ deep constructed k ≡ r ⌝ }
+{
+    if constructed == 1 {
+        return k == 0;
+    }
+    false
+}
+
+// One container fewer.
+pub fn less(k: usize) -> usize
+    ensures { λ r. ⌜ r ≡ k - 1 ⌝ }
+{
+    if k == 0 { 0 } else { k - 1 }
+}
+
+// What stands at p, and no container too many.
+pub fn entering(s: &[u8], p: usize, o: Open, k: usize) -> Stands
+    ensures { λ r. ⌜ enterAt (now (s .entry)) p o k ≡ r ⌝ }
+    ensures { λ r. ⌜ Onward (now (s .entry)) p r ⌝ }
+{
+    let z = shut(s, p, o);
+    if z != 18446744073709551615 {
+        return Stands::Ended(z);
+    }
+    let end = o.end;
+    let n = short(s, p, end);
+    if n < 129 {
+        let quick = short_tag(s[p], p + 2, n, end);
+        if too_deep(quick.constructed, k) {
+            return Stands::Refused(No(32, p));
+        }
+        return Stands::Here(quick);
+    }
+    match standing(s, p, o) {
+        Stands::Ended(next) => Stands::Ended(next),
+        Stands::Refused(n) => Stands::Refused(n),
+        Stands::Here(t) => {
+            if too_deep(t.constructed, k) {
+                return Stands::Refused(No(32, p));
+            }
+            Stands::Here(t)
+        }
+    }
+}
+
+// The one value of the open outer tag c.
+pub fn first(s: &[u8], p: usize, c: Open, k: usize) -> Found
+    ensures { λ r. ⌜ firstAt (now (s .entry)) p c k ≡ r ⌝ }
+    ensures { λ r. ⌜ FoundOnward (now (s .entry)) p r ⌝ }
+{
+    let end = c.end;
+    let n = short(s, p, end);
+    if n < 129 {
+        let quick = short_tag(s[p], p + 2, n, end);
+        let form = quick.inner;
+        if !agree(form.definite, c.definite) {
+            return Found::Refused(No(31, p));
+        }
+        if too_deep(quick.constructed, k) {
+            return Found::Refused(No(32, p));
+        }
+        return Found::Value(quick);
+    }
+    match standing(s, p, c) {
+        Stands::Ended(next) => Found::Refused(No(33, p)),
+        Stands::Refused(n) => Found::Refused(n),
+        Stands::Here(t) => {
+            let inner = t.inner;
+            if !agree(inner.definite, c.definite) {
+                return Found::Refused(No(31, p));
+            }
+            if too_deep(t.constructed, k) {
+                return Found::Refused(No(32, p));
+            }
+            Found::Value(t)
+        }
+    }
+}
+
+// Nothing stands after that value.
+pub fn last(s: &[u8], p: usize, c: Open, k: usize) -> Onto
+    ensures { λ r. ⌜ lastAt (now (s .entry)) p c k ≡ r ⌝ }
+    ensures { λ r. ⌜ OntoOnward p r ⌝ }
+{
+    let z = shut(s, p, c);
+    if z != 18446744073709551615 {
+        return Onto::Next(z);
+    }
+    match standing(s, p, c) {
+        Stands::Ended(next) => Onto::Next(next),
+        Stands::Refused(n) => Onto::Refused(n),
+        Stands::Here(t) => {
+            if too_deep(t.constructed, k) {
+                return Onto::Refused(No(32, p));
+            }
+            Onto::Refused(No(33, p))
+        }
+    }
+}
+
+// Whether a tag has this class, form (1: constructed) and number.
+pub fn is_tag(t: Tag, class: u64, constructed: u64, number: u64) -> bool
+    ensures { λ r. ⌜ isTag t class constructed number ≡ r ⌝ }
+{
+    if t.class == class {
+        if t.number == number {
+            return t.constructed == constructed;
+        }
+    }
+    false
+}
+
+// The content of a tag that is not constructed, passed over.
+fn skip(s: &[u8], t: Tag) -> Onto
+    ensures { λ r. ⌜ skipped (now (s .entry)) t ≡ r ⌝ }
+    ensures { λ r. ⌜ OntoOnward (t .inner .end) r ⌝ }
+{
+    let inner = t.inner;
+    let end = inner.end;
+    if s.len() < end {
+        return Onto::Refused(No(30, s.len()));
+    }
+    Onto::Next(end)
+}
+
+// One turn of passing over what the open container o holds.
+fn cross(s: &[u8], p: usize, o: Open, k: usize) -> Crossing
+    ensures { λ r. ⌜ crossAt (now (s .entry)) p o k ≡ r ⌝ }
+    ensures { λ r. ⌜ CrossOnward (now (s .entry)) p r ⌝ }
+{
+    let z = shut(s, p, o);
+    if z != 18446744073709551615 {
+        return Crossing::Over(z);
+    }
+    let end = o.end;
+    let n = short(s, p, end);
+    if n < 129 {
+        let quick = short_tag(s[p], p + 2, n, end);
+        if quick.constructed == 1 {
+            if k == 0 {
+                return Crossing::Refused(No(32, p));
+            }
+            return Crossing::Into(quick);
+        }
+        match skip(s, quick) {
+            Onto::Next(next) => {
+                return Crossing::Past(next);
+            }
+            Onto::Refused(n) => {
+                return Crossing::Refused(n);
+            }
+        }
+    }
+    match standing(s, p, o) {
+        Stands::Ended(next) => Crossing::Over(next),
+        Stands::Refused(n) => Crossing::Refused(n),
+        Stands::Here(t) => {
+            if t.constructed == 1 {
+                if k == 0 {
+                    return Crossing::Refused(No(32, p));
+                }
+                return Crossing::Into(t);
+            }
+            match skip(s, t) {
+                Onto::Next(next) => Crossing::Past(next),
+                Onto::Refused(n) => Crossing::Refused(n),
+            }
+        }
+    }
+}
+
+// All that the open container o holds from a place on.
+fn through(s: &[u8], from: usize, o: Open, k: usize) -> Onto
+    ensures { λ r. ⌜ Through (now (s .entry)) k o from r ⌝ }
+    ensures { λ r. ⌜ OntoOnward from r ⌝ }
+{
+    let mut p = from;
+    loop {
+        match cross(s, p, o, k) {
+            Crossing::Over(next) => {
+                return Onto::Next(next);
+            }
+            Crossing::Refused(n) => {
+                return Onto::Refused(n);
+            }
+            Crossing::Past(next) => {
+                p = next;
+            }
+            Crossing::Into(t) => match through(s, t.start, t.inner, less(k)) {
+                Onto::Next(next) => {
+                    p = next;
+                }
+                Onto::Refused(n) => {
+                    return Onto::Refused(n);
+                }
+            },
+        }
+    }
+}
+
+// The same by numbers alone: the place after the container's end, or 2^64 - 1 where that is for `through` to say.
+fn over(s: &[u8], from: usize, definite: u64, end: usize, k: usize) -> usize
+    ensures { λ r. ⌜ Passes (now (s .entry)) from definite end k r ⌝ }
+{
+    let mut p = from;
+    loop {
+        let o = Open { definite, end };
+        let z = shut(s, p, o);
+        if z != 18446744073709551615 {
+            return z;
+        }
+        let n = short(s, p, end);
+        if n < 129 {
+            let quick = short_tag(s[p], p + 2, n, end);
+            let within = quick.inner;
+            if quick.constructed == 1 {
+                if k == 0 {
+                    return 18446744073709551615;
+                }
+                let q = over(s, quick.start, within.definite, within.end, k - 1);
+                if q == 18446744073709551615 {
+                    return 18446744073709551615;
+                }
+                p = q;
+            } else {
+                if s.len() < within.end {
+                    return 18446744073709551615;
+                }
+                p = within.end;
+            }
+        } else {
+            match standing(s, p, o) {
+                Stands::Ended(next) => {
+                    return 18446744073709551615;
+                }
+                Stands::Refused(n) => {
+                    return 18446744073709551615;
+                }
+                Stands::Here(t) => {
+                    let inner = t.inner;
+                    if t.constructed == 1 {
+                        if k == 0 {
+                            return 18446744073709551615;
+                        }
+                        let r = over(s, t.start, inner.definite, inner.end, k - 1);
+                        if r == 18446744073709551615 {
+                            return 18446744073709551615;
+                        }
+                        p = r;
+                    } else {
+                        if s.len() < inner.end {
+                            return 18446744073709551615;
+                        }
+                        p = inner.end;
+                    }
+                }
+            }
+        }
+    }
+}
+
+// A tag's value, passed over.
+pub fn passed(s: &[u8], t: Tag, k: usize) -> Onto
+    ensures { λ r. ⌜ passedAt (now (s .entry)) t k ≡ r ⌝ }
+    ensures { λ r. ⌜ (t .start ≤ t .inner .end → OntoOnward (t .start) r) ⌝ }
+{
+    if t.constructed == 1 {
+        let inner = t.inner;
+        let z = over(s, t.start, inner.definite, inner.end, k);
+        if z != 18446744073709551615 {
+            return Onto::Next(z);
+        }
+        return through(s, t.start, inner, k);
+    }
+    skip(s, t)
+}

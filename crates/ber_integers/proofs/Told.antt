@@ -1,0 +1,19 @@
+-- What a reader promises follows from its answer being the rule's, once each case of its answer says what document 01's row says.
+use Prim.Native.Nat.{ℕ}
+use mathlib.Core.Path.{_≡_, refl, ap, _∙_}
+use Rattle.ber_integers.specs.declared.Natural.{Natural}
+use Rattle.ber_integers.specs.declared.Natural.the-variants.{Nat, Refused as NoNat}
+use Rattle.ber_integers.specs.declared.Number.{Number}
+use Rattle.ber_integers.specs.declared.Number.the-variants.{Int, Refused}
+use Rattle.ber_integers.specs.Said.{Told, integerSays, integerOr, naturalSays, naturalOr}
+
+pub told : {A C : Type 0} {says row : A → C} {rule r : A} → ((x : A) → says x ≡ row x) → r ≡ rule → Told says row rule r
+told {row = row} {r = r} by e = record { is = e; said = by r ∙ ap row e }
+
+pub integer-row : (x : Number) → integerSays x ≡ integerOr 30 x
+integer-row (Int z) = refl
+integer-row Refused = refl
+
+pub natural-row : (x : Natural) → naturalSays x ≡ naturalOr 30 x
+natural-row (Nat v) = refl
+natural-row NoNat = refl

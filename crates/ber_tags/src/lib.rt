@@ -1,0 +1,322 @@
+// Identifier octets and length octets of EmBER, read and written.
+use ber_integers::Natural;
+use ber_integers::Wrote;
+ghost use mathlib.Core.Path.{_≡_};
+ghost use Prim.Native.Nat.{_+_, _-_, _*_, _/_, _%_, _^_, _≤_, _<_};
+ghost use lib.ListN.{length, take, drop, getD};
+ghost use Rattle.ber_integers.specs.Digits.{put, outcome};
+ghost use Rattle.ber_integers.specs.Said.{Told};
+ghost use Rattle.ber_tags.specs.Tag.{stop, cut, longNumber, tagNumber, sized, lengthAt, headOf, headAt, headSays, headOr, NumberWithin};
+ghost use Rattle.ber_tags.specs.Write.{septets, bit, putTag, lengthOctets, putLength};
+
+// The length of what follows a tag.
+pub enum Length {
+    Definite(usize),
+    Indefinite,
+}
+
+// A tag number read and the position after it, or 30 with its place.
+pub enum Numbered {
+    Number { number: u64, next: usize },
+    Refused { place: usize },
+}
+
+// A length read and the position after it, or 30 with its place.
+pub enum Sized {
+    Length { length: Length, next: usize },
+    Refused { place: usize },
+}
+
+// A tag read, with its length, and the position of what follows; or 30 with its place.
+pub enum Head {
+    Tag {
+        class: u8,
+        constructed: bool,
+        number: u64,
+        length: Length,
+        next: usize,
+    },
+    Refused {
+        place: usize,
+    },
+}
+
+fn wide(x: u8) -> u64
+    ensures { λ r. ⌜ r ≡ x ⌝ }
+    ensures { λ r. ⌜ r < 256 ⌝ }
+{
+    x as u64
+}
+
+// Where octets of a tag at `at` must end: at the container's end or the message's.
+fn stop_of(s: &[u8], bound: usize) -> usize
+    ensures { λ r. ⌜ r ≡ stop (now (s .entry)) bound ⌝ }
+    ensures { λ r. ⌜ r ≤ length (now (s .entry)) ⌝ }
+{
+    if bound <= s.len() { bound } else { s.len() }
+}
+
+// The place of a tag whose own octets are cut off.
+fn cut_of(s: &[u8], at: usize, bound: usize) -> usize
+    ensures { λ r. ⌜ r ≡ cut (now (s .entry)) at bound ⌝ }
+{
+    if bound <= s.len() { at } else { s.len() }
+}
+
+// The number octets of a long tag at `at`.
+fn long_number(s: &[u8], at: usize, bound: usize) -> Numbered
+    requires { ⌜ at < length (now s) ⌝ }
+    ensures { λ r. ⌜ r ≡ longNumber (now (s .entry)) at bound 4 0 (at + 1) ⌝ }
+    ensures { λ r. ⌜ NumberWithin (now (s .entry)) at r ⌝ }
+{
+    let end = stop_of(s, bound);
+    let place = cut_of(s, at, bound);
+    let mut acc: u64 = 0;
+    let mut p = at + 1;
+    let mut k: usize = 4;
+    while 0 < k {
+        if end <= p {
+            return Numbered::Refused { place };
+        }
+        let b = s[p];
+        if b < 128 {
+            return Numbered::Number {
+                number: acc * 128 + wide(b),
+                next: p + 1,
+            };
+        }
+        acc = acc * 128 + wide(b % 128);
+        p = p + 1;
+        k = k - 1;
+    }
+    Numbered::Refused { place: at }
+}
+
+// The number of the tag at `at`.
+fn tag_number(s: &[u8], at: usize, bound: usize) -> Numbered
+    ensures { λ r. ⌜ r ≡ tagNumber (now (s .entry)) at bound ⌝ }
+    ensures { λ r. ⌜ NumberWithin (now (s .entry)) at r ⌝ }
+{
+    let end = stop_of(s, bound);
+    let place = cut_of(s, at, bound);
+    if end <= at {
+        return Numbered::Refused { place };
+    }
+    let low = s[at] % 32;
+    if low < 31 {
+        return Numbered::Number {
+            number: wide(low),
+            next: at + 1,
+        };
+    }
+    let p = at + 1;
+    if end <= p {
+        return Numbered::Refused { place };
+    }
+    if s[p] == 128 {
+        return Numbered::Refused { place: at };
+    }
+    long_number(s, at, bound)
+}
+
+// A definite length, unless it passes the container's end.
+fn fitted(len: usize, at: usize, bound: usize, next: usize) -> Sized
+    ensures { λ r. ⌜ r ≡ sized at bound len next ⌝ }
+{
+    if bound < next {
+        return Sized::Refused { place: at };
+    }
+    if bound - next < len {
+        return Sized::Refused { place: at };
+    }
+    Sized::Length {
+        length: Length::Definite(len),
+        next,
+    }
+}
+
+// The length octets at p of the tag at `at`.
+fn length_at(s: &[u8], at: usize, bound: usize, constructed: bool, p: usize) -> Sized
+    ensures { λ r. ⌜ r ≡ lengthAt (now (s .entry)) at bound constructed p ⌝ }
+{
+    let end = stop_of(s, bound);
+    let place = cut_of(s, at, bound);
+    if end <= p {
+        return Sized::Refused { place };
+    }
+    let b = s[p];
+    if b < 128 {
+        return fitted(count(wide(b)), at, bound, p + 1);
+    }
+    if b == 128 {
+        if constructed {
+            return Sized::Length {
+                length: Length::Indefinite,
+                next: p + 1,
+            };
+        }
+        return Sized::Refused { place: at };
+    }
+    if 132 < b {
+        return Sized::Refused { place: at };
+    }
+    let n = count(wide(b - 128));
+    let from = p + 1;
+    if end - from < n {
+        return Sized::Refused { place };
+    }
+    match ber_integers::read_unsigned(s, from, n) {
+        Natural::Nat(v) => fitted(count(v), at, bound, from + n),
+        Natural::Refused => Sized::Refused { place: at },
+    }
+}
+
+fn count(x: u64) -> usize
+    ensures { λ r. ⌜ r ≡ x ⌝ }
+{
+    x as usize
+}
+
+// Class and constructed bit are the first octet's.
+fn headed(b: u8, number: u64, z: Sized) -> Head
+    ensures { λ r. ⌜ r ≡ headOf b number z ⌝ }
+{
+    match z {
+        Sized::Length { length, next } => Head::Tag {
+            class: b / 64,
+            constructed: 32 <= b % 64,
+            number,
+            length,
+            next,
+        },
+        Sized::Refused { place } => Head::Refused { place },
+    }
+}
+
+// The tag at a position and its length; the container ends at `bound`.
+pub fn read_tag(s: &[u8], at: usize, bound: usize) -> Head
+    ensures { λ r. ⌜ Told headSays (headOr 30) (headAt (now (s .entry)) at bound) r ⌝ }
+{
+    match tag_number(s, at, bound) {
+        Numbered::Refused { place } => Head::Refused { place },
+        Numbered::Number { number, next } => {
+            let b = s[at];
+            headed(b, number, length_at(s, at, bound, 32 <= b % 64, next))
+        }
+    }
+}
+
+fn low(x: u64) -> u8
+    ensures { λ r. ⌜ r ≡ x % 128 ⌝ }
+    ensures { λ r. ⌜ r < 128 ⌝ }
+{
+    (x % 128) as u8
+}
+
+fn small(x: u64) -> u8
+    requires { ⌜ x < 256 ⌝ }
+    ensures { λ r. ⌜ r ≡ x ⌝ }
+{
+    x as u8
+}
+
+fn word(x: usize) -> u64
+    ensures { λ r. ⌜ r ≡ x ⌝ }
+{
+    x as u64
+}
+
+// A number in groups of seven bits, the fewest, at a position of the output.
+pub fn write_septets(v: u64, out: &mut [u8], at: usize) -> Wrote
+    ensures { λ r. ⌜ put (now (out .entry)) at (septets v) ≡ outcome r (now (out .exit)) ⌝ }
+{
+    let n = ber_integers::septet_count(v / 128);
+    if out.len() <= n {
+        return Wrote::Out;
+    }
+    if out.len() - n - 1 < at {
+        return Wrote::Out;
+    }
+    out[at + n] = low(v);
+    let mut r = v / 128;
+    let mut i = n;
+    while 0 < i {
+        i = i - 1;
+        out[at + i] = 128 + low(r);
+        r = r / 128;
+    }
+    Wrote::Next(at + n + 1)
+}
+
+// The class and the constructed bit of a first octet.
+fn lead(class: u8, constructed: bool) -> u8
+    requires { ⌜ class ≤ 3 ⌝ }
+    ensures { λ r. ⌜ r ≡ class * 64 + bit constructed ⌝ }
+    ensures { λ r. ⌜ r ≤ 224 ⌝ }
+{
+    if constructed {
+        class * 64 + 32
+    } else {
+        class * 64
+    }
+}
+
+// The identifier octets of a tag, the fewest, at a position of the output.
+pub fn write_tag(class: u8, constructed: bool, number: u64, out: &mut [u8], at: usize) -> Wrote
+    ensures { λ r. ⌜ putTag (now (out .entry)) at class constructed number ≡ outcome r (now (out .exit)) ⌝ }
+{
+    if 3 < class {
+        return Wrote::Out;
+    }
+    if 268435455 < number {
+        return Wrote::Out;
+    }
+    let first = lead(class, constructed);
+    if number < 31 {
+        return ber_integers::write_octet(first + small(number), out, at);
+    }
+    if out.len() <= at {
+        return Wrote::Out;
+    }
+    match write_septets(number, out, at + 1) {
+        Wrote::Next(e) => {
+            out[at] = first + 31;
+            Wrote::Next(e)
+        }
+        Wrote::Out => Wrote::Out,
+    }
+}
+
+// The length octets of a definite length, the fewest, at a position of the output.
+pub fn write_length(n: u64, out: &mut [u8], at: usize) -> Wrote
+    ensures { λ r. ⌜ putLength (now (out .entry)) at n ≡ outcome r (now (out .exit)) ⌝ }
+{
+    if 4294967295 < n {
+        return Wrote::Out;
+    }
+    if n < 128 {
+        return ber_integers::write_octet(small(n), out, at);
+    }
+    if out.len() <= at {
+        return Wrote::Out;
+    }
+    let k = ber_integers::octet_count(n);
+    match ber_integers::write_octets(n, k, out, at + 1) {
+        Wrote::Next(e) => {
+            out[at] = small(128 + word(k));
+            Wrote::Next(e)
+        }
+        Wrote::Out => Wrote::Out,
+    }
+}
+
+// How many octets a length takes.
+pub fn length_size(n: u64) -> usize
+    ensures { λ r. ⌜ r ≡ length (lengthOctets n) ⌝ }
+    ensures { λ r. ⌜ r ≤ 9 ⌝ }
+{
+    if n < 128 {
+        return 1;
+    }
+    ber_integers::octet_count(n) + 1
+}

@@ -1,0 +1,344 @@
+// EmBER values: one tag with its content, read and written. Nothing of Glow.
+use ber_integers::Number;
+use ber_integers::Wrote;
+use ber_reals::Read;
+use ber_tags::Head;
+use ber_tags::Length;
+ghost use mathlib.Core.Path.{_≡_};
+ghost use mathlib.Core.List.{[], _∷_};
+ghost use Prim.Native.Nat.{_+_, _-_, _≤_, _<_};
+ghost use lib.Dec.{leb};
+ghost use lib.ListN.{length, take, drop, getD};
+ghost use Rattle.ber_values.specs.Value.{boolAt, onFlag, onNumber, onReal, isListed, kindAt, contentAt, valueAt, flagSays, flagOr, answerSays, answerOr};
+ghost use Rattle.ber_reals.specs.Write.{octets, form};
+ghost use Rattle.ber_integers.specs.Integer.{shortest};
+ghost use Rattle.ber_values.specs.Write.{Sealable, putHead, boolOctet, part, putPart, putPrimitive, putValue};
+ghost use Rattle.ber_integers.specs.Digits.{outcome};
+ghost use Rattle.ber_integers.specs.Said.{Told};
+
+// A value, or that there is none. Texts and octets are parts of the message.
+pub enum Value {
+    Absent,
+    Int(i64),
+    Real(f64),
+    Text { start: usize, len: usize },
+    Bool(bool),
+    Octets { start: usize, len: usize },
+}
+
+// A boolean read, or octets refused.
+pub enum Flag {
+    Is(bool),
+    Refused,
+}
+
+// A value read and the position after it; or a tag that is none of the five kinds; or a number refused with its place.
+pub enum Answer {
+    Found { value: Value, next: usize },
+    Other,
+    Refused { number: u32, place: usize },
+}
+
+// The boolean whose content octets are the n octets at a position.
+pub fn read_bool(s: &[u8], at: usize, n: usize) -> Flag
+    ensures { λ r. ⌜ Told flagSays (flagOr 30) (boolAt (now (s .entry)) at n) r ⌝ }
+{
+    if s.len() < n {
+        return Flag::Refused;
+    }
+    if s.len() - n < at {
+        return Flag::Refused;
+    }
+    if n == 1 {
+        return Flag::Is(s[at] != 0);
+    }
+    Flag::Refused
+}
+
+// Whether the message holds the octets of a value.
+fn holds(s: &[u8], start: usize, len: usize) -> bool
+    ensures { λ r. ⌜ r ≡ leb (start + len) (length (now (s .entry))) ⌝ }
+{
+    if s.len() < len {
+        return false;
+    }
+    if s.len() - len < start {
+        return false;
+    }
+    true
+}
+
+fn of_flag(f: Flag, at: usize, next: usize) -> Answer
+    ensures { λ r. ⌜ r ≡ onFlag at next f ⌝ }
+{
+    match f {
+        Flag::Is(b) => Answer::Found {
+            value: Value::Bool(b),
+            next,
+        },
+        Flag::Refused => Answer::Refused {
+            number: 30,
+            place: at,
+        },
+    }
+}
+
+fn of_number(n: Number, at: usize, next: usize) -> Answer
+    ensures { λ r. ⌜ r ≡ onNumber at next n ⌝ }
+{
+    match n {
+        Number::Int(x) => Answer::Found {
+            value: Value::Int(x),
+            next,
+        },
+        Number::Refused => Answer::Refused {
+            number: 30,
+            place: at,
+        },
+    }
+}
+
+fn of_real(x: Read, at: usize, next: usize) -> Answer
+    ensures { λ r. ⌜ r ≡ onReal at next x ⌝ }
+{
+    match x {
+        Read::Real(x) => Answer::Found {
+            value: Value::Real(x),
+            next,
+        },
+        Read::Refused => Answer::Refused {
+            number: 35,
+            place: at,
+        },
+    }
+}
+
+// Whether a universal tag number is one of the five kinds.
+fn listed(kind: u64) -> bool
+    ensures { λ r. ⌜ r ≡ isListed kind ⌝ }
+{
+    if kind == 1 {
+        return true;
+    }
+    if kind == 2 {
+        return true;
+    }
+    if kind == 4 {
+        return true;
+    }
+    if kind == 9 {
+        return true;
+    }
+    if kind == 12 {
+        return true;
+    }
+    false
+}
+
+// The value of a listed kind, whose octets are there.
+fn of_kind(s: &[u8], at: usize, kind: u64, start: usize, len: usize) -> Answer
+    requires { ⌜ start + len ≤ length (now s) ⌝ }
+    ensures { λ r. ⌜ r ≡ kindAt (now (s .entry)) at kind start len ⌝ }
+{
+    let next = start + len;
+    if kind == 1 {
+        return of_flag(read_bool(s, start, len), at, next);
+    }
+    if kind == 2 {
+        return of_number(ber_integers::read_int(s, start, len), at, next);
+    }
+    if kind == 4 {
+        return Answer::Found {
+            value: Value::Octets { start, len },
+            next,
+        };
+    }
+    if kind == 9 {
+        return of_real(ber_reals::read_real(s, start, len), at, next);
+    }
+    Answer::Found {
+        value: Value::Text { start, len },
+        next,
+    }
+}
+
+// The value of a kind (a universal tag number) whose content octets are those at `start`; its tag stands at `at`.
+pub fn read_content(s: &[u8], at: usize, kind: u64, start: usize, len: usize) -> Answer
+    ensures { λ r. ⌜ Told answerSays (answerOr 33) (contentAt (now (s .entry)) at kind start len) r ⌝ }
+{
+    if !listed(kind) {
+        return Answer::Other;
+    }
+    if !holds(s, start, len) {
+        return Answer::Refused {
+            number: 30,
+            place: s.len(),
+        };
+    }
+    of_kind(s, at, kind, start, len)
+}
+
+// The value at a position, in a container that ends at `bound`.
+pub fn read_value(s: &[u8], at: usize, bound: usize) -> Answer
+    ensures { λ r. ⌜ Told answerSays (answerOr 33) (valueAt (now (s .entry)) at bound) r ⌝ }
+{
+    match ber_tags::read_tag(s, at, bound) {
+        Head::Refused { place } => Answer::Refused { number: 30, place },
+        Head::Tag {
+            class,
+            constructed,
+            number,
+            length,
+            next,
+        } => {
+            if class != 0 {
+                return Answer::Other;
+            }
+            if constructed {
+                return Answer::Other;
+            }
+            match length {
+                Length::Definite(len) => read_content(s, at, number, next, len),
+                Length::Indefinite => Answer::Other,
+            }
+        }
+    }
+}
+
+fn word(x: usize) -> u64
+    ensures { λ r. ⌜ r ≡ x ⌝ }
+{
+    x as u64
+}
+
+fn small(x: usize) -> u8
+    requires { ⌜ x < 256 ⌝ }
+    ensures { λ r. ⌜ r ≡ x ⌝ }
+{
+    x as u8
+}
+
+// Content octets that stand two octets past `at`, fewer than 128, get their tag and length.
+fn sealed(kind: u8, w: Wrote, out: &mut [u8], at: usize) -> Wrote
+    requires { ⌜ Sealable (now out) at w ⌝ }
+    ensures { λ r. ⌜ putHead (now (out .entry)) at kind w ≡ outcome r (now (out .exit)) ⌝ }
+{
+    match w {
+        Wrote::Next(e) => {
+            out[at + 1] = small(e - (at + 2));
+            out[at] = kind;
+            Wrote::Next(e)
+        }
+        Wrote::Out => Wrote::Out,
+    }
+}
+
+fn write_whole(x: i64, out: &mut [u8], at: usize) -> Wrote
+    ensures { λ r. ⌜ putPrimitive (now (out .entry)) at 2 (octets (shortest x)) ≡ outcome r (now (out .exit)) ⌝ }
+{
+    if out.len() < 2 {
+        return Wrote::Out;
+    }
+    if out.len() - 2 < at {
+        return Wrote::Out;
+    }
+    let w = ber_integers::write_int(x, out, at + 2);
+    sealed(2, w, out, at)
+}
+
+fn write_double(x: f64, out: &mut [u8], at: usize) -> Wrote
+    ensures { λ r. ⌜ putPrimitive (now (out .entry)) at 9 (form x) ≡ outcome r (now (out .exit)) ⌝ }
+{
+    if out.len() < 2 {
+        return Wrote::Out;
+    }
+    if out.len() - 2 < at {
+        return Wrote::Out;
+    }
+    let w = ber_reals::write_real(x, out, at + 2);
+    sealed(9, w, out, at)
+}
+
+// A boolean's content octet.
+pub fn bool_octet(b: bool) -> u8
+    ensures { λ r. ⌜ r ≡ boolOctet b ⌝ }
+{
+    if b { 255 } else { 0 }
+}
+
+fn write_flag(b: bool, out: &mut [u8], at: usize) -> Wrote
+    ensures { λ r. ⌜ putPrimitive (now (out .entry)) at 1 (octets (boolOctet b ∷ [])) ≡ outcome r (now (out .exit)) ⌝ }
+{
+    if out.len() < 2 {
+        return Wrote::Out;
+    }
+    if out.len() - 2 < at {
+        return Wrote::Out;
+    }
+    let w = ber_integers::write_octet(bool_octet(b), out, at + 2);
+    sealed(1, w, out, at)
+}
+
+// The len octets at `start` of another slice, at a position of the output.
+pub fn write_part(src: &[u8], start: usize, len: usize, out: &mut [u8], at: usize) -> Wrote
+    ensures { λ r. ⌜ putPart (now (src .entry)) start len (now (out .entry)) at ≡ outcome r (now (out .exit)) ⌝ }
+{
+    if src.len() < len {
+        return Wrote::Out;
+    }
+    if src.len() - len < start {
+        return Wrote::Out;
+    }
+    if out.len() < len {
+        return Wrote::Out;
+    }
+    if out.len() - len < at {
+        return Wrote::Out;
+    }
+    let mut i = len;
+    while 0 < i {
+        i = i - 1;
+        out[at + i] = src[start + i];
+    }
+    Wrote::Next(at + len)
+}
+
+// Text or octets with their tag and length.
+fn write_text(kind: u8, src: &[u8], start: usize, len: usize, out: &mut [u8], at: usize) -> Wrote
+    requires { ⌜ kind < 31 ⌝ }
+    ensures { λ r. ⌜ putPrimitive (now (out .entry)) at kind (part (now (src .entry)) start len) ≡ outcome r (now (out .exit)) ⌝ }
+{
+    let n = word(len);
+    if 4294967295 < n {
+        return Wrote::Out;
+    }
+    let h = ber_tags::length_size(n);
+    if out.len() < h + 1 {
+        return Wrote::Out;
+    }
+    if out.len() - (h + 1) < at {
+        return Wrote::Out;
+    }
+    match write_part(src, start, len, out, at + 1 + h) {
+        Wrote::Next(e) => {
+            ber_tags::write_length(n, out, at + 1);
+            out[at] = kind;
+            Wrote::Next(e)
+        }
+        Wrote::Out => Wrote::Out,
+    }
+}
+
+// A value with its tag, at a position of the output; texts and octets come from `src`.
+pub fn write_value(v: Value, src: &[u8], out: &mut [u8], at: usize) -> Wrote
+    ensures { λ r. ⌜ putValue (now (src .entry)) (now (out .entry)) at v ≡ outcome r (now (out .exit)) ⌝ }
+{
+    match v {
+        Value::Absent => Wrote::Out,
+        Value::Int(x) => write_whole(x, out, at),
+        Value::Real(x) => write_double(x, out, at),
+        Value::Text { start, len } => write_text(12, src, start, len, out, at),
+        Value::Bool(b) => write_flag(b, out, at),
+        Value::Octets { start, len } => write_text(4, src, start, len, out, at),
+    }
+}

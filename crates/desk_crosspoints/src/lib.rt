@@ -1,0 +1,346 @@
+// The desk's figures and crosspoints, which of them are legal, and opening.
+ghost use mathlib.Core.Path.{_≡_};
+ghost use Prim.Native.Nat.{ℕ, _+_, _*_, _≤_, _<_, min};
+ghost use lib.Dec.{leb};
+ghost use lib.ListN.{length, getD};
+ghost use Rattle.desk_crosspoints.specs.Figures.{side, both, isCount, isLimit, figuresFit, limitOr, mostEach, mostTotal};
+ghost use Rattle.desk_crosspoints.specs.Crosspoints.{bit, count, allBits, clear, mostAt, rowFits, rowsFit, sourcesFit};
+ghost use Rattle.desk_crosspoints.specs.Crosspoints.{kindFits, cellsFit, legal, answer, opened};
+
+// "1 to 64 targets, 1 to 64 sources": also the row size of the crosspoints.
+pub const SIDE: usize = 64;
+
+// A limit where it was given.
+pub enum Limit {
+    Absent,
+    Most(u64),
+}
+
+// Type (0 1:N, 1 1:1, 2 N:N), counts of targets and sources, the limit in total and the limit per target.
+pub struct Figures {
+    pub kind: u64,
+    pub targets: u64,
+    pub sources: u64,
+    pub total: Limit,
+    pub each: Limit,
+}
+
+fn is_count(n: u64) -> bool
+    ensures { λ r. ⌜ isCount side n ≡ r ⌝ }
+{
+    if n < 1 {
+        return false;
+    }
+    n <= 64
+}
+
+fn is_limit(l: Limit) -> bool
+    ensures { λ r. ⌜ isLimit l ≡ r ⌝ }
+{
+    match l {
+        Limit::Absent => true,
+        Limit::Most(n) => {
+            if n < 1 {
+                return false;
+            }
+            n <= 2147483647
+        }
+    }
+}
+
+// Whether figures are in their ranges.
+pub fn figures_fit(f: Figures) -> bool
+    ensures { λ r. ⌜ figuresFit side f ≡ r ⌝ }
+{
+    if 2 < f.kind {
+        return false;
+    }
+    if !is_count(f.targets) {
+        return false;
+    }
+    if !is_count(f.sources) {
+        return false;
+    }
+    let total = f.total;
+    if !is_limit(total) {
+        return false;
+    }
+    let each = f.each;
+    is_limit(each)
+}
+
+// A limit, or what stands for one that was not given.
+fn limit_or(l: Limit, n: u64) -> u64
+    ensures { λ r. ⌜ limitOr l n ≡ r ⌝ }
+{
+    match l {
+        Limit::Absent => n,
+        Limit::Most(m) => m,
+    }
+}
+
+// The most sources of a target.
+pub fn most_each(f: Figures) -> u64
+    ensures { λ r. ⌜ mostEach f ≡ r ⌝ }
+{
+    if f.kind == 2 {
+        let each = f.each;
+        return limit_or(each, f.sources);
+    }
+    1
+}
+
+// The most sources of target t: none if there is no such target.
+fn most_at(f: Figures, t: u64) -> u64
+    ensures { λ r. ⌜ mostAt f t ≡ r ⌝ }
+{
+    if t < f.targets {
+        return most_each(f);
+    }
+    0
+}
+
+// 1 for a cell that is set.
+fn bit(c: u8) -> u8
+    ensures { λ r. ⌜ bit c ≡ r ⌝ }
+{
+    if c == 0 {
+        return 0;
+    }
+    1
+}
+
+fn wide(n: u8) -> u64
+    ensures { λ r. ⌜ r ≡ n ⌝ }
+{
+    n as u64
+}
+
+// How many of a few cells are set: a sum of bytes, of which a processor adds many at a time.
+fn count_few(cells: &[u8]) -> u64
+    requires { ⌜ length (now cells) ≤ 192 ⌝ }
+    ensures { λ r. ⌜ count (now (cells .entry)) ≡ r ⌝ }
+{
+    let mut n: u8 = 0;
+    let mut i = 0;
+    while i < cells.len() {
+        n += bit(cells[i]);
+        i += 1;
+    }
+    wide(n)
+}
+
+// Where a part that begins at `from` ends: at most 192 on.
+fn part_end(from: usize, end: usize) -> usize
+    requires { ⌜ from < end ⌝ }
+    ensures { λ r. ⌜ (from < r) × ((r ≤ end) × (r ≤ from + 192)) ⌝ }
+{
+    if end - from < 192 {
+        return end;
+    }
+    from + 192
+}
+
+// How many cells are set.
+pub fn count(cells: &[u8]) -> u64
+    ensures { λ r. ⌜ count (now (cells .entry)) ≡ r ⌝ }
+{
+    let mut n = 0;
+    let mut i: usize = 0;
+    while i < cells.len() {
+        let j = part_end(i, cells.len());
+        n += count_few(&cells[i..j]);
+        i = j;
+    }
+    n
+}
+
+// The larger of two cells: 1 at most where both are.
+fn larger(a: u8, b: u8) -> u8
+    ensures { λ r. ⌜ leb r 1 ≡ both (leb a 1) (leb b 1) ⌝ }
+{
+    if a < b {
+        return b;
+    }
+    a
+}
+
+// Whether every cell is 0 or 1: whether the largest is. No cell ends the loop, so that a processor compares many at a time.
+fn all_bits(cells: &[u8]) -> bool
+    ensures { λ r. ⌜ allBits (now (cells .entry)) ≡ r ⌝ }
+{
+    let mut most: u8 = 0;
+    let mut i = 0;
+    while i < cells.len() {
+        most = larger(most, cells[i]);
+        i += 1;
+    }
+    most <= 1
+}
+
+fn word(x: usize) -> u64
+    ensures { λ r. ⌜ r ≡ x ⌝ }
+{
+    x as u64
+}
+
+// Whether n is no more than a times b, which may be more than a u64 holds.
+fn in_product(n: u64, a: u64, b: u64) -> bool
+    ensures { λ r. ⌜ leb n (a * b) ≡ r ⌝ }
+{
+    if n < 1 {
+        return true;
+    }
+    if b < 1 {
+        return false;
+    }
+    (n - 1) / b < a
+}
+
+// Whether n is no more than the total limit.
+pub fn in_total(f: Figures, n: u64) -> bool
+    ensures { λ r. ⌜ leb n (mostTotal f) ≡ r ⌝ }
+{
+    let total = f.total;
+    match total {
+        Limit::Absent => in_product(n, f.targets, f.sources),
+        Limit::Most(most) => n <= most,
+    }
+}
+
+// Whether the cells of target t fit.
+fn row_fits(f: Figures, t: u64, cells: &[u8]) -> bool
+    requires { ⌜ f .sources ≤ length (now cells) ⌝ }
+    ensures { λ r. ⌜ rowFits f t (now (cells .entry)) ≡ r ⌝ }
+{
+    if most_at(f, t) < count(cells) {
+        return false;
+    }
+    let s = f.sources as usize;
+    count(&cells[s..]) == 0
+}
+
+// Whether the cells of every target fit.
+fn rows_fit(f: Figures, cells: &[u8]) -> bool
+    requires { ⌜ f .sources ≤ 64 ⌝ }
+    requires { ⌜ length (now cells) ≡ 4096 ⌝ }
+    ensures { λ r. ⌜ rowsFit side f (now (cells .entry)) side ≡ r ⌝ }
+{
+    let mut t = SIDE;
+    while 0 < t {
+        t -= 1;
+        let from = t * SIDE;
+        let to = from + SIDE;
+        if !row_fits(f, word(t), &cells[from..to]) {
+            return false;
+        }
+    }
+    true
+}
+
+// One cell more, counted up to two: "one at most" asks no more, and so a byte serves for any number of targets.
+fn up_to_two(n: u8, c: u8) -> u8
+    ensures { λ r. ⌜ r ≡ min (n + bit c) 2 ⌝ }
+{
+    if n < 2 {
+        return n + bit(c);
+    }
+    2
+}
+
+// A row's cells counted in, each at its source.
+fn add_row(sums: &mut [u8], row: &[u8])
+    requires { ⌜ length (now sums) ≡ length (now row) ⌝ }
+    ensures { λ _. ⌜ ((s : ℕ) → getD (now (sums .exit)) s 0 ≡ min (getD (now (sums .entry)) s 0 + bit (getD (now (row .entry)) s 0)) 2) ⌝ }
+{
+    let mut i = 0;
+    while i < row.len() {
+        sums[i] = up_to_two(sums[i], row[i]);
+        i += 1;
+    }
+}
+
+// Whether each source is connected to one target at most.
+fn sources_fit(cells: &[u8]) -> bool
+    requires { ⌜ length (now cells) ≡ 4096 ⌝ }
+    ensures { λ r. ⌜ sourcesFit side (now (cells .entry)) side ≡ r ⌝ }
+{
+    let mut sums = [0u8; 64];
+    let mut t = 0;
+    while t < SIDE {
+        let from = t * SIDE;
+        let to = from + SIDE;
+        add_row(&mut sums, &cells[from..to]);
+        t += 1;
+    }
+    all_bits(&sums)
+}
+
+// Whether crosspoints fit the type.
+fn kind_fits(f: Figures, cells: &[u8]) -> bool
+    requires { ⌜ length (now cells) ≡ 4096 ⌝ }
+    ensures { λ r. ⌜ kindFits side f (now (cells .entry)) ≡ r ⌝ }
+{
+    if f.kind == 1 {
+        return sources_fit(cells);
+    }
+    if f.kind == 2 {
+        return in_total(f, count(cells));
+    }
+    true
+}
+
+// Whether crosspoints fit the counts, the type and the limits.
+fn cells_fit(f: Figures, cells: &[u8]) -> bool
+    requires { ⌜ f .sources ≤ 64 ⌝ }
+    ensures { λ r. ⌜ cellsFit side f (now (cells .entry)) ≡ r ⌝ }
+{
+    if cells.len() != 4096 {
+        return false;
+    }
+    if !all_bits(cells) {
+        return false;
+    }
+    if !rows_fit(f, cells) {
+        return false;
+    }
+    kind_fits(f, cells)
+}
+
+// Whether a desk is legal.
+pub fn is_legal(f: Figures, crosspoints: &[u8]) -> bool
+    ensures { λ r. ⌜ legal side f (now (crosspoints .entry)) ≡ r ⌝ }
+{
+    if !figures_fit(f) {
+        return false;
+    }
+    cells_fit(f, crosspoints)
+}
+
+// Clears every cell.
+pub fn wipe(cells: &mut [u8])
+    ensures { λ _. ⌜ now (cells .exit) ≡ clear (length (now (cells .entry))) ⌝ }
+{
+    let mut i = 0;
+    while i < cells.len() {
+        cells[i] = 0;
+        i += 1;
+    }
+}
+
+// Opens a desk: 0 and its crosspoints cleared; 45, or 1 for crosspoints of another count, and they stay as they were.
+pub fn open(f: Figures, mode: u64, crosspoints: &mut [u8]) -> u64
+    ensures { λ r. ⌜ opened side f mode (now (crosspoints .entry)) ≡ answer r (now (crosspoints .exit)) ⌝ }
+{
+    if crosspoints.len() != 4096 {
+        return 1;
+    }
+    if !figures_fit(f) {
+        return 45;
+    }
+    if mode != 0 {
+        return 45;
+    }
+    wipe(crosspoints);
+    0
+}

@@ -1,0 +1,168 @@
+-- Laws of the definitions, at plain variables.
+use Prim.Native.Nat.{ℕ, zero, suc, _+_, _-_, _*_, _/_, _%_, _≤_, _<_, min}
+use mathlib.Core.Path.{_≡_, refl, ap, _∙_}
+use mathlib.Core.Bool.{Bool, true, false}
+use mathlib.Core.List.{List, [], _∷_, _++_}
+use native.Mathlib.Omega.{arith}
+use native.Mathlib.Numerals.{add-one}
+use borrow.Author.Tests.{lt-ltb, le-ltb, le-leb, lt-leb, eq-eqb, ne-eqb}
+use lib.Dec.{leb}
+use lib.ListN.{length, take, drop, getD, set, length-append}
+use lib.Seq.{sets, drop-cons}
+use Rattle.framing.specs.declared.Event.{Event}
+use Rattle.framing_events.specs.Events.{lengthOf}
+use Rattle.framing_events.proofs.Said.{said-is}
+use Rattle.framing.proofs.Lists.{sets-append}
+use Rattle.framing.specs.Numbers.{storeLength}
+use Rattle.framing.specs.Session.{saidBy}
+use Rattle.framing_lines.specs.declared.line.Stop.the-variants.{Input, Fault}
+use Rattle.framing_lines.specs.Lines.{Whole, digitOf, stops, lineEnds, scanned}
+use Rattle.framing_lines.specs.Text.{Wrote, wrote, lineRoom, wroteLine, wroteEvent, space, newline, glyphOf, hexText, wordText, dash, decimalText, headText, eventText}
+
+-- ---- text put into an output
+
+module _ (o : List ℕ) (at : ℕ) where
+  pub wrote-none : wrote o at [] ≡ record { next = at; output = o }
+  unfolding wrote
+  wrote-none = let e : at + 0 ≡ at = omega arith in ap (λ (k : ℕ). record { next = k; output = o }) e
+
+  pub wrote-byte : (b : ℕ) → wrote o at (b ∷ []) ≡ record { next = at + 1; output = set o at b }
+  unfolding wrote
+  wrote-byte b = refl
+
+  -- text, and then more
+  pub wrote-then : (xs ys : List ℕ) {w : Wrote} → wrote o at xs ≡ w → wrote o at (xs ++ ys) ≡ wrote (w .output) (w .next) ys
+  unfolding wrote
+  wrote-then xs ys e =
+      let n : at + length (xs ++ ys) ≡ at + length xs + length ys = simp length-append (omega arith) in
+      rw (← e, sets-append xs ys o at, n)
+
+-- a line is put, or nothing is
+module _ (o : List ℕ) (at : ℕ) (text : List ℕ) (room : Bool) (is : room ≡ leb (at + lineRoom) (length o)) where
+  pub line-put : room ≡ true → {w : Wrote} → wrote o at text ≡ w → wroteLine o at text ≡ w
+  unfolding wroteLine
+  line-put h e = rw (← is, h) e
+
+  pub line-not : room ≡ false → wroteLine o at text ≡ record { next = at; output = o }
+  unfolding wroteLine
+  line-not h = rw (← is, h)
+
+-- .. of an event
+module _ (o : List ℕ) (at offset : ℕ) (e : Event) (store : List ℕ) where
+  pub store-fits : length store ≤ storeLength → wroteEvent o at offset e store ≡ wroteLine o at (eventText offset (saidBy e store))
+  unfolding wroteEvent
+  store-fits h = simp (le-leb _ _ h)
+
+  pub store-long : storeLength < length store → wroteEvent o at offset e store ≡ record { next = at; output = o }
+  unfolding wroteEvent
+  store-long h = simp (lt-leb _ _ h)
+
+-- .. with room, and a store that is not too long
+module _ (o : List ℕ) (at : ℕ) (room : at + lineRoom ≤ length o) where
+  pub line-whole : (text : List ℕ) → wroteLine o at text ≡ wrote o at text
+  unfolding wroteLine
+  line-whole text = simp (le-leb _ _ room)
+
+  pub event-whole : (offset : ℕ) (e : Event) (store : List ℕ)
+      → length store ≤ storeLength
+      → wroteEvent o at offset e store ≡ wrote o at (eventText offset (saidBy e store))
+  event-whole offset e store h = store-fits o at offset e store h ∙ line-whole _
+
+-- ---- digits
+
+pub hex-more : (s : List ℕ) (i : ℕ)
+    → i < length s
+    → hexText (drop i s) ≡ (glyphOf (getD s i 0 / 16) ∷ []) ++ ((glyphOf (getD s i 0 % 16) ∷ []) ++ hexText (drop (i + 1) s))
+unfolding hexText
+hex-more s i h = rw (add-one i, drop-cons s i 0 h)
+
+pub hex-end : (s : List ℕ) (i : ℕ) → length s ≤ i → hexText (drop i s) ≡ []
+unfolding hexText
+hex-end [] zero h = refl
+hex-end [] (suc i) h = refl
+hex-end (x ∷ s) zero h = absurd (omega arith)
+hex-end (x ∷ s) (suc i) h = hex-end s i (omega arith)
+
+pub rest-more : (s : List ℕ) (i : ℕ) → i < length s → drop i s ≡ (getD s i 0 ∷ []) ++ drop (i + 1) s
+rest-more s i h = rw (add-one i, drop-cons s i 0 h)
+
+pub rest-end : (s : List ℕ) (i : ℕ) → length s ≤ i → drop i s ≡ []
+rest-end [] zero h = refl
+rest-end [] (suc i) h = refl
+rest-end (x ∷ s) zero h = absurd (omega arith)
+rest-end (x ∷ s) (suc i) h = rest-end s i (omega arith)
+
+pub word-none : (s : List ℕ) → length s ≡ 0 → wordText s ≡ dash
+unfolding wordText
+word-none s h = simp (eq-eqb _ _ h)
+
+pub word-some : (s : List ℕ) → (length s ≡ 0 → ⊥) → wordText s ≡ hexText s
+unfolding wordText
+word-some s h = simp (ne-eqb _ _ h)
+
+pub decimal-none : (k n : ℕ) → k ≡ 0 → decimalText k n ≡ []
+unfolding decimalText
+decimal-none zero n h = refl
+decimal-none (suc k) n h = absurd (omega arith)
+
+pub decimal-one : (k n : ℕ) → (k ≡ 0 → ⊥) → n < 10 → decimalText k n ≡ (48 + n) ∷ []
+unfolding decimalText
+decimal-one zero n h l = absurd (h refl)
+decimal-one (suc k) n h l = simp (lt-ltb _ _ l)
+
+pub decimal-more : (k n : ℕ) → (k ≡ 0 → ⊥) → 10 ≤ n → decimalText k n ≡ decimalText (k - 1) (n / 10) ++ ((48 + n % 10) ∷ [])
+unfolding decimalText
+decimal-more zero n h l = absurd (h refl)
+decimal-more (suc k) n h l = let e : suc k - 1 ≡ k = omega arith in rw e (simp (le-ltb _ _ l))
+
+-- ---- events
+
+-- what is past the end is not taken
+pub take-least : (n : ℕ) (t : List ℕ) → take (min n (length t)) t ≡ take n t
+take-least zero t = let e : min 0 (length t) ≡ 0 = omega arith in rw e
+take-least (suc n) [] = let e : min (suc n) 0 ≡ 0 = omega arith in rw e
+take-least (suc n) (x ∷ t) =
+    let e : min (suc n) (suc (length t)) ≡ suc (min n (length t)) = omega arith in
+    rw e (ap (λ (r : List ℕ). x ∷ r) (take-least n t))
+
+-- n and d are the event's number and discarded bit, as the code has them
+module _ (o : ℕ) (e : Event) (t : List ℕ) (n : ℕ) (d : Bool) (isNumber : n ≡ saidBy e [] .number) (isBit : d ≡ saidBy e [] .discarded) where
+  pub event-plain : (n ≡ 3 → ⊥) → eventText o (saidBy e t) ≡ headText o n d ++ newline
+  unfolding eventText
+  event-plain h = rw (said-is e t, ← isNumber, ← isBit) (simp (ne-eqb _ _ h))
+
+  pub event-message : n ≡ 3 → eventText o (saidBy e t) ≡ headText o n d ++ ((space ++ wordText (take (lengthOf e) t)) ++ newline)
+  unfolding eventText
+  event-message h = rw (said-is e t, ← isNumber, ← isBit) (simp (eq-eqb _ _ h))
+
+-- ---- lines
+
+module _ (s : List ℕ) (i h : ℕ) (g : Bool) (c : List ℕ) (n : ℕ) where
+  pub scan-end : length s ≤ i → scanned (drop i s) i h g c n ≡ record { answer = stops Input i h g n; chunk = c }
+  unfolding scanned
+  scan-end p = rw (rest-end s i p)
+
+  module _ (below : i < length s) where
+    pub scan-line : getD s i 0 ≡ 10 → scanned (drop i s) i h g c n ≡ record { answer = lineEnds (i + 1) h g n; chunk = c }
+    unfolding scanned
+    scan-line p = rw (drop-cons s i 0 below) (simp (eq-eqb _ _ p))
+
+    module _ (d : ℕ) (is : d ≡ digitOf (getD s i 0)) (no : getD s i 0 ≡ 10 → ⊥) where
+      pub scan-fault : d ≡ 16 → scanned (drop i s) i h g c n ≡ record { answer = stops Fault (i + 1) 16 false n; chunk = c }
+      unfolding scanned
+      scan-fault p = rw (drop-cons s i 0 below) (simp (ne-eqb _ _ no, ← is, eq-eqb _ _ p))
+
+      pub scan-high : (d ≡ 16 → ⊥) → h ≡ 16 → scanned (drop i s) i h g c n ≡ scanned (drop (i + 1) s) (i + 1) d true c n
+      unfolding scanned
+      scan-high p q = rw (rest-more s i below) (simp (ne-eqb _ _ no, ← is, ne-eqb _ _ p, eq-eqb _ _ q))
+
+      pub scan-pair : (d ≡ 16 → ⊥) → (h ≡ 16 → ⊥) → scanned (drop i s) i h g c n ≡ scanned (drop (i + 1) s) (i + 1) 16 true (set c n (h * 16 + d)) (n + 1)
+      unfolding scanned
+      scan-pair p q = rw (rest-more s i below) (simp (ne-eqb _ _ no, ← is, ne-eqb _ _ p, ne-eqb _ _ q))
+
+-- a number that is no digit counts as 16
+pub scan-first : (bs : List ℕ) (at high first : ℕ) (g : Bool) (c : List ℕ) {w : Whole}
+    → first ≡ min high 16
+    → scanned bs at first g c 0 ≡ w
+    → scanned bs at (min high 16) g c 0 ≡ w
+scan-first bs at high first g c is e = rw (← is) e

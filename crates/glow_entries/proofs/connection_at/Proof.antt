@@ -1,0 +1,41 @@
+use mathlib.Core.Path.{_≡_}
+use mir.Val.{toZ, ofZ}
+use mir.Syntax.{w64}
+use Rattle.glow_entries.specs.Record.{connectionOf}
+use borrow.Author.Needs.{needs}
+use Rattle.glow_entries.proofs.connection_at.Statement.{statement}
+use Rattle.glow_entries.proofs.connection_at.Tie as tie
+
+-- src/lib.rt:673:9
+parent-at-requires : tie.Need-parent-at-requires
+parent-at-requires c κs = search needs
+
+-- src/lib.rt:674:9
+int-at-requires : tie.Need-int-at-requires
+int-at-requires c κs = search needs
+
+-- src/lib.rt:675:9
+part-at-requires : tie.Need-part-at-requires
+part-at-requires c κs = search needs
+
+-- src/lib.rt:676:9
+number-at-requires : tie.Need-number-at-requires
+number-at-requires c κs = search needs
+
+-- src/lib.rt:670:1
+returns : tie.Need-returns
+unfolding connectionOf
+returns c =
+    let int-at : toZ w64 (ofZ w64 (c .before .before .int-at .result)) ≡ c .before .before .int-at .result = search needs in
+    rw (
+      int-at,
+      c .number-at .ensures,
+      c .before .part-at .ensures,
+      c .before .before .int-at .ensures,
+      c .before .before .before .parent-at .ensures,
+    )
+
+pub connection-at-spec : {M : Type 1} → statement M
+connection-at-spec =
+    tie.close
+    (tie.spec parent-at-requires int-at-requires part-at-requires number-at-requires returns)

@@ -1,0 +1,74 @@
+use mathlib.Core.Path.{_≡_, refl, ap, _∙_}
+use lib.IntN.{ℤ}
+use mir.Val.{toZ, ofZ}
+use mir.Syntax.{w64}
+use Rattle.glow_rows.specs.Cell.{cell, wordOf}
+use Rattle.glow_rows.specs.Entry.{blanks}
+use Rattle.glow_entries.specs.Record.{connectionRow}
+use Rattle.glow_entries.proofs.Answers.{begun-is, put-cell}
+use borrow.Author.Needs.{needs}
+use Rattle.glow_entries.proofs.connection_row.Statement.{statement}
+use Rattle.glow_entries.proofs.connection_row.Tie as tie
+
+-- src/lib.rt:622:28
+parent-word-requires : tie.Need-parent-word-requires
+parent-word-requires c κs = search needs
+
+-- src/lib.rt:622:19
+begun-requires : tie.Need-begun-requires
+begun-requires c κs = search needs
+
+-- src/lib.rt:623:22
+cell-of-requires : tie.Need-cell-of-requires
+cell-of-requires c κs = search needs
+
+-- src/lib.rt:623:5
+put-requires : tie.Need-put-requires
+put-requires c κs = search needs
+
+-- src/lib.rt:624:22
+part-cell-requires : tie.Need-part-cell-requires
+part-cell-requires c κs = search needs
+
+-- src/lib.rt:624:5
+put-requires-2 : tie.Need-put-requires-2
+put-requires-2 c κs = search needs
+
+-- src/lib.rt:625:22
+number-cell-requires : tie.Need-number-cell-requires
+number-cell-requires c κs = search needs
+
+-- src/lib.rt:625:5
+put-requires-3 : tie.Need-put-requires-3
+put-requires-3 c κs = search needs
+
+held : (s : tie.Start) → toZ w64 (ofZ w64 (s .args .e .target)) ≡ s .args .e .target
+held s = search needs
+
+-- src/lib.rt:615:1
+returns : tie.Need-returns
+unfolding connectionRow blanks
+returns c =
+    let p2 = c .before .before .before in
+    let p1 = p2 .before .before .before in
+    let i = ap (λ (z : ℤ). cell 2 (wordOf z) 0) (held (p1 .before .before .before .before .before .before)) in
+    let r =
+    begun-is refl
+    (p1 .before .before .before .before .parent-word .ensures) (p1 .before .before .before .begun .ensures) in
+    let r = put-cell 0 tt r (p1 .before .cell-of .ensures ∙ i) (p1 .put .ensures) in
+    let r = put-cell 1 tt r (p2 .before .part-cell .ensures) (p2 .put2 .ensures) in
+    put-cell 2 tt r (c .before .number-cell .ensures) (c .put3 .ensures) .is
+
+pub connection-row-spec : {M : Type 1} → statement M
+connection-row-spec =
+    tie.close
+    (tie.spec
+    parent-word-requires
+    begun-requires
+    cell-of-requires
+    put-requires
+    part-cell-requires
+    put-requires-2
+    number-cell-requires
+    put-requires-3
+    returns)

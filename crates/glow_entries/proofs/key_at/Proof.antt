@@ -1,0 +1,52 @@
+use mathlib.Core.Path.{_≡_, ap, _∙_}
+use mir.Val.{toZ, ofZ}
+use mir.Syntax.{w64}
+use Rattle.glow_entries.specs.declared.Key.the-variants.{Number}
+use Rattle.glow_entries.proofs.Answers.{key-path, key-number}
+use borrow.Author.Needs.{needs}
+use Rattle.glow_entries.proofs.key_at.Statement.{statement}
+use Rattle.glow_entries.proofs.key_at.Tie as tie
+
+-- src/lib.rt:236:9
+cell-at-requires : tie.Need-cell-at-requires
+cell-at-requires c κs = search needs
+
+-- src/lib.rt:237:8
+element-copy-out-if1 : tie.Need-element-copy-out-if1
+element-copy-out-if1 c = search needs
+
+-- src/lib.rt:239:20
+count-requires : tie.Need-count-requires
+count-requires c κs = search needs
+
+-- src/lib.rt:240:18
+count-requires-2 : tie.Need-count-requires-2
+count-requires-2 c κs = search needs
+
+-- src/lib.rt:238:9
+returns : tie.Need-returns
+returns c =
+    rw (c .before .count .ensures, c .count2 .ensures)
+    (key-path _ _ _ (c .before .before .before .before .cell-at .ensures) (c .before .before .if1 .taken))
+
+-- src/lib.rt:243:17
+int-of-requires : tie.Need-int-of-requires
+int-of-requires c κs = search needs
+
+-- src/lib.rt:233:1
+returns-2 : tie.Need-returns-2
+returns-2 c =
+    let k : toZ w64 (ofZ w64 (c .int-of .result)) ≡ c .int-of .result = search needs in
+    ap Number (k ∙ c .int-of .ensures) ∙ key-number _ _ _ (c .before .before .before .cell-at .ensures) (c .before .if1 .left)
+
+pub key-at-spec : {M : Type 1} → statement M
+key-at-spec =
+    tie.close
+    (tie.spec
+    cell-at-requires
+    element-copy-out-if1
+    count-requires
+    count-requires-2
+    returns
+    int-of-requires
+    returns-2)

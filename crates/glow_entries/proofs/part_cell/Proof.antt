@@ -1,0 +1,40 @@
+use mathlib.Core.Path.{sym, ap}
+use Rattle.glow_entries.specs.Member.{partCell}
+use borrow.Author.Needs.{needs}
+use Rattle.glow_entries.proofs.part_cell.Statement.{statement}
+use Rattle.glow_entries.proofs.part_cell.Tie as tie
+
+-- src/lib.rt:87:25
+enum-told : tie.Need-enum-told
+enum-told c = search needs
+
+-- src/lib.rt:87:25
+none-requires : tie.Need-none-requires
+none-requires c κs = search needs
+
+-- src/lib.rt:88:20
+enum-known-p : tie.Need-enum-known-p
+enum-known-p c = search needs
+
+-- src/lib.rt:90:20
+word-requires : tie.Need-word-requires
+word-requires c κs = search needs
+
+-- src/lib.rt:91:21
+word-requires-2 : tie.Need-word-requires-2
+word-requires-2 c κs = search needs
+
+-- src/lib.rt:83:1
+returns : tie.Need-returns
+returns c = search needs
+
+-- src/lib.rt:83:1
+returns-2 : tie.Need-returns-2
+returns-2 c =
+    rw (c .before .word .ensures, c .word2 .ensures)
+    (sym (ap (partCell (c .before .before .before .before .before .args .tag)) (c .before .before .before .p .given .1)))
+
+pub part-cell-spec : {M : Type 1} → statement M
+part-cell-spec =
+    tie.close
+    (tie.spec enum-told none-requires enum-known-p word-requires word-requires-2 returns returns-2)

@@ -1,0 +1,634 @@
+// The grammar of Glow: what stands where, and one value judged by it.
+use ber_identifiers::Arc;
+use ber_identifiers::Oid;
+use ber_integers::Number;
+use ber_values::Answer;
+use ber_values::Value;
+use glow_rows::Cell;
+ghost use mathlib.Core.Path.{_≡_};
+ghost use Prim.Native.Nat.{_+_, _≤_};
+ghost use mathlib.Core.Bool.{true};
+ghost use lib.Dec.{leb, eqb};
+ghost use Rattle.ber_integers.specs.Digits.{pick};
+ghost use lib.ListN.{length, take, drop};
+ghost use Rattle.glow_grammar.specs.Grammar.{ruleOf, required, isSet, contentsOf, kindIn};
+ghost use Rattle.ber_values.specs.Value.{isListed};
+ghost use Rattle.ber_identifiers.specs.Identifier.{arcs};
+ghost use Rattle.glow_rows.specs.Cell.{numbersCell};
+ghost use Rattle.glow_grammar.specs.Leaf.{expects, least, most, wordIn, isLetter, noSlash, isName};
+ghost use Rattle.glow_grammar.specs.Leaf.{Counted, NumberTold, ListTold, LeafTold};
+ghost use Rattle.glow_grammar.specs.Leaf.{numberLeaf, textLeaf, valueLeaf, judged, pathLeaf, oidLeaf, numbersAt, leafAt, LeafBounded};
+
+// A value kept in its cell, with the count of the path's numbers after it; or a refusal with its place.
+pub enum Leaf {
+    Kept(Cell, usize),
+    Refused(u64, usize),
+}
+
+// The members of each row, by context number.
+fn of_element(n: u64) -> u64
+    ensures { λ r. ⌜ ruleOf 1 n ≡ r ⌝ }
+{
+    match n {
+        0 => 5,
+        1 => 13,
+        2 => 14,
+        _ => 0,
+    }
+}
+
+fn of_command(n: u64) -> u64
+    ensures { λ r. ⌜ ruleOf 2 n ≡ r ⌝ }
+{
+    match n {
+        0 => 9,
+        1 => 9,
+        _ => 0,
+    }
+}
+
+fn of_matrix(n: u64) -> u64
+    ensures { λ r. ⌜ ruleOf 4 n ≡ r ⌝ }
+{
+    match n {
+        0 => 5,
+        1 => 13,
+        2 => 14,
+        5 => 15,
+        _ => 0,
+    }
+}
+
+fn of_qualified(n: u64) -> u64
+    ensures { λ r. ⌜ ruleOf 5 n ≡ r ⌝ }
+{
+    match n {
+        0 => 6,
+        1 => 13,
+        2 => 14,
+        _ => 0,
+    }
+}
+
+fn of_qualified_matrix(n: u64) -> u64
+    ensures { λ r. ⌜ ruleOf 7 n ≡ r ⌝ }
+{
+    match n {
+        0 => 6,
+        1 => 13,
+        2 => 14,
+        5 => 15,
+        _ => 0,
+    }
+}
+
+fn of_connection(n: u64) -> u64
+    ensures { λ r. ⌜ ruleOf 8 n ≡ r ⌝ }
+{
+    match n {
+        0 => 8,
+        1 => 7,
+        2 => 11,
+        _ => 0,
+    }
+}
+
+fn of_stream_entry(n: u64) -> u64
+    ensures { λ r. ⌜ ruleOf 9 n ≡ r ⌝ }
+{
+    match n {
+        0 => 8,
+        1 => 4,
+        _ => 0,
+    }
+}
+
+fn of_parameter(n: u64) -> u64
+    ensures { λ r. ⌜ ruleOf 10 n ≡ r ⌝ }
+{
+    match n {
+        0 => 1,
+        1 => 2,
+        2 | 3 | 4 => 4,
+        5 => 10,
+        8 => 9,
+        9 => 3,
+        11 => 9,
+        14 => 8,
+        _ => 0,
+    }
+}
+
+fn of_node(n: u64) -> u64
+    ensures { λ r. ⌜ ruleOf 11 n ≡ r ⌝ }
+{
+    match n {
+        0 => 1,
+        1 => 2,
+        2 | 3 => 3,
+        _ => 0,
+    }
+}
+
+fn of_matrix_contents(n: u64) -> u64
+    ensures { λ r. ⌜ ruleOf 12 n ≡ r ⌝ }
+{
+    match n {
+        0 => 1,
+        1 => 2,
+        2 => 11,
+        3 => 12,
+        4 | 5 | 6 | 7 => 8,
+        _ => 0,
+    }
+}
+
+// What stands at member n of a row.
+pub fn rule_of(row: u64, n: u64) -> u64
+    ensures { λ r. ⌜ ruleOf row n ≡ r ⌝ }
+{
+    match row {
+        1 => of_element(n),
+        2 => of_command(n),
+        3 => of_element(n),
+        4 => of_matrix(n),
+        5 => of_qualified(n),
+        6 => of_qualified(n),
+        7 => of_qualified_matrix(n),
+        8 => of_connection(n),
+        9 => of_stream_entry(n),
+        10 => of_parameter(n),
+        11 => of_node(n),
+        12 => of_matrix_contents(n),
+        _ => 0,
+    }
+}
+
+// How many members of a row are required: its first ones.
+pub fn required_of(row: u64) -> u64
+    ensures { λ r. ⌜ required row ≡ r ⌝ }
+{
+    match row {
+        1..=8 => 1,
+        9 => 2,
+        _ => 0,
+    }
+}
+
+// Whether a row's members stand in a set.
+pub fn is_set(row: u64) -> bool
+    ensures { λ r. ⌜ isSet row ≡ r ⌝ }
+{
+    10 <= row
+}
+
+// The row of a kind's contents.
+pub fn contents_of(row: u64) -> u64
+    ensures { λ r. ⌜ contentsOf row ≡ r ⌝ }
+{
+    match row {
+        1 => 10,
+        3 => 11,
+        4 => 12,
+        5 => 10,
+        6 => 11,
+        7 => 12,
+        _ => 0,
+    }
+}
+
+fn at_root(number: u64) -> u64
+    ensures { λ r. ⌜ kindIn 0 number ≡ r ⌝ }
+{
+    match number {
+        1 => 1,
+        2 => 2,
+        3 => 3,
+        9 => 5,
+        10 => 6,
+        13 => 4,
+        17 => 7,
+        _ => 0,
+    }
+}
+
+fn among_children(number: u64) -> u64
+    ensures { λ r. ⌜ kindIn 1 number ≡ r ⌝ }
+{
+    match number {
+        1 => 1,
+        2 => 2,
+        3 => 3,
+        13 => 4,
+        _ => 0,
+    }
+}
+
+// The kind that an application number names in a collection, or 0.
+pub fn kind_in(which: u64, number: u64) -> u64
+    ensures { λ r. ⌜ kindIn which number ≡ r ⌝ }
+{
+    match which {
+        0 => at_root(number),
+        1 => among_children(number),
+        2 => {
+            if number == 16 {
+                return 8;
+            }
+            0
+        }
+        3 => {
+            if number == 6 {
+                return 9;
+            }
+            0
+        }
+        _ => 0,
+    }
+}
+
+// Whether a universal tag number is that of a value of any kind.
+fn is_value(number: u64) -> bool
+    ensures { λ r. ⌜ isListed number ≡ r ⌝ }
+{
+    match number {
+        1 => true,
+        2 => true,
+        4 => true,
+        9 => true,
+        12 => true,
+        _ => false,
+    }
+}
+
+// Whether a universal tag number is that of a value at a member.
+pub fn fits(what: u64, number: u64) -> bool
+    ensures { λ r. ⌜ expects what number ≡ r ⌝ }
+{
+    match what {
+        0..=2 => number == 12,
+        3 => number == 1,
+        4 => is_value(number),
+        5 => number == 2,
+        6..=7 => number == 13,
+        _ => number == 2,
+    }
+}
+
+fn wide(n: u32) -> u64
+    ensures { λ r. ⌜ r ≡ n ⌝ }
+{
+    n as u64
+}
+
+fn word(x: usize) -> u64
+    ensures { λ r. ⌜ r ≡ x ⌝ }
+{
+    x as u64
+}
+
+// The least and the greatest number of a member that is not below zero.
+fn least_of(what: u64) -> u64
+    ensures { λ r. ⌜ least what ≡ r ⌝ }
+{
+    if what == 5 {
+        return 1;
+    }
+    0
+}
+
+fn most_of(what: u64) -> u64
+    ensures { λ r. ⌜ most what ≡ r ⌝ }
+{
+    match what {
+        10 => 3,
+        11 => 2,
+        12 => 1,
+        _ => 2147483647,
+    }
+}
+
+// Whether a number, by its word, is in the range of its member.
+pub fn in_range(what: u64, w: u64) -> bool
+    ensures { λ r. ⌜ wordIn what w ≡ r ⌝ }
+{
+    if what == 9 {
+        if w <= 2147483647 {
+            return true;
+        }
+        return 18446744071562067968 <= w;
+    }
+    if w < least_of(what) {
+        return false;
+    }
+    w <= most_of(what)
+}
+
+fn number_leaf(at: usize, what: u64, above: usize, x: i64) -> Leaf
+    ensures { λ r. ⌜ numberLeaf at what above x ≡ r ⌝ }
+{
+    let v = glow_rows::cell_of(Value::Int(x));
+    if what == 4 {
+        return Leaf::Kept(v, above);
+    }
+    if !in_range(what, v.first) {
+        return Leaf::Refused(34, at);
+    }
+    if what == 5 {
+        if above < 16 {
+            return Leaf::Kept(v, above + 1);
+        }
+        return Leaf::Refused(37, at);
+    }
+    Leaf::Kept(v, above)
+}
+
+fn is_letter(b: u8) -> bool
+    ensures { λ r. ⌜ isLetter b ≡ r ⌝ }
+{
+    if 97 <= b {
+        return b <= 122;
+    }
+    if 65 <= b {
+        if b <= 90 {
+            return true;
+        }
+        return b == 95;
+    }
+    false
+}
+
+// Whether no octet of a text is "/".
+fn no_slash(s: &[u8], start: usize, len: usize) -> bool
+    ensures { λ r. ⌜ noSlash (take len (drop start (now (s .entry)))) ≡ r ⌝ }
+{
+    let mut i = start;
+    let mut left = len;
+    while 0 < left {
+        if s.len() <= i {
+            return true;
+        }
+        if s[i] == 47 {
+            return false;
+        }
+        i = i + 1;
+        left = left - 1;
+    }
+    true
+}
+
+// Whether a text is an identifier.
+fn is_name(s: &[u8], start: usize, len: usize) -> bool
+    ensures { λ r. ⌜ isName (take len (drop start (now (s .entry)))) ≡ r ⌝ }
+{
+    if len == 0 {
+        return false;
+    }
+    if s.len() <= start {
+        return false;
+    }
+    if !is_letter(s[start]) {
+        return false;
+    }
+    no_slash(s, start, len)
+}
+
+fn text_leaf(s: &[u8], at: usize, what: u64, above: usize, start: usize, len: usize) -> Leaf
+    ensures { λ r. ⌜ textLeaf (now (s .entry)) at what above start len ≡ r ⌝ }
+{
+    let v = glow_rows::cell_of(Value::Text { start, len });
+    if what == 1 {
+        if !is_name(s, start, len) {
+            return Leaf::Refused(36, at);
+        }
+    }
+    Leaf::Kept(v, above)
+}
+
+fn value_leaf(s: &[u8], at: usize, what: u64, above: usize, v: Value) -> Leaf
+    ensures { λ r. ⌜ valueLeaf (now (s .entry)) at what above v ≡ r ⌝ }
+{
+    match v {
+        Value::Absent => Leaf::Refused(33, at),
+        Value::Int(x) => number_leaf(at, what, above, x),
+        Value::Real(_) => Leaf::Kept(glow_rows::cell_of(v), above),
+        Value::Text { start, len } => text_leaf(s, at, what, above, start, len),
+        Value::Bool(_) => Leaf::Kept(glow_rows::cell_of(v), above),
+        Value::Octets { start: _, len: _ } => Leaf::Kept(glow_rows::cell_of(v), above),
+    }
+}
+
+// A value that was read, by the member's rule.
+fn judge(s: &[u8], at: usize, what: u64, above: usize, a: Answer) -> Leaf
+    ensures { λ r. ⌜ judged (now (s .entry)) at what above a ≡ r ⌝ }
+{
+    match a {
+        Answer::Found { value, next: _ } => value_leaf(s, at, what, above, value),
+        Answer::Other => Leaf::Refused(33, at),
+        Answer::Refused { number, place } => Leaf::Refused(wide(number), place),
+    }
+}
+
+// Whether the message holds the octets of a value.
+fn holds(s: &[u8], start: usize, len: usize) -> bool
+    ensures { λ r. ⌜ leb (start + len) (length (now (s .entry))) ≡ r ⌝ }
+{
+    if s.len() < len {
+        return false;
+    }
+    if s.len() - len < start {
+        return false;
+    }
+    true
+}
+
+fn numbers_cell(start: usize, len: usize) -> Cell
+    ensures { λ r. ⌜ numbersCell start len ≡ r ⌝ }
+{
+    Cell {
+        kind: 13,
+        first: word(start),
+        second: word(len),
+    }
+}
+
+// Whether a path was wrong, or is with this number.
+fn spoiled(wrong: bool, number: u64) -> bool
+    ensures { λ r. ⌜ pick (eqb number 0) true wrong ≡ r ⌝ }
+{
+    if number == 0 {
+        return true;
+    }
+    wrong
+}
+
+// A path: 1 to 16 numbers, each at least 1. A number that is cut off counts before one out of its range.
+fn path_leaf(s: &[u8], at: usize, start: usize, len: usize) -> Leaf
+    requires { ⌜ start + len ≤ length (now s) ⌝ }
+    ensures { λ r. ⌜ pathLeaf at start len (arcs (now (s .entry)) start len) ≡ r ⌝ }
+{
+    let end = start + len;
+    let mut p = start;
+    let mut count: usize = 0;
+    let mut wrong = false;
+    while p < end {
+        match ber_identifiers::read_number(s, p, end) {
+            Arc::Number { number, next } => {
+                p = next;
+                count = count + 1;
+                wrong = spoiled(wrong, number);
+            }
+            Arc::Range { next } => {
+                p = next;
+                wrong = true;
+            }
+            Arc::Refused => {
+                return Leaf::Refused(30, at);
+            }
+        }
+    }
+    if wrong {
+        return Leaf::Refused(37, at);
+    }
+    if count == 0 {
+        return Leaf::Refused(37, at);
+    }
+    if 16 < count {
+        return Leaf::Refused(37, at);
+    }
+    Leaf::Kept(numbers_cell(start, len), count)
+}
+
+// The sources of a connection.
+fn list_leaf(at: usize, start: usize, len: usize, above: usize, o: Oid) -> Leaf
+    ensures { λ r. ⌜ oidLeaf at start len above o ≡ r ⌝ }
+{
+    match o {
+        Oid::Numbers(_) => Leaf::Kept(numbers_cell(start, len), above),
+        Oid::Range => Leaf::Refused(34, at),
+        Oid::Refused => Leaf::Refused(30, at),
+    }
+}
+
+// A relative identifier.
+fn numbers_at(s: &[u8], at: usize, start: usize, len: usize, what: u64, above: usize) -> Leaf
+    ensures { λ r. ⌜ numbersAt (now (s .entry)) at start len what above ≡ r ⌝ }
+{
+    if !holds(s, start, len) {
+        return Leaf::Refused(30, s.len());
+    }
+    if what == 6 {
+        return path_leaf(s, at, start, len);
+    }
+    list_leaf(
+        at,
+        start,
+        len,
+        above,
+        ber_identifiers::read_oid(s, start, len),
+    )
+}
+
+// Whether a number stands at a member, or may, and is none of a path's.
+fn is_counted(what: u64) -> bool
+    ensures { λ r. ⌜ (r ≡ true → Counted what) ⌝ }
+{
+    if what == 4 {
+        return true;
+    }
+    8 <= what
+}
+
+// The word of a number that is in its member's range; 2^63 where that is for `read_leaf` to say.
+fn word_in(what: u64, x: i64) -> u64
+    ensures { λ r. ⌜ ((r ≡ 9223372036854775808 → ⊥) → NumberTold what (Number.Int x) r) ⌝ }
+{
+    let v = glow_rows::cell_of(Value::Int(x));
+    if what == 4 {
+        return v.first;
+    }
+    if in_range(what, v.first) {
+        return v.first;
+    }
+    9223372036854775808
+}
+
+fn number_word(what: u64, n: Number) -> u64
+    ensures { λ r. ⌜ ((r ≡ 9223372036854775808 → ⊥) → NumberTold what n r) ⌝ }
+{
+    match n {
+        Number::Refused => 9223372036854775808,
+        Number::Int(x) => word_in(what, x),
+    }
+}
+
+fn list_word(start: usize, o: Oid) -> u64
+    ensures { λ r. ⌜ ((r ≡ 9223372036854775808 → ⊥) → ListTold start o r) ⌝ }
+{
+    match o {
+        Oid::Numbers(_) => word(start),
+        Oid::Range => 9223372036854775808,
+        Oid::Refused => 9223372036854775808,
+    }
+}
+
+// The first word of a value's cell, for a number, a text or sources that fit their member; 2^63 where that is for `read_leaf` to say.
+pub fn word_of(s: &[u8], number: u64, start: usize, len: usize, what: u64) -> u64
+    ensures { λ r. ⌜ ((r ≡ 9223372036854775808 → ⊥) → LeafTold (now (s .entry)) number start len what r) ⌝ }
+{
+    if !holds(s, start, len) {
+        return 9223372036854775808;
+    }
+    if number == 2 {
+        if is_counted(what) {
+            return number_word(what, ber_integers::read_int(s, start, len));
+        }
+        return 9223372036854775808;
+    }
+    if number == 12 {
+        if what == 1 {
+            if is_name(s, start, len) {
+                return word(start);
+            }
+            return 9223372036854775808;
+        }
+        if what == 2 {
+            return word(start);
+        }
+        return 9223372036854775808;
+    }
+    if number == 13 {
+        if what == 7 {
+            return list_word(start, ber_identifiers::read_oid(s, start, len));
+        }
+    }
+    9223372036854775808
+}
+
+// The value whose tag stands at `at`, with this universal number, and whose len octets stand at `start`; `above` counts the numbers of the path so far.
+pub fn read_leaf(
+    s: &[u8],
+    at: usize,
+    number: u64,
+    start: usize,
+    len: usize,
+    what: u64,
+    above: usize,
+) -> Leaf
+    ensures { λ r. ⌜ leafAt (now (s .entry)) at number start len what above ≡ r ⌝ }
+    ensures { λ r. ⌜ LeafBounded above r ⌝ }
+{
+    if !fits(what, number) {
+        return Leaf::Refused(33, at);
+    }
+    if number == 13 {
+        return numbers_at(s, at, start, len, what, above);
+    }
+    judge(
+        s,
+        at,
+        what,
+        above,
+        ber_values::read_content(s, at, number, start, len),
+    )
+}

@@ -1,0 +1,63 @@
+use Rattle.glow_member_sizes.proofs.Caps.{tagged-over, tagged-is}
+use native.Mathlib.Omega.{arith}
+use mathlib.Core.Path.{_∙_}
+use borrow.Author.Needs.{needs}
+use Rattle.glow_member_sizes.proofs.around.Statement.{statement}
+use Rattle.glow_member_sizes.proofs.around.Tie as tie
+use Rattle.glow_member_sizes.proofs.around.Reads as reads
+use Rattle.glow_member_sizes.proofs.around.Lts as lts
+use Rattle.ber_tags.proofs.length_size.Reads as length-size-reads
+use Rattle.glow_member_sizes.proofs.capped.Reads as capped-reads
+use Rattle.glow_member_sizes.proofs.wide.Reads as wide-reads
+
+-- src/lib.rt:40:9
+returns : tie.Need-returns
+returns c =
+    let the-if1 = c .if1 in
+    tagged-over _ (the-if1 .taken)
+
+-- src/lib.rt:42:21
+length-size-requires : tie.Need-length-size-requires
+length-size-requires c κs = search needs
+
+-- src/lib.rt:42:16
+wide-requires : tie.Need-wide-requires
+wide-requires c κs = search needs
+
+-- src/lib.rt:42:12
+add-capped : tie.Need-add-capped
+add-capped c =
+    let the-length-size = c .before .length-size in
+    let the-wide = c .wide in
+    let e = the-length-size .ensures .1 in let i = the-wide .ensures in omega arith
+
+-- src/lib.rt:42:12
+add-capped-2 : tie.Need-add-capped-2
+add-capped-2 c =
+    let the-length-size = c .before .length-size in
+    let the-wide = c .wide in
+    let e = the-length-size .ensures .1 in let i = the-wide .ensures in omega arith
+
+-- src/lib.rt:42:5
+capped-requires : tie.Need-capped-requires
+capped-requires c κs = search needs
+
+-- src/lib.rt:36:1
+returns-2 : tie.Need-returns-2
+returns-2 c =
+    let the-length-size = c .before .before .length-size in
+    let the-wide = c .before .wide in
+    let the-capped = c .capped in
+    tagged-is _ _ _ (the-length-size .ensures .0) (let i = the-wide .ensures in omega arith) ∙ the-capped .ensures
+
+pub around-spec : {M : Type 1} → statement M
+around-spec =
+    tie.close
+    (tie.spec
+    returns
+    length-size-requires
+    wide-requires
+    add-capped
+    add-capped-2
+    capped-requires
+    returns-2)

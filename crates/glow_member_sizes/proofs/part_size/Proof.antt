@@ -1,0 +1,112 @@
+use Rattle.glow_member_sizes.proofs.Members.{part-out, part-refused, part-sized}
+use mathlib.Core.Path.{_∙_}
+use native.Mathlib.Omega.{arith}
+use borrow.Author.Needs.{needs}
+use Rattle.glow_member_sizes.proofs.part_size.Statement.{statement}
+use Rattle.glow_member_sizes.proofs.part_size.Tie as tie
+use Rattle.glow_member_sizes.proofs.part_size.Reads as reads
+use Rattle.glow_member_sizes.proofs.part_size.Lts as lts
+use Rattle.glow_grammar.proofs.read_leaf.Reads as read-leaf-reads
+use Rattle.glow_member_sizes.proofs.around.Reads as around-reads
+use Rattle.glow_member_sizes.proofs.index.Reads as index-reads
+use Rattle.glow_member_sizes.proofs.wide.Reads as wide-reads
+
+-- src/lib.rt:143:9
+wide-requires : tie.Need-wide-requires
+wide-requires c κs = search needs
+
+-- src/lib.rt:145:9
+returns : tie.Need-returns
+returns c =
+    let the-Start = c .before .before .before .before in
+    let the-wide = c .before .before .wide in
+    let w = the-wide .ensures in
+    let q = the-Start .pre in
+    part-out _ _ _ (q .0) (q .1 .0) (q .1 .1) (omega arith)
+
+-- src/lib.rt:148:9
+returns-2 : tie.Need-returns-2
+returns-2 c =
+    let the-Start = c .before .before .before .before .before .before .before in
+    let the-wide = c .before .before .before .before .before .wide in
+    let w = the-wide .ensures in
+    let q = the-Start .pre in
+    part-out _ _ _ (q .0) (q .1 .0) (q .1 .1) (omega arith)
+
+-- src/lib.rt:150:9
+index-requires : tie.Need-index-requires
+index-requires c κs = search needs
+
+-- src/lib.rt:151:9
+index-requires-2 : tie.Need-index-requires-2
+index-requires-2 c κs = search needs
+
+-- src/lib.rt:152:11
+read-leaf-requires : tie.Need-read-leaf-requires
+read-leaf-requires c κs = search needs
+
+-- src/lib.rt:153:32
+enum-told : tie.Need-enum-told
+enum-told c = search needs
+
+-- src/lib.rt:154:36
+enum-told-2 : tie.Need-enum-told-2
+enum-told-2 c = search needs
+
+-- src/lib.rt:154:36
+around-requires : tie.Need-around-requires
+around-requires c κs = search needs
+
+-- src/lib.rt:154:29
+around-requires-2 : tie.Need-around-requires-2
+around-requires-2 c κs = search needs
+
+-- src/lib.rt:139:1
+returns-3 : tie.Need-returns-3
+returns-3 c =
+    let the-Start = c .before .before .before .before .before .before .before .before .before .before .before .before in
+    let the-wide = c .before .before .before .before .before .before .before .before .before .before .wide in
+    let the-if2 = c .before .before .before .before .before .if2 in
+    let the-index = c .before .before .before .before .index in
+    let the-index2 = c .before .before .before .index2 in
+    let the-read-leaf = c .before .before .read-leaf in
+    let the-enum-told = c .enum-told in
+    let w = the-wide .ensures in
+    let q = the-Start .pre in
+    let k = the-if2 .left in
+    part-refused _ _ _ (q .0) (q .1 .0) (q .1 .1) _ _ (the-index .ensures) (the-index2 .ensures) (omega arith) (the-read-leaf .ensures .0 ∙ the-enum-told .given .1)
+
+-- src/lib.rt:139:1
+returns-4 : tie.Need-returns-4
+returns-4 c =
+    let the-Start = c .before .before .before .before .before .before .before .before .before .before .before .before .before .before in
+    let the-wide = c .before .before .before .before .before .before .before .before .before .before .before .before .wide in
+    let the-if2 = c .before .before .before .before .before .before .before .if2 in
+    let the-index = c .before .before .before .before .before .before .index in
+    let the-index2 = c .before .before .before .before .before .index2 in
+    let the-read-leaf = c .before .before .before .before .read-leaf in
+    let the-enum-told2 = c .before .before .enum-told2 in
+    let the-around = c .before .around in
+    let the-around2 = c .around2 in
+    let w = the-wide .ensures in
+    let q = the-Start .pre in
+    let k = the-if2 .left in
+    part-sized _ _ _ (q .0) (q .1 .0) (q .1 .1) _ _ (the-index .ensures) (the-index2 .ensures) (omega arith) (the-read-leaf .ensures .0 ∙ the-enum-told2 .given .1)
+    _ _ (the-around .ensures) (the-around2 .ensures)
+
+pub part-size-spec : {M : Type 1} → statement M
+part-size-spec =
+    tie.close
+    (tie.spec
+    wide-requires
+    returns
+    returns-2
+    index-requires
+    index-requires-2
+    read-leaf-requires
+    enum-told
+    enum-told-2
+    around-requires
+    around-requires-2
+    returns-3
+    returns-4)

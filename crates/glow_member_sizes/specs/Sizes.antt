@@ -1,0 +1,33 @@
+-- Sizes of what is written. A size over 16,384 is 65,536, and so is the size of what is not legal.
+use Prim.Native.Nat.{ℕ, _+_}
+use mathlib.Core.Path.{_≡_}
+use mathlib.Core.List.{List}
+use mathlib.Core.Bool.{true}
+use lib.ListN.{length}
+use lib.Dec.{leb, eqb}
+use Rattle.ber_integers.specs.Digits.{pick}
+use Rattle.ber_integers.specs.declared.Wrote.{Wrote}
+use Rattle.ber_integers.specs.declared.Wrote.the-variants.{Next, Out}
+use Rattle.ber_tags.specs.Write.{lengthOctets}
+use Rattle.glow_trees.specs.Content.{Content}
+use Rattle.glow_trees.specs.Legal.{isReal, suits}
+use Rattle.glow_trees.specs.Written.{spelled, memberOctets}
+
+unfoldable pub cap : ℕ → ℕ
+cap n = pick (leb n 16384) n 65536
+
+-- a tag of one octet, its length and n octets
+unfoldable pub taggedSize : ℕ → ℕ
+taggedSize n = 1 + (length (lengthOctets n) + n)
+
+abbrev pub nextOf : Wrote → ℕ
+nextOf (Next n) = n
+nextOf Out = 0
+
+-- the content octets of a boolean, an integer, or a real that is written
+abbrev pub WordSized : (ℕ → List ℕ) → ℕ → ℕ → ℕ → Type 0
+WordSized real kind w n = pick (eqb kind 1) true (pick (eqb kind 2) true (isReal w)) ≡ true → length (spelled real kind w) ≡ n
+
+-- a member by its rule
+unfoldable pub memberSize : (ℕ → List ℕ) → ℕ → Content → ℕ
+memberSize real what x = pick (suits what x) (cap (length (memberOctets real 0 x))) 65536

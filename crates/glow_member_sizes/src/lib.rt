@@ -1,0 +1,191 @@
+// The members of an entry: how many octets each takes with its tags, and whether it may stand where it does.
+use ber_integers::Wrote;
+use glow_grammar::Leaf;
+use glow_rows::Cell;
+ghost use mathlib.Core.Path.{_≡_};
+ghost use mathlib.Core.Bool.{true, false};
+ghost use mathlib.Core.List.{List, []};
+ghost use Prim.Native.Nat.{ℕ, _+_};
+ghost use lib.ListN.{length};
+ghost use Rattle.ber_integers.specs.Integer.{shortest};
+ghost use Rattle.glow_grammar.specs.Leaf.{expects};
+ghost use Rattle.glow_trees.specs.Content.{contentOf, isPart, intOf};
+ghost use Rattle.glow_trees.specs.Legal.{isReal, wordSuits};
+ghost use Rattle.glow_member_sizes.specs.Spelling.{spelling};
+ghost use Rattle.glow_member_sizes.specs.Sizes.{cap, taggedSize, nextOf, WordSized, memberSize};
+
+fn capped(n: u64) -> u64
+    ensures { λ r. ⌜ cap n ≡ r ⌝ }
+{
+    if n <= 16384 { n } else { 65536 }
+}
+
+// The sum of two sizes.
+pub fn plus(a: u64, b: u64) -> u64
+    ensures { λ r. ⌜ cap (a + b) ≡ r ⌝ }
+{
+    if 16384 < a {
+        return 65536;
+    }
+    if 16384 < b {
+        return 65536;
+    }
+    capped(a + b)
+}
+
+// A tag of one octet, its length and n octets.
+pub fn around(n: u64) -> u64
+    ensures { λ r. ⌜ cap (taggedSize n) ≡ r ⌝ }
+{
+    if 16384 < n {
+        return 65536;
+    }
+    capped(1 + wide(ber_tags::length_size(n)) + n)
+}
+
+// A size as a u64.
+pub fn wide(x: usize) -> u64
+    ensures { λ r. ⌜ r ≡ x ⌝ }
+{
+    x as u64
+}
+
+// The integer that a word stands for, in two's complement.
+pub fn int_of(w: u64) -> i64
+    ensures { λ r. ⌜ intOf w ≡ r ⌝ }
+{
+    if w < 0x8000000000000000 {
+        return w as i64;
+    }
+    -1 - ((18446744073709551615 - w) as i64)
+}
+
+// The place after what was written, 0 where the output was too short.
+pub fn place(w: Wrote) -> usize
+    ensures { λ r. ⌜ nextOf w ≡ r ⌝ }
+{
+    match w {
+        Wrote::Next(n) => n,
+        Wrote::Out => 0,
+    }
+}
+
+// The content octets of an integer.
+fn int_size(w: u64) -> u64
+    ensures { λ r. ⌜ length (shortest (intOf w)) ≡ r ⌝ }
+{
+    let mut room = [0u8; 8];
+    let out: &mut [u8] = &mut room;
+    let n = place(ber_integers::write_int(int_of(w), out, 0));
+    wide(n)
+}
+
+// The content octets of a real.
+fn real_size(w: u64, least: bool) -> u64
+    ensures { λ r. ⌜ (isReal w ≡ true → length (spelling least w) ≡ r) ⌝ }
+{
+    if least {
+        return wide(ber_real_sizes::least_size(w));
+    }
+    wide(ber_real_sizes::written_size(w))
+}
+
+// Whether a boolean, an integer or a real, by its word, may stand at a member.
+fn word_suits(what: u64, kind: u64, w: u64) -> bool
+    ensures { λ r. ⌜ wordSuits what kind w ≡ r ⌝ }
+{
+    if kind == 1 {
+        return w <= 1;
+    }
+    if kind == 2 {
+        if what == 4 {
+            return true;
+        }
+        return glow_grammar::in_range(what, w);
+    }
+    ber_real_sizes::is_written(w)
+}
+
+// The content octets of a boolean, an integer or a real.
+pub fn word_size(kind: u64, w: u64, least: bool) -> u64
+    ensures { λ r. ⌜ WordSized (spelling least) kind w r ⌝ }
+{
+    if kind == 1 {
+        return 1;
+    }
+    if kind == 2 {
+        return int_size(w);
+    }
+    real_size(w, least)
+}
+
+// Whether a universal tag number is that of octets, a text or a relative identifier.
+pub fn is_part(kind: u64) -> bool
+    ensures { λ r. ⌜ isPart kind ≡ r ⌝ }
+{
+    if kind == 4 {
+        return true;
+    }
+    if kind == 12 {
+        return true;
+    }
+    kind == 13
+}
+
+// A word as a place.
+pub fn index(x: u64) -> usize
+    ensures { λ r. ⌜ r ≡ x ⌝ }
+{
+    x as usize
+}
+
+// A member that holds a part of the message: its octets with both tags.
+fn part_size(s: &[u8], v: Cell, what: u64) -> u64
+    requires { ⌜ (isPart (v .kind) ≡ true) × ((expects what (v .kind) ≡ true) × (what ≡ 0 → ⊥)) ⌝ }
+    ensures { λ r. ⌜ ((real : ℕ → List ℕ) → memberSize real what (contentOf (now (s .entry)) v) ≡ r) ⌝ }
+{
+    let total = wide(s.len());
+    if total < v.second {
+        return 65536;
+    }
+    if total - v.second < v.first {
+        return 65536;
+    }
+    let start = index(v.first);
+    let len = index(v.second);
+    match glow_grammar::read_leaf(s, 0, v.kind, start, len, what, 0) {
+        Leaf::Refused(_, _) => 65536,
+        Leaf::Kept(_, _) => around(around(v.second)),
+    }
+}
+
+// A member by its cell and its rule: the octets with both tags, 0 for an absent one.
+pub fn member_size(s: &[u8], v: Cell, what: u64, least: bool) -> u64
+    ensures { λ r. ⌜ memberSize (spelling least) what (contentOf (now (s .entry)) v) ≡ r ⌝ }
+{
+    if v.kind == 0 {
+        if v.first != 0 {
+            return 65536;
+        }
+        if v.second != 0 {
+            return 65536;
+        }
+        return 0;
+    }
+    if what == 0 {
+        return 65536;
+    }
+    if !glow_grammar::fits(what, v.kind) {
+        return 65536;
+    }
+    if is_part(v.kind) {
+        return part_size(s, v, what);
+    }
+    if v.second != 0 {
+        return 65536;
+    }
+    if !word_suits(what, v.kind, v.first) {
+        return 65536;
+    }
+    around(around(word_size(v.kind, v.first, least)))
+}

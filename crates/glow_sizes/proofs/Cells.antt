@@ -1,0 +1,145 @@
+-- An entry's cells: their rules, and the sum of their sizes.
+use Prim.Native.Nat.{ℕ, zero, suc, _+_, _-_, _*_, _≤_, _<_}
+use mathlib.Core.Path.{_≡_, refl, sym, ap, subst, _∙_}
+use mathlib.Core.Bool.{Bool, true, false, not}
+use mathlib.Core.List.{List, [], _∷_, _++_}
+use mathlib.Core.Logic.{_⊎_, ⊎-elim, inl, inr}
+use native.Mathlib.Omega.{arith}
+use borrow.Author.Tests.{eq-eqb, ne-eqb, le-leb, lt-leb, lt-ltb, le-ltb, eqb-true}
+use lib.Dec.{T, leb, ltb, eqb}
+use lib.ListN.{length, take, drop, getD, length-append, List·getD-eq-default}
+use Rattle.ber_integers.specs.Digits.{pick}
+use Rattle.glow_rows.specs.declared.Cell.{Cell}
+use Rattle.glow_rows.specs.Cell.{cell, absent}
+use Rattle.glow_rows.specs.Entry.{Rows}
+use Rattle.glow_grammar.specs.Grammar.{ruleOf}
+use Rattle.glow_grammar.specs.Grammar as grammar
+use Rattle.glow_grammar.specs.Leaf.{both}
+use Rattle.glow_trees.specs.Content.{Content, nothing, word, bytes, wrong, contentOf, contentsOf}
+use Rattle.glow_trees.specs.Rows.{cellAt, cellsFrom}
+use Rattle.glow_trees.specs.Legal.{suits, ruleAt, suited}
+use Rattle.glow_trees.specs.Written.{tagged, memberOctets, membersOctets}
+use Rattle.glow_member_sizes.specs.Sizes.{cap, taggedSize, memberSize}
+use Rattle.glow_sizes.specs.Sizes.{rowCell, rowWord, cellsSize, wrappedSize, split, contentsSize}
+use Rattle.glow_member_sizes.proofs.Caps.{cap-in, cap-over, cap-left, cap-right}
+use Rattle.glow_member_sizes.proofs.Members.{twice}
+
+-- ---- the rule for a cell
+module _ (kind c row : ℕ) (e : grammar.contentsOf kind ≡ row) where
+  pub rule-plain : row ≡ 0 → ruleAt kind c ≡ ruleOf kind c
+  unfolding ruleAt
+  rule-plain h = simp (eq-eqb _ _ (e ∙ h))
+
+  pub rule-first : (row ≡ 0 → ⊥) → c ≡ 0 → ruleAt kind c ≡ ruleOf kind 0
+  unfolding ruleAt
+  rule-first h k = simp (ne-eqb _ _ (λ i. h (sym e ∙ i)), eq-eqb _ _ k)
+
+  pub rule-contents : (row ≡ 0 → ⊥) → (c ≡ 0 → ⊥) → ruleAt kind c ≡ ruleOf row (c - 1)
+  unfolding ruleAt
+  rule-contents h k = simp (ne-eqb _ _ (λ i. h (sym e ∙ i)), ne-eqb _ _ k) (ap (λ (i : ℕ). ruleOf i (c - 1)) e)
+
+-- ---- an outer tag that may be left out
+pub wrapped-none : (n : ℕ) → n ≡ 0 → cap (wrappedSize n) ≡ 0
+unfolding wrappedSize
+wrapped-none n h = simp (eq-eqb _ _ h) (cap-in 0 (omega arith))
+
+pub wrapped-some : (n a r : ℕ) → (n ≡ 0 → ⊥) → cap (taggedSize n) ≡ a → cap (taggedSize a) ≡ r → cap (wrappedSize n) ≡ r
+unfolding wrappedSize
+wrapped-some n a r h i j = simp (ne-eqb _ _ h) (twice n a r i j)
+
+-- ---- sums, from the last cell to the first
+module _ (real : ℕ → List ℕ) (kind : ℕ) (s row : List ℕ) where
+  pub Sum : ℕ → ℕ → ℕ → Type 0
+  Sum to c total = (c ≤ to) × (cellsSize real kind c (contentsOf s (cellsFrom (to - c) c row)) ≡ total)
+
+  pub sum-none : (to : ℕ) → Sum to to 0
+  unfolding Sum cellsFrom contentsOf cellsSize
+  sum-none to = let z : to - to ≡ 0 = omega arith in (omega arith, rw z refl)
+
+  pub sum-more : (to c total what n r : ℕ) (v : Cell) → 0 < c → Sum to c total → v ≡ cellAt row (c - 1) → ruleAt kind (c - 1) ≡ what
+      → memberSize real what (contentOf s v) ≡ n → cap (n + total) ≡ r → Sum to (c - 1) r
+  unfolding Sum cellsFrom contentsOf cellsSize
+  sum-more to c total what n r v h k i j l m =
+      let a : to - (c - 1) ≡ suc (to - c) = omega arith in
+      let b : suc (c - 1) ≡ c = omega arith in
+      let t = k .1 in (
+        omega arith,
+        rw (a, b, t, j) (rw (sym i) (rw l m)),
+      )
+
+  pub sum-is : (to c total : ℕ) → Sum to c total → cellsSize real kind c (contentsOf s (cellsFrom (to - c) c row)) ≡ total
+  unfolding Sum
+  sum-is to c total h = h .1
+
+-- ---- the cells and words of a row, one by one
+cells-at : (n k c : ℕ) (r : List ℕ) → c < n → getD (cellsFrom n k r) c absent ≡ cellAt r (k + c)
+unfolding cellsFrom
+cells-at zero k c r h = absurd (omega (arith, h))
+cells-at (suc n) k zero r h = let d : k ≡ k + 0 = omega arith in ap (cellAt r) d
+cells-at (suc n) k (suc c) r h =
+    let d : suc k + c ≡ k + suc c = omega arith in cells-at n (suc k) c r (omega (arith, h)) ∙ ap (cellAt r) d
+
+cells-past : (n k c : ℕ) (r : List ℕ) → n ≤ c → getD (cellsFrom n k r) c absent ≡ absent
+unfolding cellsFrom
+cells-past zero k c r h = refl
+cells-past (suc n) k zero r h = absurd (omega (arith, h))
+cells-past (suc n) k (suc c) r h = cells-past n (suc k) c r (omega (arith, h))
+
+cells-none : (n k c : ℕ) → getD (cellsFrom n k []) c absent ≡ absent
+unfolding cellsFrom
+cells-none zero k c = refl
+cells-none (suc n) k zero = refl
+cells-none (suc n) k (suc c) = cells-none n (suc k) c
+
+module _ (rows : Rows) (i c : ℕ) where
+  pub cell-rowless : length rows ≤ i → absent ≡ rowCell rows i c
+  unfolding rowCell
+  cell-rowless h = sym (ap (λ (r : List ℕ). getD (cellsFrom 16 0 r) c absent) (List·getD-eq-default rows [] h) ∙ cells-none 16 0 c)
+
+  pub cell-past : 16 ≤ c → absent ≡ rowCell rows i c
+  unfolding rowCell
+  cell-past h = sym (cells-past 16 0 c (getD rows i []) h)
+
+  pub cell-in : c < 16 → rowCell rows i c ≡ cellAt (getD rows i []) c
+  unfolding rowCell
+  cell-in h = let z : 0 + c ≡ c = omega arith in cells-at 16 0 c (getD rows i []) h ∙ ap (cellAt (getD rows i [])) z
+
+  pub cell-words : c < 16
+      → cell (getD (getD rows i []) (2 + c * 3) 0) (getD (getD rows i []) (2 + c * 3 + 1) 0) (getD (getD rows i []) (2 + c * 3 + 2) 0) ≡ rowCell rows i c
+  cell-words h =
+      let a : 2 + c * 3 + 1 ≡ 3 + c * 3 = omega arith in
+      let b : 2 + c * 3 + 2 ≡ 4 + c * 3 = omega arith in
+      rw (a, b) (sym (cell-in h))
+
+module _ (rows : Rows) (i j : ℕ) where
+  pub word-rowless : length rows ≤ i → 0 ≡ rowWord rows i j
+  word-rowless h = sym (ap (λ (r : List ℕ). pick (ltb j 50) (getD r j 0) 0) (List·getD-eq-default rows [] h) ∙ go (ltb j 50))
+    where
+      go : (b : Bool) → _≡_ {A = ℕ} (pick b 0 0) 0
+      go true = refl
+      go false = refl
+
+  pub word-past : 50 ≤ j → 0 ≡ rowWord rows i j
+  word-past h = simp (le-ltb _ _ h)
+
+  pub word-in : j < 50 → getD (getD rows i []) j 0 ≡ rowWord rows i j
+  word-in h = simp (lt-ltb _ _ h)
+
+-- ---- the contents, by where they begin
+module _ (real : ℕ → List ℕ) (s row : List ℕ) (kind part n : ℕ) (e : split kind ≡ part) where
+  abbrev from : ℕ → ℕ
+  from p = cellsSize real kind p (contentsOf s (cellsFrom (16 - p) p row))
+
+  pub contents-is : cellsSize real kind part (contentsOf s (cellsFrom (16 - part) part row)) ≡ n → contentsSize real s row kind ≡ n
+  unfolding contentsSize
+  contents-is h = ap from e ∙ h
+
+  pub contents-at : contentsSize real s row kind ≡ n → cellsSize real kind part (contentsOf s (cellsFrom (16 - part) part row)) ≡ n
+  unfolding contentsSize
+  contents-at h = sym (ap from e) ∙ h
+
+pub sum-is-at : (real : ℕ → List ℕ) (kind : ℕ) (s row : List ℕ) (from to c total : ℕ) → from ≤ c → c ≤ from → Sum real kind s row to c total
+    → cellsSize real kind from (contentsOf s (cellsFrom (to - from) from row)) ≡ total
+sum-is-at real kind s row from to c total h k q =
+    let e : from ≡ c = omega arith in
+    ap (λ (i : ℕ). cellsSize real kind i (contentsOf s (cellsFrom (to - i) i row))) e ∙ sum-is real kind s row to c total q

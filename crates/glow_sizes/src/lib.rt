@@ -1,0 +1,454 @@
+// Which entries make a tree that the reader accepts, and how many octets its message takes.
+use ber_identifiers::Oid;
+use glow_member_sizes::around;
+use glow_member_sizes::index;
+use glow_member_sizes::member_size;
+use glow_member_sizes::plus;
+use glow_member_sizes::wide;
+use glow_rows::Cell;
+ghost use mathlib.Core.Path.{_≡_};
+ghost use mathlib.Core.Bool.{true, false};
+ghost use mathlib.Core.List.{[], _∷_};
+ghost use mathlib.Core.Logic.{_⊎_};
+ghost use Prim.Native.Nat.{_+_, _-_, _≤_, _<_};
+ghost use lib.ListN.{length, getD};
+ghost use lib.Dec.{leb, eqb};
+ghost use Rattle.ber_integers.specs.Digits.{pick};
+ghost use Rattle.glow_rows.specs.Cell.{absent};
+ghost use Rattle.glow_trees.specs.Content.{contentOf, contentsOf};
+ghost use Rattle.glow_trees.specs.Rows.{cellsFrom, itemsIn};
+ghost use Rattle.glow_trees.specs.Trees.{standsIn};
+ghost use Rattle.glow_grammar.specs.Grammar.{required, ruleOf};
+ghost use Rattle.glow_trees.specs.Legal.{ruleAt, suits, pathOf};
+ghost use Rattle.glow_member_sizes.specs.Spelling.{leastReal, spelling};
+ghost use Rattle.glow_member_sizes.specs.Sizes.{cap, taggedSize};
+ghost use Rattle.glow_sizes.specs.Accepted.{fits, lengthOf};
+ghost use Rattle.glow_sizes.specs.Sizes.{rowCell, rowWord, cellsSize, wrappedSize, pathCap, split, contentsSize, keyed, enteredAt, Gives};
+
+// An entry alone: how many octets its members and contents take, and how many numbers the path has with its own.
+pub struct Entered {
+    pub size: u64,
+    pub path: u64,
+}
+
+// The rule for a cell of a kind.
+fn rule_at(kind: u64, c: u64) -> u64
+    ensures { λ r. ⌜ ruleAt kind c ≡ r ⌝ }
+{
+    let row = glow_grammar::contents_of(kind);
+    if row == 0 {
+        return glow_grammar::rule_of(kind, c);
+    }
+    if c == 0 {
+        return glow_grammar::rule_of(kind, 0);
+    }
+    glow_grammar::rule_of(row, c - 1)
+}
+
+fn no_cell() -> Cell
+    ensures { λ r. ⌜ r ≡ absent ⌝ }
+{
+    Cell {
+        kind: 0,
+        first: 0,
+        second: 0,
+    }
+}
+
+// The cell c of a row; an absent one past the rows' end, or past the sixteen cells.
+pub fn cell_at(rows: &[[u64; 50]], i: usize, c: usize) -> Cell
+    ensures { λ r. ⌜ r ≡ rowCell (now (rows .entry)) i c ⌝ }
+{
+    if rows.len() <= i {
+        return no_cell();
+    }
+    if 16 <= c {
+        return no_cell();
+    }
+    let j = 2 + c * 3;
+    Cell {
+        kind: rows[i][j],
+        first: rows[i][j + 1],
+        second: rows[i][j + 2],
+    }
+}
+
+// The members of an entry from one cell up to another.
+fn cells_size(
+    rows: &[[u64; 50]],
+    i: usize,
+    s: &[u8],
+    kind: u64,
+    from: usize,
+    to: usize,
+    least: bool,
+) -> u64
+    requires { ⌜ (from ≤ to) × (to ≤ 16) ⌝ }
+    ensures { λ r. ⌜ cellsSize (spelling least) kind from (contentsOf (now (s .entry)) (cellsFrom (to - from) from (getD (now (rows .entry)) i []))) ≡ r ⌝ }
+{
+    let mut c = to;
+    let mut total: u64 = 0;
+    while from < c {
+        c = c - 1;
+        total = plus(
+            member_size(s, cell_at(rows, i, c), rule_at(kind, wide(c)), least),
+            total,
+        );
+    }
+    total
+}
+
+// Contents or a collection of n octets in its outer tag; an empty one is left out.
+pub fn wrapped_size(n: u64) -> u64
+    ensures { λ r. ⌜ cap (wrappedSize n) ≡ r ⌝ }
+{
+    if n == 0 {
+        return 0;
+    }
+    around(around(n))
+}
+
+// How many cells stand outside an entry's contents.
+pub fn split_of(kind: u64) -> usize
+    ensures { λ r. ⌜ split kind ≡ r ⌝ }
+    ensures { λ r. ⌜ r ≤ 16 ⌝ }
+{
+    if glow_grammar::contents_of(kind) == 0 {
+        return 16;
+    }
+    1
+}
+
+// The octets of an entry's contents.
+pub fn contents_size(rows: &[[u64; 50]], i: usize, s: &[u8], kind: u64, least: bool) -> u64
+    ensures { λ r. ⌜ contentsSize (spelling least) (now (s .entry)) (getD (now (rows .entry)) i []) kind ≡ r ⌝ }
+{
+    cells_size(rows, i, s, kind, split_of(kind), 16, least)
+}
+
+// The word j of a row; 0 past the rows' end, or past the fifty words.
+pub fn word_at(rows: &[[u64; 50]], i: usize, j: usize) -> u64
+    ensures { λ r. ⌜ r ≡ rowWord (now (rows .entry)) i j ⌝ }
+{
+    if rows.len() <= i {
+        return 0;
+    }
+    if 50 <= j {
+        return 0;
+    }
+    rows[i][j]
+}
+
+// Whether the members that an entry must have are there.
+fn is_complete(rows: &[[u64; 50]], i: usize, kind: u64) -> bool
+    ensures { λ r. ⌜ keyed (required kind) (getD (now (rows .entry)) i []) ≡ r ⌝ }
+{
+    let n = glow_grammar::required_of(kind);
+    if n == 0 {
+        return true;
+    }
+    if word_at(rows, i, 2) == 0 {
+        return false;
+    }
+    if n == 1 {
+        return true;
+    }
+    word_at(rows, i, 5) != 0
+}
+
+fn few(n: u64) -> u64
+    ensures { λ r. ⌜ pathCap n ≡ r ⌝ }
+{
+    if n <= 16 { n } else { 17 }
+}
+
+// The numbers of a path with this entry's own, 17 for more than 16.
+fn path_after(s: &[u8], v: Cell, what: u64, above: u64) -> u64
+    requires { ⌜ suits what (contentOf (now s) v) ≡ true ⌝ }
+    ensures { λ r. ⌜ pathCap (pathOf what above (contentOf (now (s .entry)) v ∷ [])) ≡ r ⌝ }
+{
+    if v.kind == 0 {
+        return few(above);
+    }
+    if what == 5 {
+        if 16 <= above {
+            return 17;
+        }
+        return above + 1;
+    }
+    if what == 6 {
+        match ber_identifiers::read_oid(s, index(v.first), index(v.second)) {
+            Oid::Numbers(n) => {
+                if n <= 16 {
+                    return wide(n);
+                }
+                return 17;
+            }
+            Oid::Range => {
+                return 0;
+            }
+            Oid::Refused => {
+                return 0;
+            }
+        }
+    }
+    few(above)
+}
+
+fn none() -> Entered
+    ensures { λ r. ⌜ r ≡ record { size = 65536; path = 0 } ⌝ }
+{
+    Entered {
+        size: 65536,
+        path: 0,
+    }
+}
+
+// Whether k containers are enough for contents of so many octets.
+fn is_shallow(inside: u64, k: u64) -> bool
+    ensures { λ r. ⌜ pick (eqb inside 0) true (leb 5 k) ≡ r ⌝ }
+{
+    if inside == 0 {
+        return true;
+    }
+    5 <= k
+}
+
+// An entry alone, with k containers still allowed where it stands.
+pub fn entry_size(
+    rows: &[[u64; 50]],
+    i: usize,
+    s: &[u8],
+    k: u64,
+    above: u64,
+    least: bool,
+) -> Entered
+    ensures { λ r. ⌜ enteredAt (spelling least) (now (s .entry)) (getD (now (rows .entry)) i []) k above ≡ r ⌝ }
+{
+    let kind = word_at(rows, i, 0);
+    let split = split_of(kind);
+    let own = cells_size(rows, i, s, kind, 0, split, least);
+    let inside = cells_size(rows, i, s, kind, split, 16, least);
+    if 16384 < own {
+        return none();
+    }
+    if 16384 < inside {
+        return none();
+    }
+    let size = plus(own, wrapped_size(inside));
+    if 16384 < size {
+        return none();
+    }
+    if !is_shallow(inside, k) {
+        return none();
+    }
+    if !is_complete(rows, i, kind) {
+        return none();
+    }
+    let path = path_after(s, cell_at(rows, i, 0), rule_at(kind, 0), above);
+    if 16 < path {
+        return none();
+    }
+    Entered { size, path }
+}
+
+// Whether a collection may hold a kind.
+pub fn stands_in(which: u64, kind: u64) -> bool
+    ensures { λ r. ⌜ standsIn which kind ≡ r ⌝ }
+{
+    match which {
+        0 => {
+            if kind == 0 {
+                return false;
+            }
+            kind <= 7
+        }
+        1 => {
+            if kind == 0 {
+                return false;
+            }
+            kind <= 4
+        }
+        2 => kind == 8,
+        3 => kind == 9,
+        _ => false,
+    }
+}
+
+// Four containers less: an outer tag, an element, a member's outer tag and its collection.
+pub fn inside_of(k: u64) -> u64
+    ensures { λ r. ⌜ r ≡ k - 4 ⌝ }
+{
+    if k < 4 {
+        return 0;
+    }
+    k - 4
+}
+
+// The trees of a collection: the place after their entries, and how many octets they take; 65,536 octets where they are not legal or take more than 16,384.
+pub struct Measured {
+    pub next: usize,
+    pub size: u64,
+}
+
+fn least_of(a: usize, b: usize) -> usize
+    ensures { λ r. ⌜ (r ≤ a) × (r ≤ b) ⌝ }
+    ensures { λ r. ⌜ (r ≡ a) ⊎ (r ≡ b) ⌝ }
+{
+    if a <= b { a } else { b }
+}
+
+fn refused() -> Measured
+    ensures { λ r. ⌜ r ≡ record { next = 0; size = 65536 } ⌝ }
+{
+    Measured {
+        next: 0,
+        size: 65536,
+    }
+}
+
+// Whether an entry stands in a collection under a parent.
+fn is_next(rows: &[[u64; 50]], i: usize, which: u64, parent: u64) -> bool
+    ensures { λ r. ⌜ pick (eqb (getD (getD (now (rows .entry)) i []) 1 0) parent) (standsIn which (getD (getD (now (rows .entry)) i []) 0 0)) false ≡ r ⌝ }
+{
+    if word_at(rows, i, 1) != parent {
+        return false;
+    }
+    stands_in(which, word_at(rows, i, 0))
+}
+
+// Whether a kind may hold a collection, by the rule of its member c, or the collection is empty.
+fn may_hold(kind: u64, c: u64, what: u64, from: usize, next: usize) -> bool
+    ensures { λ r. ⌜ pick (eqb (ruleOf kind c) what) true (eqb next from) ≡ r ⌝ }
+{
+    if glow_grammar::rule_of(kind, c) == what {
+        return true;
+    }
+    next == from
+}
+
+// The octets before a tree and its own: its entry, its children and its connections in their tags.
+fn tree_size(total: u64, own: u64, kids: u64, links: u64) -> u64
+    ensures { λ r. ⌜ cap (total + taggedSize (taggedSize (own + (wrappedSize kids + wrappedSize links)))) ≡ r ⌝ }
+{
+    let held = plus(own, plus(wrapped_size(kids), wrapped_size(links)));
+    plus(total, around(around(held)))
+}
+
+// The trees that stand in a collection under a parent, from an entry on.
+fn items(
+    rows: &[[u64; 50]],
+    s: &[u8],
+    count: usize,
+    which: u64,
+    parent: u64,
+    start: usize,
+    k: u64,
+    above: u64,
+    least: bool,
+) -> Measured
+    requires { ⌜ (start ≤ count) × (count ≤ length (now rows)) ⌝ }
+    ensures { λ r. ⌜ Gives (spelling least) (itemsIn (now (s .entry)) (now (rows .entry)) count) which parent k above 0 start r ⌝ }
+    ensures { λ r. ⌜ (start ≤ r .next) ⊎ (16384 < r .size) ⌝ }
+    ensures { λ r. ⌜ (r .next ≤ count) ⌝ }
+{
+    let mut i = start;
+    let mut total: u64 = 0;
+    while i < count {
+        if !is_next(rows, i, which, parent) {
+            return Measured {
+                next: i,
+                size: total,
+            };
+        }
+        if k < 3 {
+            return refused();
+        }
+        let e = entry_size(rows, i, s, k, above, least);
+        if 16384 < e.size {
+            return refused();
+        }
+        let kind = word_at(rows, i, 0);
+        let below = i + 1;
+        let me = wide(below);
+        let left = inside_of(k);
+        let kids = items(rows, s, count, 1, me, below, left, e.path, least);
+        if 16384 < kids.size {
+            return refused();
+        }
+        if !may_hold(kind, 2, 14, below, kids.next) {
+            return refused();
+        }
+        let links = items(rows, s, count, 2, me, kids.next, left, e.path, least);
+        if 16384 < links.size {
+            return refused();
+        }
+        if !may_hold(kind, 5, 15, kids.next, links.next) {
+            return refused();
+        }
+        total = tree_size(total, e.size, kids.size, links.size);
+        if 16384 < total {
+            return refused();
+        }
+        i = links.next;
+    }
+    Measured {
+        next: i,
+        size: total,
+    }
+}
+
+// The same of any place and any count: past the count or the rows' end there is nothing.
+pub fn trees_size(
+    rows: &[[u64; 50]],
+    s: &[u8],
+    count: usize,
+    which: u64,
+    parent: u64,
+    start: usize,
+    k: u64,
+    above: u64,
+    least: bool,
+) -> Measured
+    ensures { λ r. ⌜ Gives (spelling least) (itemsIn (now (s .entry)) (now (rows .entry)) count) which parent k above 0 start r ⌝ }
+{
+    let n = least_of(count, rows.len());
+    if n < start {
+        return Measured {
+            next: start,
+            size: 0,
+        };
+    }
+    items(rows, s, n, which, parent, start, k, above, least)
+}
+
+// How many octets the message of the first `count` rows has, with reals as they are written or in the fewest octets; 65,536 where they make no tree that the
+// reader accepts in 16,384 octets.
+pub fn measure(rows: &[[u64; 50]], count: usize, root: u64, s: &[u8], least: bool) -> u64
+    ensures { λ r. ⌜ lengthOf (spelling least) root (length (now (rows .entry))) count (itemsIn (now (s .entry)) (now (rows .entry)) count) ≡ r ⌝ }
+{
+    if rows.len() < count {
+        return 65536;
+    }
+    if 256 < count {
+        return 65536;
+    }
+    if !glow_trees::is_root(root) {
+        return 65536;
+    }
+    let m = items(rows, s, count, root, 0, 0, 62, 0, least);
+    if 16384 < m.size {
+        return 65536;
+    }
+    if m.next != count {
+        return 65536;
+    }
+    around(around(m.size))
+}
+
+// Whether the first `count` rows make a tree that the reader accepts: some message of at most 16,384 bytes is read as exactly these entries.
+pub fn is_tree(rows: &[[u64; 50]], count: usize, root: u64, s: &[u8]) -> bool
+    ensures { λ r. ⌜ fits leastReal root (length (now (rows .entry))) count (itemsIn (now (s .entry)) (now (rows .entry)) count) ≡ r ⌝ }
+{
+    measure(rows, count, root, s, true) <= 16384
+}

@@ -1,0 +1,171 @@
+-- The tree of a legal desk's sheet is one that the reader accepts.
+use Prim.Native.Nat.{ℕ, zero, suc, _+_, _-_, _*_, _≤_, _<_}
+use mathlib.Core.Path.{_≡_, refl, sym, ap, subst, _∙_}
+use mathlib.Core.List.{List, [], _∷_, _++_}
+use mathlib.Core.Bool.{Bool, true, false}
+use native.Mathlib.Omega.{arith}
+use borrow.Author.Tests.{le-leb, lt-ltb, ne-eqb, leb-true}
+use lib.ListN.{length}
+use lib.Dec.{leb, ltb, eqb}
+use lib.IntN.{pos}
+use Rattle.ber_integers.specs.Digits.{pick}
+use Rattle.ber_identifiers.specs.Identifier.{Arcs, numbers, arcs, oidOctets}
+use Rattle.ber_identifiers.specs.Identifier as oid
+use Rattle.glow_grammar.specs.Leaf.{expects, inRange, least, most, allPositive, isPath}
+use Rattle.glow_trees.specs.Content.{Content, nothing, word, bytes, intOf}
+use Rattle.glow_trees.specs.Legal.{wordSuits, partSuits, pathSuits, listSuits, suits, suited, ruleAt, complete, pathAfter, empty, inner, lengthOf, legal, legalRoot}
+use Rattle.glow_trees.specs.Trees.{Trees, none, tree, among, count}
+use Rattle.glow_grammar.specs.Grammar.{ruleOf, members, contentsOf, contentsRows, holds, required, requirements}
+use Rattle.trees_accepted.proofs.Bools.{never, both-make}
+use Rattle.desk_crosspoints.specs.declared.Limit.{Limit}
+use Rattle.desk_crosspoints.specs.declared.Limit.the-variants.{Absent, Most}
+use Rattle.desk_crosspoints.specs.declared.Figures.{Figures}
+use Rattle.desk_crosspoints.specs.Figures.{both, isCount, isLimit, figuresFit}
+use Rattle.desk_crosspoints.specs.Crosspoints.{Cells}
+use Rattle.desk_crosspoints.proofs.Laws as crosspoints
+use Rattle.desk_crosspoints.proofs.Laws.{fit-counts, fit-targets-le, fit-sources-le, fit-kind-le}
+use Rattle.desk_crosspoints.proofs.Legal.{legal-fit}
+use Rattle.desk_calls.specs.Calls.{allNumbers, pathFits, deskLegal}
+use Rattle.sheet_rules.specs.Sheet.{desk, number, identifier, list, limit, leftOut, linkMembers, matrixMembers, sourcesAt, links, sheetTree}
+use Rattle.sheet_rules.proofs.Asked.{arcs-back, row-range, path-ok, cells-ok, path-small}
+
+-- a number of a member whose rule is "from 0" (8) or "0 to 2" (11)
+pub int-of : (n : ℕ) → n ≤ 2147483647 → intOf n ≡ pos n
+unfolding intOf
+int-of n h = let k : n < 9223372036854775808 = omega arith in simp (lt-ltb _ _ k)
+
+pub from0-suits : (n : ℕ) → n ≤ 2147483647 → suits 8 (number n) ≡ true
+unfolding suits expects wordSuits inRange least most
+from0-suits n h =
+    let a : n < 18446744073709551616 = omega arith in
+    let b : 0 ≤ n = omega arith in
+    rw (lt-ltb _ _ a, int-of n h, le-leb _ _ b, le-leb _ _ h) refl
+
+pub to2-suits : (n : ℕ) → n ≤ 2 → suits 11 (number n) ≡ true
+unfolding suits expects wordSuits inRange least most
+to2-suits n h =
+    let a : n < 18446744073709551616 = omega arith in
+    let b : 0 ≤ n = omega arith in
+    let c : n ≤ 2147483647 = omega arith in
+    rw (lt-ltb _ _ a, int-of n c, le-leb _ _ b, le-leb _ _ h) refl
+
+pub list-suits : (ns : List ℕ) → oid.inRange ns ≡ true → suits 7 (list ns) ≡ true
+unfolding suits expects partSuits
+list-suits [] r = refl
+list-suits (n ∷ ns) r = ap listSuits (arcs-back (n ∷ ns) r)
+
+pub path-suits : (ns : List ℕ) → oid.inRange ns ≡ true → isPath ns ≡ true → suits 6 (identifier ns) ≡ true
+unfolding suits expects partSuits
+path-suits ns r p = ap pathSuits (arcs-back ns r) ∙ p
+
+limit-suits : (l : Limit) → isLimit l ≡ true → suits 8 (limit l) ≡ true
+unfolding suits
+limit-suits Absent e = refl
+limit-suits (Most n) e = from0-suits n (leb-true n 2147483647 (crosspoints.both-right (leb 1 n) (leb n 2147483647) e))
+
+positive : (ns : List ℕ) → allNumbers ns ≡ true → allPositive ns ≡ true
+unfolding allNumbers allPositive
+positive [] e = refl
+positive (n ∷ ns) e = go (leb 1 n) refl (leb n 2147483647) e (positive ns)
+  where
+    go : (a : Bool) → leb 1 n ≡ a → (b : Bool) → pick (both a b) (allNumbers ns) false ≡ true → (allNumbers ns ≡ true → allPositive ns ≡ true)
+        → pick (eqb n 0) false (allPositive ns) ≡ true
+    go true q true k r = let h = leb-true 1 n q in rw (ne-eqb n 0 (λ z. omega arith)) (r k)
+    go true q false k r = never k
+    go false q b k r = never k
+
+pub is-path : (ns : List ℕ) → pathFits ns ≡ true → isPath ns ≡ true
+unfolding pathFits isPath
+is-path ns e =
+    let a = crosspoints.both-left (both (leb 1 (length ns)) (leb (length ns) 16)) (allNumbers ns) e in
+    let l = leb-true 1 (length ns) (crosspoints.both-left (leb 1 (length ns)) (leb (length ns) 16) a) in
+    let p : 0 < length ns = omega arith in
+    both-make _ _ (lt-ltb _ _ p)
+    (both-make _ _ (crosspoints.both-right (leb 1 (length ns)) (leb (length ns) 16) a)
+    (positive ns (crosspoints.both-right (both (leb 1 (length ns)) (leb (length ns) 16)) (allNumbers ns) e)))
+
+pub path-short : (ns : List ℕ) → pathFits ns ≡ true → length ns ≤ 16
+unfolding pathFits
+path-short ns e =
+    leb-true (length ns) 16
+    (crosspoints.both-right (leb 1 (length ns)) (leb (length ns) 16) (crosspoints.both-left (both (leb 1 (length ns)) (leb (length ns) 16)) (allNumbers ns) e))
+
+-- ---- members
+
+link-suited : (t : ℕ) (ns : List ℕ) → t ≤ 2147483647 → oid.inRange ns ≡ true → suited 8 0 (linkMembers t ns) ≡ true
+unfolding suited suits ruleAt ruleOf members contentsOf contentsRows leftOut
+link-suited t ns h r = both-make _ _ (from0-suits t h) (both-make _ _ (list-suits ns r) refl)
+
+module _ (w : ℕ) (f : Figures) (fit : figuresFit w f ≡ true) where
+  rest2 : both (isCount w (f .sources)) (both (isLimit (f .total)) (isLimit (f .each))) ≡ true
+  rest2 = crosspoints.both-right (isCount w (f .targets)) _ (fit-counts w f fit)
+
+  rest3 : both (isLimit (f .total)) (isLimit (f .each)) ≡ true
+  rest3 = crosspoints.both-right (isCount w (f .sources)) _ rest2
+
+  pub total-fits : isLimit (f .total) ≡ true
+  total-fits = crosspoints.both-left (isLimit (f .total)) (isLimit (f .each)) rest3
+
+  pub each-fits : isLimit (f .each) ≡ true
+  each-fits = crosspoints.both-right (isLimit (f .total)) (isLimit (f .each)) rest3
+
+  matrix-suited : w ≤ 64 → (path : List ℕ) → oid.inRange path ≡ true → pathFits path ≡ true → suited 7 0 (matrixMembers f path) ≡ true
+  unfolding suited suits ruleAt ruleOf members contentsOf contentsRows leftOut
+  matrix-suited few path r p =
+      let k = fit-kind-le w f fit in
+      let t = fit-targets-le w f fit in
+      let s = fit-sources-le w f fit in
+      both-make _ _ (path-suits path r (is-path path p))
+      (both-make _ _ (to2-suits (f .kind) k)
+      (both-make _ _ (from0-suits (f .targets) (omega arith))
+      (both-make _ _ (from0-suits (f .sources) (omega arith))
+      (both-make _ _ (limit-suits (f .total) total-fits)
+      (both-make _ _ (limit-suits (f .each) each-fits) refl)))))
+
+-- ---- the tree
+
+link-legal : (w : ℕ) (cells : Cells) → w ≤ 64 → (t above : ℕ) → t ≤ 64 → above ≤ 16 → (rest : Trees) → legal 2 58 above rest ≡ true
+    → legal 2 58 above (tree 8 (linkMembers t (sourcesAt w cells t)) none none rest) ≡ true
+unfolding legal among holds complete required requirements pathAfter empty inner ruleAt ruleOf members contentsOf contentsRows leftOut
+link-legal w cells few t above h a rest r =
+    both-make _ _ (link-suited t (sourcesAt w cells t) (omega arith) (row-range w cells t few))
+    (both-make _ _ (le-leb above 16 a) r)
+
+pub links-legal : (w : ℕ) (cells : Cells) → w ≤ 64 → (n t above : ℕ) → t + n ≤ 64 → above ≤ 16 → legal 2 58 above (links w cells t n) ≡ true
+unfolding legal links
+links-legal w cells few zero t above h a = refl
+links-legal w cells few (suc n) t above h a =
+    link-legal w cells few t above (omega arith) a (links w cells (suc t) n) (links-legal w cells few n (suc t) above (omega arith) a)
+
+matrix-legal : (w : ℕ) (f : Figures) → figuresFit w f ≡ true → w ≤ 64 → (path : List ℕ) → oid.inRange path ≡ true → pathFits path ≡ true
+    → (ls : Trees) → ((above : ℕ) → above ≤ 16 → legal 2 58 above ls ≡ true)
+    → legal 0 62 0 (tree 7 (matrixMembers f path) none ls none) ≡ true
+unfolding legal among holds complete required requirements pathAfter empty inner ruleAt ruleOf members contentsOf contentsRows leftOut
+matrix-legal w f fit few path r p ls h =
+    let e : lengthOf (arcs (oidOctets path) 0 (length (oidOctets path))) ≡ length path = ap lengthOf (arcs-back path r) in
+    let s = path-short path p in
+    let l : lengthOf (arcs (oidOctets path) 0 (length (oidOctets path))) ≤ 16 = omega (arith, e, s) in
+    both-make _ _ (matrix-suited w f fit few path r p)
+    (both-make _ _ (le-leb _ _ l)
+    (both-make _ _ (h _ l) refl))
+
+-- The tree of a legal desk's sheet is legal.
+pub sheet-legal : (w : ℕ) (f : Figures) (path : List ℕ) (cells : Cells) → w ≤ 64 → deskLegal w f path cells ≡ true
+    → legalRoot 0 (sheetTree w (desk f path cells)) ≡ true
+unfolding legalRoot sheetTree
+sheet-legal w f path cells few ok =
+    let fit = legal-fit w f cells (cells-ok w f path cells few ok) in
+    let t = fit-targets-le w f fit in
+    matrix-legal w f fit few path (path-small w f path cells few ok) (path-ok w f path cells few ok)
+    (links w cells 0 (f .targets)) (λ above a. links-legal w cells few (f .targets) 0 above (omega arith) a)
+
+-- ---- how many entries it has
+
+links-count : (w : ℕ) (cells : Cells) (n t : ℕ) → count (links w cells t n) ≡ n
+unfolding count links
+links-count w cells zero t = refl
+links-count w cells (suc n) t = omega (arith, links-count w cells n (suc t))
+
+pub sheet-count : (w : ℕ) (f : Figures) (path : List ℕ) (cells : Cells) → count (sheetTree w (desk f path cells)) ≡ suc (f .targets)
+unfolding count sheetTree
+sheet-count w f path cells = omega (arith, links-count w cells (f .targets) 0)
