@@ -1,5 +1,5 @@
--- Worked examples, by computation: what each case of the answers says, with document 01's numbers. The tag stands at 7; a number out of its range is 37 in a path
--- and 34 in sources.
+-- Worked examples, by computation: what each case of the answers says, with document 01's numbers. The tag stands at 7; a number out of its range is
+-- 37 in a path and 34 in sources.
 use Prim.Native.Nat.{ℕ}
 use mathlib.Core.Path.{_≡_, refl}
 use mathlib.Core.List.{List, [], _∷_, map}

@@ -78,8 +78,8 @@ pub wrote-other : form (fin false 1 (pos 128)) ≡ octets (0x81 ∷ 0x00 ∷ 0x8
 unfolding form digits shortest octetsOf sizeBy Ieee.size Ieee.span Ieee.climb
 wrote-other = refl
 
--- 2 ^ 1024; 2 ^ -1075; 2 ^ 53 + 1; a mantissa of 0; none; one of 9 octets; base 8; the exponent's form 11, also as if it had four octets; a decimal; 42; 40 with
--- an octet after it
+-- 2 ^ 1024; 2 ^ -1075; 2 ^ 53 + 1; a mantissa of 0; none; one of 9 octets; base 8; the exponent's form 11, also as if it had four octets; a decimal; 42;
+-- 40 with an octet after it
 abbrev pub bad : List (List ℕ)
 bad =
     (0x81 ∷ 0x04 ∷ 0x00 ∷ 0x01 ∷ [])
