@@ -22,11 +22,11 @@ function plain(type) {
     return type
 }
 
-# A pointer to a value, to an array's first, or, in a slice of arrays, to arrays.
+# A pointer to a value, an array of a fixed length, or, in a slice of arrays, a pointer to arrays.
 function pointer(type, const, in_slice,    part) {
     if (type !~ /^\[.*;.*\]$/) return const plain(type) " *"
     split(substr(type, 2, length(type) - 2), part, ";")
-    return const plain(trim(part[1])) (in_slice ? " (*)[" trim(part[2]) "]" : " *")
+    return const plain(trim(part[1])) (in_slice ? " (*)[" : " [") trim(part[2]) "]"
 }
 
 function parameter(type,    const) {

@@ -1,0 +1,106 @@
+-- With which numbers the calls of the desk, of a turn and of route sheets answer, whatever is lent. (Session, frames and tree have the contracts of
+-- framing_c and glow_c: `feed-numbers` and so on, crates/framing_c/proofs/Calls.antt, crates/glow_c/proofs/Numbers.antt.)
+use Prim.Native.Nat.{ℕ}
+use mathlib.Core.Path.{_≡_, refl, sym, subst}
+use mathlib.Core.List.{List, [], _∷_}
+use mathlib.Core.Bool.{Bool, true, false}
+use types.Run.{OneOf, hit}
+use lib.Dec.{leb, eqb}
+use lib.ListN.{length, getD, take}
+use Rattle.integers.specs.Digits.{pick}
+use Rattle.containers.proofs.Heads.{pick-by}
+use Rattle.entries.specs.Entry.{Rows}
+use Rattle.framing.specs.Numbers.{feedNumbers}
+use Rattle.framing_c.specs.Calls.{Called, calls}
+use Rattle.framing_c.proofs.Calls.{feed-numbers}
+use Rattle.crosspoints.specs.Figures.{side, both}
+use Rattle.crosspoints.specs.Crosspoints.{Cells, Answer}
+use Rattle.desk_calls.specs.Calls.{deskLegal, Outcome, called}
+use Rattle.desk_calls.specs.Steps.{has}
+use Rattle.desk_calls.specs.Numbers.{openNumbers, requestNumbers, callNumbers}
+use Rattle.desk_calls.proofs.Numbers.{open-numbers, request-numbers, call-numbers}
+use Rattle.turns.specs.Rules.{Desk}
+use Rattle.turns.specs.Turns.{none}
+use Rattle.turns.specs.Whole.{deskAt, left}
+use Rattle.framing_writer.specs.Written.{into}
+use Rattle.framing_writer.specs.Written.{Outcome as Wrote}
+use Rattle.sheets.specs.Sheet.{desk, sheetOf}
+use Rattle.sheet_writer.specs.Calls.{writesSheet}
+use Rattle.sheet_reader.specs.Calls.{sheetNumbers}
+use Rattle.sheet_reader.proofs.Numbered.{sheet-numbers}
+use Rattle.ember.specs.Words.{figuresAt, isFigures}
+use Rattle.ember.specs.Calls.{opens, requests, DeskCall, deskCall, counted, deskCalls, lengthsFit, next, Turn, turn, told, turnAfter, turned, turns}
+use Rattle.ember.specs.Calls.{SheetPut, measured, sheetWrites, SheetCall, given, sheetReads}
+
+-- `ember_desk_open`: 0, 1, 45
+pub desk-open-numbers : (fs path : List ℕ) (mode : ℕ) (cells : Cells) → has openNumbers (opens fs path mode cells .number) ≡ true
+unfolding opens has
+desk-open-numbers fs path mode cells =
+    pick-by (λ (x : Answer). has openNumbers (x .number) ≡ true) (isFigures fs) (λ e. open-numbers side (figuresAt fs) path mode cells) (λ e. refl)
+
+-- `ember_desk_request`: 0, 1, 41 to 44
+pub desk-request-numbers : (fs : List ℕ) (target : ℕ) (sources : List ℕ) (operation : ℕ) (cells : Cells)
+    → has requestNumbers (requests fs target sources operation cells .number) ≡ true
+unfolding requests has
+desk-request-numbers fs target sources operation cells =
+    pick-by (λ (x : Answer). has requestNumbers (x .number) ≡ true) (isFigures fs)
+    (λ e. request-numbers side (figuresAt fs) target sources operation cells) (λ e. refl)
+
+-- `ember_desk_call`: 0 or 1
+counted-numbers : (o : Outcome) (lent words : List ℕ) → has callNumbers (o .number) ≡ true → has callNumbers (counted o lent words .number) ≡ true
+unfolding counted has
+counted-numbers o lent words h = pick-by (λ (x : DeskCall). has callNumbers (x .number) ≡ true) (eqb (o .number) 0) (λ e. refl) (λ e. h)
+
+pub desk-call-numbers : (fs path : List ℕ) (root : ℕ) (rows : Rows) (n : ℕ) (s lent : List ℕ) (cells : Cells) (words : List ℕ)
+    → has callNumbers (deskCalls fs path root rows n s lent cells words .number) ≡ true
+unfolding deskCalls has
+desk-call-numbers fs path root rows n s lent cells words =
+    pick-by (λ (x : DeskCall). has callNumbers (x .number) ≡ true) (both (isFigures fs) (eqb (length words) 1))
+    (λ e.
+    counted-numbers (called side (figuresAt fs) path root rows n s cells) lent words (call-numbers side (figuresAt fs) path root rows n s cells))
+    (λ e. refl)
+
+-- `ember_turn`: the numbers of a session's call
+after-number : (r : Called) (d : Desk) (table : Rows) (lent a : List ℕ) → turnAfter r d table lent a .number ≡ r .number
+after-number r d table lent a = go (eqb (r .number) 1)
+  where
+    go : (b : Bool) → pick b (turn r (left none lent table (d .crosspoints)) a) (told r (next (r .number) (take (getD (r .answer) 2 0) (r .store)) d table)) .number
+        ≡ r .number
+    go true = refl
+    go false = refl
+
+pub turn-numbers : (ws t c : List ℕ) (table : Rows) (fs path : List ℕ) (cells : Cells) (lent a : List ℕ)
+    → OneOf feedNumbers (turns ws t c table fs path cells lent a .number)
+unfolding turns turned
+turn-numbers ws t c table fs path cells lent a =
+    pick-by (λ (x : Turn). OneOf feedNumbers (x .number)) (both (isFigures fs) (lengthsFit (length table) (length cells) (length path) (length a)))
+    (λ e.
+    subst (OneOf feedNumbers) (sym (after-number (calls ws t c (0 ∷ 0 ∷ 0 ∷ [])) (deskAt (figuresAt fs) path cells) table lent a))
+    (feed-numbers ws t c (0 ∷ 0 ∷ 0 ∷ [])))
+    (λ e. hit feedNumbers 1 tt)
+
+-- `ember_sheet_read`: those of reading a sheet
+pub sheet-read-numbers : (text store fs path : List ℕ) (cells : Cells) (words : List ℕ) → OneOf sheetNumbers (sheetReads text store fs path cells words .number)
+unfolding sheetReads given
+sheet-read-numbers text store fs path cells words =
+    pick-by (λ (x : SheetCall). OneOf sheetNumbers (x .number)) (both (eqb (length fs) 7) (eqb (length words) 1))
+    (λ e. sheet-numbers text store path cells) (λ e. hit sheetNumbers 1 tt)
+
+-- `ember_sheet_write`: 0, 1, 46
+abbrev pub sheetPutNumbers : List ℕ
+sheetPutNumbers = 0 ∷ 1 ∷ 46 ∷ []
+
+written-numbers : (fs path : List ℕ) (cells : Cells) (out : List ℕ) → OneOf sheetPutNumbers (writesSheet side (figuresAt fs) path cells out .number)
+unfolding writesSheet into
+written-numbers fs path cells out =
+    pick-by (λ (x : Wrote). OneOf sheetPutNumbers (x .number)) (deskLegal side (figuresAt fs) path cells)
+    (λ e.
+    pick-by (λ (x : Wrote). OneOf sheetPutNumbers (x .number))
+    (leb (length (sheetOf side (desk (figuresAt fs) path cells))) (length out)) (λ k. hit sheetPutNumbers 0 tt) (λ k. hit sheetPutNumbers 46 tt))
+    (λ e. hit sheetPutNumbers 1 tt)
+
+pub sheet-write-numbers : (fs path : List ℕ) (cells : Cells) (out words : List ℕ) → OneOf sheetPutNumbers (sheetWrites fs path cells out words .number)
+unfolding sheetWrites measured
+sheet-write-numbers fs path cells out words =
+    pick-by (λ (x : SheetPut). OneOf sheetPutNumbers (x .number)) (both (isFigures fs) (eqb (length words) 1))
+    (λ e. written-numbers fs path cells out) (λ e. hit sheetPutNumbers 1 tt)
