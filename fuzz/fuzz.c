@@ -282,7 +282,7 @@ static void words(void)
     remember();
     before = session[0];
     number = done("ember_feed", ember_feed(session, EMBER_SESSION_WORDS, store, lent[1].count, chunk, offered, answer, EMBER_FEED_WORDS));
-    seen(2, number, before, session[0]);
+    seen(2, number, before < 8 ? before : 8, session[0] < 8 ? session[0] : 8);
 }
 
 /* ---- the tree */
@@ -812,7 +812,7 @@ static void frames(void)
     count = lend(8, NULL);
     remember();
     number = done("ember_write_message", ember_write_message(content, bytes, out, room, count));
-    seen(11, number, bytes / 500, room / 1000);
+    seen(11, number, bytes / 2000, room / 8000);
     if (number == EMBER_NO_OUT) {
         must(same(out) && same(count), "46 leaves the output as it was");
     } else {
