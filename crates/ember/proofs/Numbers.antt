@@ -7,14 +7,14 @@ use mathlib.Core.Bool.{Bool, true, false}
 use types.Run.{OneOf, hit}
 use lib.Dec.{leb, eqb}
 use lib.ListN.{length, getD, take}
-use Rattle.integers.specs.Digits.{pick}
-use Rattle.containers.proofs.Heads.{pick-by}
-use Rattle.entries.specs.Entry.{Rows}
+use Rattle.ber_integers.specs.Digits.{pick}
+use Rattle.ber_containers.proofs.Heads.{pick-by}
+use Rattle.glow_rows.specs.Entry.{Rows}
 use Rattle.framing.specs.Numbers.{feedNumbers}
 use Rattle.framing_c.specs.Calls.{Called, calls}
 use Rattle.framing_c.proofs.Calls.{feed-numbers}
-use Rattle.crosspoints.specs.Figures.{side, both}
-use Rattle.crosspoints.specs.Crosspoints.{Cells, Answer}
+use Rattle.desk_crosspoints.specs.Figures.{side, both}
+use Rattle.desk_crosspoints.specs.Crosspoints.{Cells, Answer}
 use Rattle.desk_calls.specs.Calls.{deskLegal, Outcome, called}
 use Rattle.desk_calls.specs.Steps.{has}
 use Rattle.desk_calls.specs.Numbers.{openNumbers, requestNumbers, callNumbers}
@@ -24,7 +24,7 @@ use Rattle.turns.specs.Turns.{none}
 use Rattle.turns.specs.Whole.{deskAt, left}
 use Rattle.framing_writer.specs.Written.{into}
 use Rattle.framing_writer.specs.Written.{Outcome as Wrote}
-use Rattle.sheets.specs.Sheet.{desk, sheetOf}
+use Rattle.sheet_rules.specs.Sheet.{desk, sheetOf}
 use Rattle.sheet_writer.specs.Calls.{writesSheet}
 use Rattle.sheet_reader.specs.Calls.{sheetNumbers}
 use Rattle.sheet_reader.proofs.Numbered.{sheet-numbers}
