@@ -9,11 +9,9 @@ use Rattle.ber_containers.proofs.over.Reads as over-reads
 use Rattle.ber_containers.proofs.skip.Reads as skip-reads
 use Rattle.ber_containers.proofs.through.Reads as through-reads
 
--- src/lib.rt:526:13
 over-requires : tie.Need-over-requires
 over-requires c κs = search needs
 
--- src/lib.rt:528:13
 returns : tie.Need-returns
 returns c =
     let the-if1 = c .before .before .before .if1 in
@@ -22,22 +20,18 @@ returns c =
     let r = the-over .ensures (the-if2 .taken) in
     (passed-in _ _ _ (the-if1 .taken) (r .0), λ h. r .1)
 
--- src/lib.rt:530:9
 through-requires : tie.Need-through-requires
 through-requires c κs = search needs
 
--- src/lib.rt:530:9
 returns-2 : tie.Need-returns-2
 returns-2 c =
     let the-if1 = c .before .before .before .before .if1 in
     let the-through = c .through in
     (passed-in _ _ _ (the-if1 .taken) (the-through .ensures .0), λ h. the-through .ensures .1)
 
--- src/lib.rt:532:5
 skip-requires : tie.Need-skip-requires
 skip-requires c κs = search needs
 
--- src/lib.rt:520:1
 returns-3 : tie.Need-returns-3
 returns-3 c =
     let the-if1 = c .before .if1 in

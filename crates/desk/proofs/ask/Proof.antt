@@ -10,31 +10,24 @@ use Rattle.desk.proofs.number_line.Reads as number-line-reads
 use Rattle.program_lines.proofs.print.bad_line.Reads as bad-line-reads
 use Rattle.desk_calls.proofs.request.Reads as request-reads
 
--- src/main.rt:139:49
 slice-aggregate-request : tie.Need-slice-aggregate-request
 slice-aggregate-request c = sym (length-take-le _ _ (omega arith))
 
--- src/main.rt:139:21
 request-requires : tie.Need-request-requires
 request-requires c κs = search needs
 
--- src/main.rt:139:9
 number-line-requires : tie.Need-number-line-requires
 number-line-requires c κs = search needs
 
--- src/main.rt:140:9
 same-length : tie.Need-same-length
 same-length c = search needs
 
--- src/main.rt:140:9
 returns : tie.Need-returns
 returns c = search needs
 
--- src/main.rt:142:5
 bad-line-requires : tie.Need-bad-line-requires
 bad-line-requires c κs = search needs
 
--- src/main.rt:137:1
 returns-2 : tie.Need-returns-2
 returns-2 c = search needs
 

@@ -9,31 +9,24 @@ use Rattle.desk.proofs.open_path.Lts as lts
 use Rattle.desk.proofs.open_with.Reads as open-with-reads
 use Rattle.desk.proofs.refuse.Reads as refuse-reads
 
--- src/main.rt:104:35
 slice-aggregate-open-with : tie.Need-slice-aggregate-open-with
 slice-aggregate-open-with c = sym (length-take-le _ _ (omega arith))
 
--- src/main.rt:104:9
 open-with-requires : tie.Need-open-with-requires
 open-with-requires c κs = search needs
 
--- src/main.rt:104:9
 same-length : tie.Need-same-length
 same-length c = search needs
 
--- src/main.rt:104:9
 same-length-2 : tie.Need-same-length-2
 same-length-2 c = search needs
 
--- src/main.rt:104:9
 returns : tie.Need-returns
 returns c = search needs
 
--- src/main.rt:106:5
 refuse-requires : tie.Need-refuse-requires
 refuse-requires c κs = search needs
 
--- src/main.rt:94:1
 returns-2 : tie.Need-returns-2
 returns-2 c = search needs
 

@@ -8,19 +8,15 @@ use Rattle.desk.proofs.sheet.Reads as reads
 use Rattle.desk.proofs.sheet.Lts as lts
 use Rattle.desk.proofs.route.sheet.Reads as sheet-reads
 
--- src/main.rt:279:25
 slice-aggregate-sheet : tie.Need-slice-aggregate-sheet
 slice-aggregate-sheet c = sym (length-take-le _ _ (omega arith))
 
--- src/main.rt:279:9
 sheet-requires : tie.Need-sheet-requires
 sheet-requires c κs = search needs
 
--- src/main.rt:277:1
 returns : tie.Need-returns
 returns c = search needs
 
--- src/main.rt:277:1
 returns-2 : tie.Need-returns-2
 returns-2 c = search needs
 

@@ -9,37 +9,29 @@ use Rattle.ember.proofs.put_answers.Reads as put-answers-reads
 use Rattle.ember.proofs.words.figures_at.Reads as figures-at-reads
 use Rattle.ember.proofs.words.is_figures.Reads as is-figures-reads
 
--- src/lib.rt:208:9
 returns : tie.Need-returns
 returns c =
     let the-if1 = c .if1 in
     desk-words _ _ _ _ _ _ _ _ _ (the-if1 .taken)
 
--- src/lib.rt:210:8
 is-figures-requires : tie.Need-is-figures-requires
 is-figures-requires c κs = search needs
 
--- src/lib.rt:212:13
 figures-at-requires : tie.Need-figures-at-requires
 figures-at-requires c κs = search needs
 
--- src/lib.rt:211:13
 call-requires : tie.Need-call-requires
 call-requires c κs = search needs
 
--- src/lib.rt:220:9
 put-answers-requires : tie.Need-put-answers-requires
 put-answers-requires c κs = search needs
 
--- src/lib.rt:220:9
 same-length : tie.Need-same-length
 same-length c = search needs
 
--- src/lib.rt:220:9
 same-length-2 : tie.Need-same-length-2
 same-length-2 c = search needs
 
--- src/lib.rt:220:9
 returns-2 : tie.Need-returns-2
 returns-2 c =
     let the-if1 = c .before .before .before .before .before .before .before .before .before .before .before .before .if1 in
@@ -50,7 +42,6 @@ returns-2 c =
     let the-put-answers = c .before .before .put-answers in
     desk-called _ _ _ _ _ _ _ _ _ (the-if1 .left) (the-is-figures .ensures) (the-if2 .taken) (the-figures-at .ensures) (the-call .ensures) (the-put-answers .ensures _)
 
--- src/lib.rt:191:1
 returns-3 : tie.Need-returns-3
 returns-3 c =
     let the-is-figures = c .before .is-figures in

@@ -8,19 +8,15 @@ use Rattle.desk_calls.proofs.is_legal.Reads as is-legal-reads
 use Rattle.ember.proofs.words.figures_at.Reads as figures-at-reads
 use Rattle.ember.proofs.words.is_figures.Reads as is-figures-reads
 
--- src/lib.rt:133:8
 is-figures-requires : tie.Need-is-figures-requires
 is-figures-requires c κs = search needs
 
--- src/lib.rt:134:33
 figures-at-requires : tie.Need-figures-at-requires
 figures-at-requires c κs = search needs
 
--- src/lib.rt:134:12
 is-legal-requires : tie.Need-is-legal-requires
 is-legal-requires c κs = search needs
 
--- src/lib.rt:135:13
 returns : tie.Need-returns
 returns c =
     let the-is-figures = c .before .before .before .before .is-figures in
@@ -30,7 +26,6 @@ returns c =
     let the-if2 = c .if2 in
     legal-yes _ _ _ (the-is-figures .ensures) (the-if1 .taken) (the-figures-at .ensures) (the-is-legal .ensures) (the-if2 .taken)
 
--- src/lib.rt:137:9
 returns-2 : tie.Need-returns-2
 returns-2 c =
     let the-is-figures = c .before .before .before .before .is-figures in
@@ -40,7 +35,6 @@ returns-2 c =
     let the-if2 = c .if2 in
     legal-no _ _ _ (the-is-figures .ensures) (the-if1 .taken) (the-figures-at .ensures) (the-is-legal .ensures) (the-if2 .left)
 
--- src/lib.rt:129:1
 returns-3 : tie.Need-returns-3
 returns-3 c =
     let the-is-figures = c .before .is-figures in

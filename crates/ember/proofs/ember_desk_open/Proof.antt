@@ -8,23 +8,18 @@ use Rattle.desk_calls.proofs.open.Reads as open-reads
 use Rattle.ember.proofs.words.figures_at.Reads as figures-at-reads
 use Rattle.ember.proofs.words.is_figures.Reads as is-figures-reads
 
--- src/lib.rt:122:8
 is-figures-requires : tie.Need-is-figures-requires
 is-figures-requires c κs = search needs
 
--- src/lib.rt:123:33
 figures-at-requires : tie.Need-figures-at-requires
 figures-at-requires c κs = search needs
 
--- src/lib.rt:123:9
 open-requires : tie.Need-open-requires
 open-requires c κs = search needs
 
--- src/lib.rt:123:9
 same-length : tie.Need-same-length
 same-length c = search needs
 
--- src/lib.rt:123:9
 returns : tie.Need-returns
 returns c =
     let the-is-figures = c .before .before .before .before .before .before .is-figures in
@@ -32,7 +27,6 @@ returns c =
     let the-figures-at = c .before .before .before .before .figures-at in
     open-called _ _ _ (the-is-figures .ensures) _ (the-if1 .taken) (the-figures-at .ensures) (c .before .before .«open» .ensures)
 
--- src/lib.rt:113:1
 returns-2 : tie.Need-returns-2
 returns-2 c =
     let the-is-figures = c .before .is-figures in

@@ -8,23 +8,18 @@ use Rattle.desk_calls.proofs.request.Reads as request-reads
 use Rattle.ember.proofs.words.figures_at.Reads as figures-at-reads
 use Rattle.ember.proofs.words.is_figures.Reads as is-figures-reads
 
--- src/lib.rt:163:8
 is-figures-requires : tie.Need-is-figures-requires
 is-figures-requires c κs = search needs
 
--- src/lib.rt:165:13
 figures-at-requires : tie.Need-figures-at-requires
 figures-at-requires c κs = search needs
 
--- src/lib.rt:164:9
 request-requires : tie.Need-request-requires
 request-requires c κs = search needs
 
--- src/lib.rt:164:9
 same-length : tie.Need-same-length
 same-length c = search needs
 
--- src/lib.rt:164:9
 returns : tie.Need-returns
 returns c =
     let the-is-figures = c .before .before .before .before .before .before .is-figures in
@@ -33,7 +28,6 @@ returns c =
     let the-request = c .before .before .request in
     request-called _ _ _ _ _ (the-is-figures .ensures) (the-if1 .taken) (the-figures-at .ensures) (the-request .ensures)
 
--- src/lib.rt:152:1
 returns-2 : tie.Need-returns-2
 returns-2 c =
     let the-is-figures = c .before .is-figures in

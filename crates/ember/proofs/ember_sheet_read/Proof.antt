@@ -7,47 +7,37 @@ use Rattle.ember.proofs.ember_sheet_read.Lts as lts
 use Rattle.ember.proofs.sheet.read.Reads as sheet-read-reads
 use Rattle.sheet_reader.proofs.read.Reads as read-reads
 
--- src/lib.rt:396:9
 returns : tie.Need-returns
 returns c =
     let the-if1 = c .if1 in
     sheet-no-figures _ _ _ _ _ _ (the-if1 .taken)
 
--- src/lib.rt:399:9
 returns-2 : tie.Need-returns-2
 returns-2 c =
     let the-if2 = c .if2 in
     sheet-no-words _ _ _ _ _ _ (the-if2 .taken)
 
--- src/lib.rt:401:9
 read-requires : tie.Need-read-requires
 read-requires c κs = search needs
 
--- src/lib.rt:402:5
 read-requires-2 : tie.Need-read-requires-2
 read-requires-2 c κs = search needs
 
--- src/lib.rt:380:1
 same-length : tie.Need-same-length
 same-length c = search needs
 
--- src/lib.rt:380:1
 same-length-2 : tie.Need-same-length-2
 same-length-2 c = search needs
 
--- src/lib.rt:380:1
 same-length-3 : tie.Need-same-length-3
 same-length-3 c = search needs
 
--- src/lib.rt:380:1
 same-length-4 : tie.Need-same-length-4
 same-length-4 c = search needs
 
--- src/lib.rt:380:1
 same-length-5 : tie.Need-same-length-5
 same-length-5 c = search needs
 
--- src/lib.rt:380:1
 returns-3 : tie.Need-returns-3
 returns-3 c =
     let the-if1 = c .before .before .before .before .before .before .before .before .before .before .before .before .before .before .before .before .before .before .if1 in

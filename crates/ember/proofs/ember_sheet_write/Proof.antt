@@ -9,37 +9,29 @@ use Rattle.ember.proofs.words.figures_at.Reads as figures-at-reads
 use Rattle.ember.proofs.words.is_figures.Reads as is-figures-reads
 use Rattle.sheet_writer.proofs.write.Reads as write-reads
 
--- src/lib.rt:370:9
 returns : tie.Need-returns
 returns c =
     let the-if1 = c .if1 in
     sheet-words _ _ _ _ _ (the-if1 .taken)
 
--- src/lib.rt:372:8
 is-figures-requires : tie.Need-is-figures-requires
 is-figures-requires c κs = search needs
 
--- src/lib.rt:373:37
 figures-at-requires : tie.Need-figures-at-requires
 figures-at-requires c κs = search needs
 
--- src/lib.rt:373:13
 write-requires : tie.Need-write-requires
 write-requires c κs = search needs
 
--- src/lib.rt:374:9
 wrote-requires : tie.Need-wrote-requires
 wrote-requires c κs = search needs
 
--- src/lib.rt:374:9
 same-length : tie.Need-same-length
 same-length c = search needs
 
--- src/lib.rt:374:9
 same-length-2 : tie.Need-same-length-2
 same-length-2 c = search needs
 
--- src/lib.rt:374:9
 returns-2 : tie.Need-returns-2
 returns-2 c =
     let the-if1 = c .before .before .before .before .before .before .before .before .before .before .before .if1 in
@@ -50,7 +42,6 @@ returns-2 c =
     let the-wrote = c .before .before .wrote in
     sheet-wrote _ _ _ _ _ (the-if1 .left) (the-is-figures .ensures) (the-if2 .taken) (the-figures-at .ensures) (the-write .ensures) (the-wrote .ensures _)
 
--- src/lib.rt:359:1
 returns-3 : tie.Need-returns-3
 returns-3 c =
     let the-is-figures = c .before .is-figures in

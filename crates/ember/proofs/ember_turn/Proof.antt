@@ -10,46 +10,36 @@ use Rattle.ember.proofs.lengths_fit.Reads as lengths-fit-reads
 use Rattle.ember.proofs.words.figures_at.Reads as figures-at-reads
 use Rattle.ember.proofs.words.is_figures.Reads as is-figures-reads
 
--- src/lib.rt:359:8
 is-figures-requires : tie.Need-is-figures-requires
 is-figures-requires c κs = search needs
 
--- src/lib.rt:360:12
 lengths-fit-requires : tie.Need-lengths-fit-requires
 lengths-fit-requires c κs = search needs
 
--- src/lib.rt:366:17
 figures-at-requires : tie.Need-figures-at-requires
 figures-at-requires c κs = search needs
 
--- src/lib.rt:361:13
 go-requires : tie.Need-go-requires
 go-requires c κs =
     let the-lengths-fit = c .before .before .before .before .before .before .before .before .lengths-fit in
     let the-if2 = c .before .before .before .before .before .before .before .if2 in
     fit-words _ _ _ _ (sym (the-lengths-fit .ensures) ∙ the-if2 .taken)
 
--- src/lib.rt:361:13
 same-length : tie.Need-same-length
 same-length c = search needs
 
--- src/lib.rt:361:13
 same-length-2 : tie.Need-same-length-2
 same-length-2 c = search needs
 
--- src/lib.rt:361:13
 same-length-3 : tie.Need-same-length-3
 same-length-3 c = search needs
 
--- src/lib.rt:361:13
 same-length-4 : tie.Need-same-length-4
 same-length-4 c = search needs
 
--- src/lib.rt:361:13
 same-length-5 : tie.Need-same-length-5
 same-length-5 c = search needs
 
--- src/lib.rt:361:13
 returns : tie.Need-returns
 returns c =
     let the-is-figures = c .before .before .before .before .before .before .before .before .before .before .before .before .before .before .before .before .before .before .before .before .is-figures in
@@ -60,7 +50,6 @@ returns c =
     let the-go = c .before .before .before .before .before .before .before .before .before .go in
     turns-on _ _ _ _ _ _ _ _ _ (the-is-figures .ensures) (the-if1 .taken) (the-lengths-fit .ensures) (the-if2 .taken) (the-figures-at .ensures) (the-go .ensures)
 
--- src/lib.rt:373:9
 returns-2 : tie.Need-returns-2
 returns-2 c =
     let the-is-figures = c .before .before .before .is-figures in
@@ -69,7 +58,6 @@ returns-2 c =
     let the-if2 = c .if2 in
     turns-lengths _ _ _ _ _ _ _ _ _ (the-is-figures .ensures) (the-if1 .taken) (the-lengths-fit .ensures) (the-if2 .left)
 
--- src/lib.rt:335:1
 returns-3 : tie.Need-returns-3
 returns-3 c =
     let the-is-figures = c .before .is-figures in

@@ -7,26 +7,21 @@ use Rattle.ember.proofs.follow.Reads as reads
 use Rattle.ember.proofs.follow.Lts as lts
 use Rattle.turns.proofs.message.Reads as message-reads
 
--- src/lib.rt:271:9
 returns : tie.Need-returns
 unfolding crosspoints.clear
 returns c =
     let the-if1 = c .if1 in
     next-nothing _ _ _ _ (the-if1 .taken)
 
--- src/lib.rt:276:5
 message-requires : tie.Need-message-requires
 message-requires c κs = search needs
 
--- src/lib.rt:258:1
 same-length : tie.Need-same-length
 same-length c = search needs
 
--- src/lib.rt:258:1
 same-length-2 : tie.Need-same-length-2
 same-length-2 c = search needs
 
--- src/lib.rt:258:1
 returns-2 : tie.Need-returns-2
 returns-2 c =
     let the-if1 = c .before .before .before .before .before .before .if1 in

@@ -7,11 +7,9 @@ use Rattle.ember.proofs.front.Tie as tie
 use Rattle.ember.proofs.front.Reads as reads
 use Rattle.ember.proofs.front.Lts as lts
 
--- src/lib.rt:244:9
 returns : tie.Need-returns
 returns c = search needs
 
--- src/lib.rt:238:1
 returns-2 : tie.Need-returns-2
 returns-2 c =
     let the-Start = c .before in

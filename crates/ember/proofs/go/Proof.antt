@@ -12,92 +12,71 @@ use Rattle.ember.proofs.front.Reads as front-reads
 use Rattle.ember.proofs.put_answer.Reads as put-answer-reads
 use Rattle.framing_c.proofs.framing_feed.Reads as framing-feed-reads
 
--- src/lib.rt:320:65
 slice-aggregate-framing-feed : tie.Need-slice-aggregate-framing-feed
 slice-aggregate-framing-feed c = search needs
 
--- src/lib.rt:320:9
 framing-feed-requires : tie.Need-framing-feed-requires
 framing-feed-requires c κs = search needs
 
--- src/lib.rt:322:9
 same-length : tie.Need-same-length
 same-length c = search needs
 
--- src/lib.rt:322:9
 same-length-2 : tie.Need-same-length-2
 same-length-2 c = search needs
 
--- src/lib.rt:322:9
 returns : tie.Need-returns
 returns c =
     let the-framing-feed = c .before .before .before .before .before .before .framing-feed in
     let the-if1 = c .if1 in
     turned-setup _ _ _ _ _ _ _ (the-framing-feed .ensures) (the-if1 .taken)
 
--- src/lib.rt:324:26
 array-read-front : tie.Need-array-read-front
 array-read-front c = search needs
 
--- src/lib.rt:324:9
 front-requires : tie.Need-front-requires
 front-requires c κs = search needs
 
--- src/lib.rt:325:28
 slice-reshare-prefix-follow : tie.Need-slice-reshare-prefix-follow
 slice-reshare-prefix-follow c = search needs
 
--- src/lib.rt:325:28
 slice-aggregate-follow : tie.Need-slice-aggregate-follow
 slice-aggregate-follow c =
     let the-front = c .before .front in
     sym (length-take-le _ _ (the-front .ensures .1))
 
--- src/lib.rt:325:9
 follow-requires : tie.Need-follow-requires
 follow-requires c κs = search needs
 
--- src/lib.rt:329:9
 later-requires : tie.Need-later-requires
 later-requires c κs = search needs
 
--- src/lib.rt:330:24
 array-read-put-answer : tie.Need-array-read-put-answer
 array-read-put-answer c = search needs
 
--- src/lib.rt:330:32
 array-read-put-answer-2 : tie.Need-array-read-put-answer-2
 array-read-put-answer-2 c = search needs
 
--- src/lib.rt:330:40
 array-read-put-answer-3 : tie.Need-array-read-put-answer-3
 array-read-put-answer-3 c = search needs
 
--- src/lib.rt:330:5
 put-answer-requires : tie.Need-put-answer-requires
 put-answer-requires c κs = search needs
 
--- src/lib.rt:295:1
 same-length-3 : tie.Need-same-length-3
 same-length-3 c = search needs
 
--- src/lib.rt:295:1
 same-length-4 : tie.Need-same-length-4
 same-length-4 c = search needs
 
--- src/lib.rt:295:1
 same-length-5 : tie.Need-same-length-5
 same-length-5 c = search needs
 
--- src/lib.rt:295:1
 same-length-6 : tie.Need-same-length-6
 same-length-6 c = search needs
 
--- src/lib.rt:295:1
 same-length-7 : tie.Need-same-length-7
 same-length-7 c = search needs
 
--- src/lib.rt:295:1
 returns-2 : tie.Need-returns-2
 returns-2 c =
     let the-framing-feed = c .before .before .before .before .before .before .before .before .before .before .before .before .before .before .before .before .before .before .before .before .before .framing-feed in

@@ -8,57 +8,46 @@ use Rattle.ember.proofs.put_answer.Tie as tie
 use Rattle.ember.proofs.put_answer.Reads as reads
 use Rattle.ember.proofs.put_answer.Lts as lts
 
--- src/lib.rt:272:5
 slice-write-answer : tie.Need-slice-write-answer
 slice-write-answer c = search needs
 
--- src/lib.rt:273:5
 slice-write-answer-2 : tie.Need-slice-write-answer-2
 slice-write-answer-2 c = search needs
 
--- src/lib.rt:274:5
 slice-write-answer-3 : tie.Need-slice-write-answer-3
 slice-write-answer-3 c = search needs
 
--- src/lib.rt:275:5
 slice-write-answer-4 : tie.Need-slice-write-answer-4
 slice-write-answer-4 c = search needs
 
--- src/lib.rt:276:5
 slice-write-answer-5 : tie.Need-slice-write-answer-5
 slice-write-answer-5 c =
     let the-Start = c in
     simp length-set (omega (arith, the-Start .pre))
 
--- src/lib.rt:277:5
 slice-write-answer-6 : tie.Need-slice-write-answer-6
 slice-write-answer-6 c =
     let the-Start = c in
     simp length-set (omega (arith, the-Start .pre))
 
--- src/lib.rt:278:5
 slice-write-answer-7 : tie.Need-slice-write-answer-7
 slice-write-answer-7 c =
     let the-Start = c in
     simp length-set (omega (arith, the-Start .pre))
 
--- src/lib.rt:279:5
 slice-write-answer-8 : tie.Need-slice-write-answer-8
 slice-write-answer-8 c =
     let the-Start = c in
     simp length-set (omega (arith, the-Start .pre))
 
--- src/lib.rt:280:5
 slice-write-answer-9 : tie.Need-slice-write-answer-9
 slice-write-answer-9 c =
     let the-Start = c in
     simp length-set (omega (arith, the-Start .pre))
 
--- src/lib.rt:268:1
 same-length : tie.Need-same-length
 same-length c = search needs
 
--- src/lib.rt:268:1
 returns : tie.Need-returns
 returns c =
     let the-Start = c in

@@ -7,26 +7,21 @@ use Rattle.ember.proofs.put_answers.Reads as reads
 use Rattle.ember.proofs.put_answers.Lts as lts
 use Rattle.framing_words.proofs.word.Reads as word-reads
 
--- src/lib.rt:182:9
 returns : tie.Need-returns
 returns c =
     let the-Start = c .before .before .before in
     let the-if1 = c .if1 in
     λ cells. put-setup (the-Start .args .called) (the-Start .args .answers .now) (the-Start .args .answer .now) cells (the-if1 .taken)
 
--- src/lib.rt:186:17
 word-requires : tie.Need-word-requires
 word-requires c κs = search needs
 
--- src/lib.rt:186:5
 slice-write-answer : tie.Need-slice-write-answer
 slice-write-answer c = search needs
 
--- src/lib.rt:176:1
 same-length : tie.Need-same-length
 same-length c = search needs
 
--- src/lib.rt:176:1
 returns-2 : tie.Need-returns-2
 returns-2 c =
     let the-Start = c .before .before .before .before .before in

@@ -6,18 +6,15 @@ use Rattle.glow_c.proofs.glow_accepts.Reads as reads
 use Rattle.glow_c.proofs.glow_accepts.Lts as lts
 use Rattle.glow_sizes.proofs.is_tree.Reads as is-tree-reads
 
--- src/lib.rt:103:8
 is-tree-requires : tie.Need-is-tree-requires
 is-tree-requires c κs = search needs
 
--- src/lib.rt:104:9
 returns : tie.Need-returns
 returns c =
     let the-is-tree = c .before .is-tree in
     let the-if1 = c .if1 in
     accept-yes _ _ _ _ (the-is-tree .ensures) (the-if1 .taken)
 
--- src/lib.rt:99:1
 returns-2 : tie.Need-returns-2
 returns-2 c =
     let the-is-tree = c .before .is-tree in

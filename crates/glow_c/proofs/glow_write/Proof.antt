@@ -7,31 +7,25 @@ use Rattle.glow_c.proofs.glow_write.Lts as lts
 use Rattle.glow_c.proofs.told.Reads as told-reads
 use Rattle.glow_writer.proofs.write.write.Reads as write-reads
 
--- src/lib.rt:92:9
 returns : tie.Need-returns
 returns c =
     let the-if1 = c .if1 in
     write-other _ _ _ _ _ _ (the-if1 .taken)
 
--- src/lib.rt:94:9
 write-requires : tie.Need-write-requires
 write-requires c κs = search needs
 
--- src/lib.rt:95:5
 told-requires : tie.Need-told-requires
 told-requires c κs =
     let the-if1 = c .before .before .before .before .before .if1 in
     the-if1 .left
 
--- src/lib.rt:80:1
 same-length : tie.Need-same-length
 same-length c = search needs
 
--- src/lib.rt:80:1
 same-length-2 : tie.Need-same-length-2
 same-length-2 c = search needs
 
--- src/lib.rt:80:1
 returns-2 : tie.Need-returns-2
 returns-2 c =
     let the-if1 = c .before .before .before .before .before .before .before .before .if1 in

@@ -6,31 +6,24 @@ use Rattle.glow_c.proofs.told.Reads as reads
 use Rattle.glow_c.proofs.told.Lts as lts
 use Rattle.glow_c.proofs.word.Reads as word-reads
 
--- src/lib.rt:67:21
 enum-known-w : tie.Need-enum-known-w
 enum-known-w c = search needs
 
--- src/lib.rt:68:25
 word-requires : tie.Need-word-requires
 word-requires c κs = search needs
 
--- src/lib.rt:68:13
 slice-write-answer : tie.Need-slice-write-answer
 slice-write-answer c = search needs
 
--- src/lib.rt:72:13
 enum-told : tie.Need-enum-told
 enum-told c = search needs
 
--- src/lib.rt:72:13
 slice-write-answer-2 : tie.Need-slice-write-answer-2
 slice-write-answer-2 c = search needs
 
--- src/lib.rt:61:1
 same-length : tie.Need-same-length
 same-length c = search needs
 
--- src/lib.rt:61:1
 returns : tie.Need-returns
 returns c =
     let the-Start = c .before .before .before .before .before in
@@ -38,11 +31,9 @@ returns c =
     let the-word = c .word in
     told-next (the-Start .args .answer .now) (the-Start .pre) (the-w .given .1) (the-word .ensures)
 
--- src/lib.rt:61:1
 same-length-2 : tie.Need-same-length-2
 same-length-2 c = search needs
 
--- src/lib.rt:61:1
 returns-2 : tie.Need-returns-2
 returns-2 c =
     let the-Start = c .before .before .before in

@@ -4,15 +4,12 @@ use borrow.Author.Needs.{needs}
 use Rattle.glow_entries.proofs.begun.Statement.{statement}
 use Rattle.glow_entries.proofs.begun.Tie as tie
 
--- src/lib.rt:132:5
 array-write-row : tie.Need-array-write-row
 array-write-row c = search needs
 
--- src/lib.rt:133:5
 array-write-row-2 : tie.Need-array-write-row-2
 array-write-row-2 c = search needs
 
--- src/lib.rt:128:1
 returns : tie.Need-returns
 unfolding words blanks
 returns c = refl

@@ -6,19 +6,15 @@ use borrow.Author.Needs.{needs}
 use Rattle.glow_entries.proofs.command_at.Statement.{statement}
 use Rattle.glow_entries.proofs.command_at.Tie as tie
 
--- src/lib.rt:604:9
 parent-at-requires : tie.Need-parent-at-requires
 parent-at-requires c κs = search needs
 
--- src/lib.rt:605:9
 int-at-requires : tie.Need-int-at-requires
 int-at-requires c κs = search needs
 
--- src/lib.rt:606:9
 number-at-requires : tie.Need-number-at-requires
 number-at-requires c κs = search needs
 
--- src/lib.rt:601:1
 returns : tie.Need-returns
 unfolding commandOf
 returns c =

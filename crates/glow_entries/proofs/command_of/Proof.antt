@@ -4,26 +4,21 @@ use borrow.Author.Needs.{needs}
 use Rattle.glow_entries.proofs.command_of.Statement.{statement}
 use Rattle.glow_entries.proofs.command_of.Tie as tie
 
--- src/lib.rt:638:9
 command-at-requires : tie.Need-command-at-requires
 command-at-requires c κs = search needs
 
--- src/lib.rt:639:17
 command-row-requires : tie.Need-command-row-requires
 command-row-requires c κs = search needs
 
--- src/lib.rt:640:8
 is-same-requires : tie.Need-is-same-requires
 is-same-requires c κs = search needs
 
--- src/lib.rt:641:9
 returns : tie.Need-returns
 unfolding commandRead
 returns c =
     told-is _ _ _ _ _ (c .before .before .before .before .command-at .ensures) (c .before .before .before .command-row .ensures)
     (c .before .is-same .ensures) (c .if1 .taken)
 
--- src/lib.rt:635:1
 returns-2 : tie.Need-returns-2
 unfolding commandRead
 returns-2 c =

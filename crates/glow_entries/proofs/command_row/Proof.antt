@@ -10,34 +10,27 @@ use borrow.Author.Needs.{needs}
 use Rattle.glow_entries.proofs.command_row.Statement.{statement}
 use Rattle.glow_entries.proofs.command_row.Tie as tie
 
--- src/lib.rt:569:28
 parent-word-requires : tie.Need-parent-word-requires
 parent-word-requires c κs = search needs
 
--- src/lib.rt:569:19
 begun-requires : tie.Need-begun-requires
 begun-requires c κs = search needs
 
--- src/lib.rt:570:22
 cell-of-requires : tie.Need-cell-of-requires
 cell-of-requires c κs = search needs
 
--- src/lib.rt:570:5
 put-requires : tie.Need-put-requires
 put-requires c κs = search needs
 
--- src/lib.rt:571:22
 number-cell-requires : tie.Need-number-cell-requires
 number-cell-requires c κs = search needs
 
--- src/lib.rt:571:5
 put-requires-2 : tie.Need-put-requires-2
 put-requires-2 c κs = search needs
 
 held : (s : tie.Start) → toZ w64 (ofZ w64 (s .args .e .number)) ≡ s .args .e .number
 held s = search needs
 
--- src/lib.rt:563:1
 returns : tie.Need-returns
 unfolding commandRow blanks
 returns c =

@@ -6,23 +6,18 @@ use borrow.Author.Needs.{needs}
 use Rattle.glow_entries.proofs.connection_at.Statement.{statement}
 use Rattle.glow_entries.proofs.connection_at.Tie as tie
 
--- src/lib.rt:673:9
 parent-at-requires : tie.Need-parent-at-requires
 parent-at-requires c κs = search needs
 
--- src/lib.rt:674:9
 int-at-requires : tie.Need-int-at-requires
 int-at-requires c κs = search needs
 
--- src/lib.rt:675:9
 part-at-requires : tie.Need-part-at-requires
 part-at-requires c κs = search needs
 
--- src/lib.rt:676:9
 number-at-requires : tie.Need-number-at-requires
 number-at-requires c κs = search needs
 
--- src/lib.rt:670:1
 returns : tie.Need-returns
 unfolding connectionOf
 returns c =

@@ -4,26 +4,21 @@ use borrow.Author.Needs.{needs}
 use Rattle.glow_entries.proofs.connection_of.Statement.{statement}
 use Rattle.glow_entries.proofs.connection_of.Tie as tie
 
--- src/lib.rt:714:9
 connection-at-requires : tie.Need-connection-at-requires
 connection-at-requires c κs = search needs
 
--- src/lib.rt:715:17
 connection-row-requires : tie.Need-connection-row-requires
 connection-row-requires c κs = search needs
 
--- src/lib.rt:716:8
 is-same-requires : tie.Need-is-same-requires
 is-same-requires c κs = search needs
 
--- src/lib.rt:717:9
 returns : tie.Need-returns
 unfolding connectionRead
 returns c =
     told-is _ _ _ _ _ (c .before .before .before .before .connection-at .ensures) (c .before .before .before .connection-row .ensures)
     (c .before .is-same .ensures) (c .if1 .taken)
 
--- src/lib.rt:711:1
 returns-2 : tie.Need-returns-2
 unfolding connectionRead
 returns-2 c =

@@ -10,42 +10,33 @@ use borrow.Author.Needs.{needs}
 use Rattle.glow_entries.proofs.connection_row.Statement.{statement}
 use Rattle.glow_entries.proofs.connection_row.Tie as tie
 
--- src/lib.rt:622:28
 parent-word-requires : tie.Need-parent-word-requires
 parent-word-requires c κs = search needs
 
--- src/lib.rt:622:19
 begun-requires : tie.Need-begun-requires
 begun-requires c κs = search needs
 
--- src/lib.rt:623:22
 cell-of-requires : tie.Need-cell-of-requires
 cell-of-requires c κs = search needs
 
--- src/lib.rt:623:5
 put-requires : tie.Need-put-requires
 put-requires c κs = search needs
 
--- src/lib.rt:624:22
 part-cell-requires : tie.Need-part-cell-requires
 part-cell-requires c κs = search needs
 
--- src/lib.rt:624:5
 put-requires-2 : tie.Need-put-requires-2
 put-requires-2 c κs = search needs
 
--- src/lib.rt:625:22
 number-cell-requires : tie.Need-number-cell-requires
 number-cell-requires c κs = search needs
 
--- src/lib.rt:625:5
 put-requires-3 : tie.Need-put-requires-3
 put-requires-3 c κs = search needs
 
 held : (s : tie.Start) → toZ w64 (ofZ w64 (s .args .e .target)) ≡ s .args .e .target
 held s = search needs
 
--- src/lib.rt:615:1
 returns : tie.Need-returns
 unfolding connectionRow blanks
 returns c =

@@ -5,15 +5,12 @@ use borrow.Author.Needs.{needs}
 use Rattle.glow_entries.proofs.flag_at.Statement.{statement}
 use Rattle.glow_entries.proofs.flag_at.Tie as tie
 
--- src/lib.rt:175:9
 cell-at-requires : tie.Need-cell-at-requires
 cell-at-requires c κs = search needs
 
--- src/lib.rt:177:9
 returns : tie.Need-returns
 returns c = flag-is _ (c .before .if1 .taken) ∙ ap flagOf (c .before .before .before .cell-at .ensures)
 
--- src/lib.rt:172:1
 returns-2 : tie.Need-returns-2
 returns-2 c = flag-none _ (c .if1 .left) ∙ ap flagOf (c .before .before .cell-at .ensures)
 

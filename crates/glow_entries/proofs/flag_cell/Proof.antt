@@ -4,27 +4,21 @@ use borrow.Author.Needs.{needs}
 use Rattle.glow_entries.proofs.flag_cell.Statement.{statement}
 use Rattle.glow_entries.proofs.flag_cell.Tie as tie
 
--- src/lib.rt:78:25
 enum-told : tie.Need-enum-told
 enum-told c = search needs
 
--- src/lib.rt:78:25
 none-requires : tie.Need-none-requires
 none-requires c κs = search needs
 
--- src/lib.rt:79:18
 enum-known-f : tie.Need-enum-known-f
 enum-known-f c = search needs
 
--- src/lib.rt:79:24
 cell-of-requires : tie.Need-cell-of-requires
 cell-of-requires c κs = search needs
 
--- src/lib.rt:74:1
 returns : tie.Need-returns
 returns c = search needs
 
--- src/lib.rt:74:1
 returns-2 : tie.Need-returns-2
 returns-2 c = c .cell-of .ensures ∙ sym (ap flagCell (c .before .before .f .given .1))
 

@@ -7,15 +7,12 @@ use borrow.Author.Needs.{needs}
 use Rattle.glow_entries.proofs.int_at.Statement.{statement}
 use Rattle.glow_entries.proofs.int_at.Tie as tie
 
--- src/lib.rt:177:9
 cell-at-requires : tie.Need-cell-at-requires
 cell-at-requires c κs = search needs
 
--- src/lib.rt:178:5
 int-of-requires : tie.Need-int-of-requires
 int-of-requires c κs = search needs
 
--- src/lib.rt:174:1
 returns : tie.Need-returns
 returns c =
     let k : toZ w64 (ofZ w64 (c .int-of .result)) ≡ c .int-of .result = search needs in

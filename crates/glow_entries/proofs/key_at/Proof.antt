@@ -7,33 +7,26 @@ use borrow.Author.Needs.{needs}
 use Rattle.glow_entries.proofs.key_at.Statement.{statement}
 use Rattle.glow_entries.proofs.key_at.Tie as tie
 
--- src/lib.rt:236:9
 cell-at-requires : tie.Need-cell-at-requires
 cell-at-requires c κs = search needs
 
--- src/lib.rt:237:8
 element-copy-out-if1 : tie.Need-element-copy-out-if1
 element-copy-out-if1 c = search needs
 
--- src/lib.rt:239:20
 count-requires : tie.Need-count-requires
 count-requires c κs = search needs
 
--- src/lib.rt:240:18
 count-requires-2 : tie.Need-count-requires-2
 count-requires-2 c κs = search needs
 
--- src/lib.rt:238:9
 returns : tie.Need-returns
 returns c =
     rw (c .before .count .ensures, c .count2 .ensures)
     (key-path _ _ _ (c .before .before .before .before .cell-at .ensures) (c .before .before .if1 .taken))
 
--- src/lib.rt:243:17
 int-of-requires : tie.Need-int-of-requires
 int-of-requires c κs = search needs
 
--- src/lib.rt:233:1
 returns-2 : tie.Need-returns-2
 returns-2 c =
     let k : toZ w64 (ofZ w64 (c .int-of .result)) ≡ c .int-of .result = search needs in

@@ -8,33 +8,26 @@ use borrow.Author.Needs.{needs}
 use Rattle.glow_entries.proofs.key_cell.Statement.{statement}
 use Rattle.glow_entries.proofs.key_cell.Tie as tie
 
--- src/lib.rt:100:21
 enum-known-k : tie.Need-enum-known-k
 enum-known-k c = search needs
 
--- src/lib.rt:100:27
 cell-of-requires : tie.Need-cell-of-requires
 cell-of-requires c κs = search needs
 
--- src/lib.rt:101:21
 enum-known-k-2 : tie.Need-enum-known-k-2
 enum-known-k-2 c = search needs
 
--- src/lib.rt:103:20
 word-requires : tie.Need-word-requires
 word-requires c κs = search needs
 
--- src/lib.rt:104:21
 word-requires-2 : tie.Need-word-requires-2
 word-requires-2 c κs = search needs
 
--- src/lib.rt:96:1
 returns : tie.Need-returns
 returns c =
     let k : toZ w64 (ofZ w64 (c .before .before .k .given .0 .0)) ≡ c .before .before .k .given .0 .0 = search needs in
     c .cell-of .ensures ∙ ap (λ (z : ℤ). cell 2 (wordOf z) 0) k ∙ sym (ap keyCell (c .before .before .k .given .1))
 
--- src/lib.rt:96:1
 returns-2 : tie.Need-returns-2
 returns-2 c = rw (c .before .word .ensures, c .word2 .ensures) (sym (ap keyCell (c .before .before .before .k2 .given .1)))
 

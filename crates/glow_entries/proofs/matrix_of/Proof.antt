@@ -4,26 +4,21 @@ use borrow.Author.Needs.{needs}
 use Rattle.glow_entries.proofs.matrix_of.Statement.{statement}
 use Rattle.glow_entries.proofs.matrix_of.Tie as tie
 
--- src/lib.rt:566:9
 matrix-at-requires : tie.Need-matrix-at-requires
 matrix-at-requires c κs = search needs
 
--- src/lib.rt:567:17
 matrix-row-requires : tie.Need-matrix-row-requires
 matrix-row-requires c κs = search needs
 
--- src/lib.rt:568:8
 is-same-requires : tie.Need-is-same-requires
 is-same-requires c κs = search needs
 
--- src/lib.rt:569:9
 returns : tie.Need-returns
 unfolding matrixRead
 returns c =
     told-is _ _ _ _ _ (c .before .before .before .before .matrix-at .ensures) (c .before .before .before .matrix-row .ensures)
     (c .before .is-same .ensures) (c .if1 .taken)
 
--- src/lib.rt:563:1
 returns-2 : tie.Need-returns-2
 unfolding matrixRead
 returns-2 c =

@@ -5,91 +5,69 @@ use borrow.Author.Needs.{needs}
 use Rattle.glow_entries.proofs.matrix_row.Statement.{statement}
 use Rattle.glow_entries.proofs.matrix_row.Tie as tie
 
--- src/lib.rt:497:25
 key-kind-requires : tie.Need-key-kind-requires
 key-kind-requires c κs = search needs
 
--- src/lib.rt:497:46
 parent-word-requires : tie.Need-parent-word-requires
 parent-word-requires c κs = search needs
 
--- src/lib.rt:497:19
 begun-requires : tie.Need-begun-requires
 begun-requires c κs = search needs
 
--- src/lib.rt:498:22
 key-cell-requires : tie.Need-key-cell-requires
 key-cell-requires c κs = search needs
 
--- src/lib.rt:498:5
 put-requires : tie.Need-put-requires
 put-requires c κs = search needs
 
--- src/lib.rt:499:22
 part-cell-requires : tie.Need-part-cell-requires
 part-cell-requires c κs = search needs
 
--- src/lib.rt:499:5
 put-requires-2 : tie.Need-put-requires-2
 put-requires-2 c κs = search needs
 
--- src/lib.rt:500:22
 part-cell-requires-2 : tie.Need-part-cell-requires-2
 part-cell-requires-2 c κs = search needs
 
--- src/lib.rt:500:5
 put-requires-3 : tie.Need-put-requires-3
 put-requires-3 c κs = search needs
 
--- src/lib.rt:501:22
 number-cell-requires : tie.Need-number-cell-requires
 number-cell-requires c κs = search needs
 
--- src/lib.rt:501:5
 put-requires-4 : tie.Need-put-requires-4
 put-requires-4 c κs = search needs
 
--- src/lib.rt:502:22
 number-cell-requires-2 : tie.Need-number-cell-requires-2
 number-cell-requires-2 c κs = search needs
 
--- src/lib.rt:502:5
 put-requires-5 : tie.Need-put-requires-5
 put-requires-5 c κs = search needs
 
--- src/lib.rt:503:22
 number-cell-requires-3 : tie.Need-number-cell-requires-3
 number-cell-requires-3 c κs = search needs
 
--- src/lib.rt:503:5
 put-requires-6 : tie.Need-put-requires-6
 put-requires-6 c κs = search needs
 
--- src/lib.rt:504:22
 number-cell-requires-4 : tie.Need-number-cell-requires-4
 number-cell-requires-4 c κs = search needs
 
--- src/lib.rt:504:5
 put-requires-7 : tie.Need-put-requires-7
 put-requires-7 c κs = search needs
 
--- src/lib.rt:505:22
 number-cell-requires-5 : tie.Need-number-cell-requires-5
 number-cell-requires-5 c κs = search needs
 
--- src/lib.rt:505:5
 put-requires-8 : tie.Need-put-requires-8
 put-requires-8 c κs = search needs
 
--- src/lib.rt:506:22
 number-cell-requires-6 : tie.Need-number-cell-requires-6
 number-cell-requires-6 c κs = search needs
 
--- src/lib.rt:506:5
 put-requires-9 : tie.Need-put-requires-9
 put-requires-9 c κs = search needs
 
--- src/lib.rt:484:1
 returns : tie.Need-returns
 unfolding matrixRow blanks
 returns c =

@@ -4,26 +4,21 @@ use borrow.Author.Needs.{needs}
 use Rattle.glow_entries.proofs.node_of.Statement.{statement}
 use Rattle.glow_entries.proofs.node_of.Tie as tie
 
--- src/lib.rt:466:9
 node-at-requires : tie.Need-node-at-requires
 node-at-requires c κs = search needs
 
--- src/lib.rt:467:17
 node-row-requires : tie.Need-node-row-requires
 node-row-requires c κs = search needs
 
--- src/lib.rt:468:8
 is-same-requires : tie.Need-is-same-requires
 is-same-requires c κs = search needs
 
--- src/lib.rt:469:9
 returns : tie.Need-returns
 unfolding nodeRead
 returns c =
     told-is _ _ _ _ _ (c .before .before .before .before .node-at .ensures) (c .before .before .before .node-row .ensures)
     (c .before .is-same .ensures) (c .if1 .taken)
 
--- src/lib.rt:463:1
 returns-2 : tie.Need-returns-2
 unfolding nodeRead
 returns-2 c =

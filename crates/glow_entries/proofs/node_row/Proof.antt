@@ -5,59 +5,45 @@ use borrow.Author.Needs.{needs}
 use Rattle.glow_entries.proofs.node_row.Statement.{statement}
 use Rattle.glow_entries.proofs.node_row.Tie as tie
 
--- src/lib.rt:423:25
 key-kind-requires : tie.Need-key-kind-requires
 key-kind-requires c κs = search needs
 
--- src/lib.rt:423:46
 parent-word-requires : tie.Need-parent-word-requires
 parent-word-requires c κs = search needs
 
--- src/lib.rt:423:19
 begun-requires : tie.Need-begun-requires
 begun-requires c κs = search needs
 
--- src/lib.rt:424:22
 key-cell-requires : tie.Need-key-cell-requires
 key-cell-requires c κs = search needs
 
--- src/lib.rt:424:5
 put-requires : tie.Need-put-requires
 put-requires c κs = search needs
 
--- src/lib.rt:425:22
 part-cell-requires : tie.Need-part-cell-requires
 part-cell-requires c κs = search needs
 
--- src/lib.rt:425:5
 put-requires-2 : tie.Need-put-requires-2
 put-requires-2 c κs = search needs
 
--- src/lib.rt:426:22
 part-cell-requires-2 : tie.Need-part-cell-requires-2
 part-cell-requires-2 c κs = search needs
 
--- src/lib.rt:426:5
 put-requires-3 : tie.Need-put-requires-3
 put-requires-3 c κs = search needs
 
--- src/lib.rt:427:22
 flag-cell-requires : tie.Need-flag-cell-requires
 flag-cell-requires c κs = search needs
 
--- src/lib.rt:427:5
 put-requires-4 : tie.Need-put-requires-4
 put-requires-4 c κs = search needs
 
--- src/lib.rt:428:22
 flag-cell-requires-2 : tie.Need-flag-cell-requires-2
 flag-cell-requires-2 c κs = search needs
 
--- src/lib.rt:428:5
 put-requires-5 : tie.Need-put-requires-5
 put-requires-5 c κs = search needs
 
--- src/lib.rt:414:1
 returns : tie.Need-returns
 unfolding nodeRow blanks
 returns c =

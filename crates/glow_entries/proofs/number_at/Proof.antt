@@ -8,21 +8,17 @@ use borrow.Author.Needs.{needs}
 use Rattle.glow_entries.proofs.number_at.Statement.{statement}
 use Rattle.glow_entries.proofs.number_at.Tie as tie
 
--- src/lib.rt:165:9
 cell-at-requires : tie.Need-cell-at-requires
 cell-at-requires c κs = search needs
 
--- src/lib.rt:167:27
 int-of-requires : tie.Need-int-of-requires
 int-of-requires c κs = search needs
 
--- src/lib.rt:167:9
 returns : tie.Need-returns
 returns c =
     let k : toZ w64 (ofZ w64 (c .int-of .result)) ≡ c .int-of .result = search needs in
     ap Is (k ∙ c .int-of .ensures) ∙ number-is _ (c .before .if1 .taken) ∙ ap numberOf (c .before .before .before .cell-at .ensures)
 
--- src/lib.rt:162:1
 returns-2 : tie.Need-returns-2
 returns-2 c = number-none _ (c .if1 .left) ∙ ap numberOf (c .before .before .cell-at .ensures)
 

@@ -8,27 +8,21 @@ use borrow.Author.Needs.{needs}
 use Rattle.glow_entries.proofs.number_cell.Statement.{statement}
 use Rattle.glow_entries.proofs.number_cell.Tie as tie
 
--- src/lib.rt:69:27
 enum-told : tie.Need-enum-told
 enum-told c = search needs
 
--- src/lib.rt:69:27
 none-requires : tie.Need-none-requires
 none-requires c κs = search needs
 
--- src/lib.rt:70:20
 enum-known-n : tie.Need-enum-known-n
 enum-known-n c = search needs
 
--- src/lib.rt:70:26
 cell-of-requires : tie.Need-cell-of-requires
 cell-of-requires c κs = search needs
 
--- src/lib.rt:65:1
 returns : tie.Need-returns
 returns c = search needs
 
--- src/lib.rt:65:1
 returns-2 : tie.Need-returns-2
 returns-2 c =
     let k : toZ w64 (ofZ w64 (c .before .before .n .given .0 .0)) ≡ c .before .before .n .given .0 .0 = search needs in

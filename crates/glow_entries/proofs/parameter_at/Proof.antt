@@ -3,55 +3,42 @@ use borrow.Author.Needs.{needs}
 use Rattle.glow_entries.proofs.parameter_at.Statement.{statement}
 use Rattle.glow_entries.proofs.parameter_at.Tie as tie
 
--- src/lib.rt:345:9
 parent-at-requires : tie.Need-parent-at-requires
 parent-at-requires c κs = search needs
 
--- src/lib.rt:346:9
 key-at-requires : tie.Need-key-at-requires
 key-at-requires c κs = search needs
 
--- src/lib.rt:347:9
 part-at-requires : tie.Need-part-at-requires
 part-at-requires c κs = search needs
 
--- src/lib.rt:348:9
 part-at-requires-2 : tie.Need-part-at-requires-2
 part-at-requires-2 c κs = search needs
 
--- src/lib.rt:349:9
 value-at-requires : tie.Need-value-at-requires
 value-at-requires c κs = search needs
 
--- src/lib.rt:350:9
 value-at-requires-2 : tie.Need-value-at-requires-2
 value-at-requires-2 c κs = search needs
 
--- src/lib.rt:351:9
 value-at-requires-3 : tie.Need-value-at-requires-3
 value-at-requires-3 c κs = search needs
 
--- src/lib.rt:352:9
 number-at-requires : tie.Need-number-at-requires
 number-at-requires c κs = search needs
 
--- src/lib.rt:353:9
 number-at-requires-2 : tie.Need-number-at-requires-2
 number-at-requires-2 c κs = search needs
 
--- src/lib.rt:354:9
 flag-at-requires : tie.Need-flag-at-requires
 flag-at-requires c κs = search needs
 
--- src/lib.rt:355:9
 number-at-requires-3 : tie.Need-number-at-requires-3
 number-at-requires-3 c κs = search needs
 
--- src/lib.rt:356:9
 number-at-requires-4 : tie.Need-number-at-requires-4
 number-at-requires-4 c κs = search needs
 
--- src/lib.rt:342:1
 returns : tie.Need-returns
 unfolding parameterOf
 returns c =

@@ -4,26 +4,21 @@ use borrow.Author.Needs.{needs}
 use Rattle.glow_entries.proofs.parameter_of.Statement.{statement}
 use Rattle.glow_entries.proofs.parameter_of.Tie as tie
 
--- src/lib.rt:382:9
 parameter-at-requires : tie.Need-parameter-at-requires
 parameter-at-requires c κs = search needs
 
--- src/lib.rt:383:17
 parameter-row-requires : tie.Need-parameter-row-requires
 parameter-row-requires c κs = search needs
 
--- src/lib.rt:384:8
 is-same-requires : tie.Need-is-same-requires
 is-same-requires c κs = search needs
 
--- src/lib.rt:385:9
 returns : tie.Need-returns
 unfolding parameterRead
 returns c =
     told-is _ _ _ _ _ (c .before .before .before .before .parameter-at .ensures) (c .before .before .before .parameter-row .ensures)
     (c .before .is-same .ensures) (c .if1 .taken)
 
--- src/lib.rt:379:1
 returns-2 : tie.Need-returns-2
 unfolding parameterRead
 returns-2 c =

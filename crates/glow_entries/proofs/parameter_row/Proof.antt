@@ -5,107 +5,81 @@ use borrow.Author.Needs.{needs}
 use Rattle.glow_entries.proofs.parameter_row.Statement.{statement}
 use Rattle.glow_entries.proofs.parameter_row.Tie as tie
 
--- src/lib.rt:339:25
 key-kind-requires : tie.Need-key-kind-requires
 key-kind-requires c κs = search needs
 
--- src/lib.rt:339:46
 parent-word-requires : tie.Need-parent-word-requires
 parent-word-requires c κs = search needs
 
--- src/lib.rt:339:19
 begun-requires : tie.Need-begun-requires
 begun-requires c κs = search needs
 
--- src/lib.rt:340:22
 key-cell-requires : tie.Need-key-cell-requires
 key-cell-requires c κs = search needs
 
--- src/lib.rt:340:5
 put-requires : tie.Need-put-requires
 put-requires c κs = search needs
 
--- src/lib.rt:341:22
 part-cell-requires : tie.Need-part-cell-requires
 part-cell-requires c κs = search needs
 
--- src/lib.rt:341:5
 put-requires-2 : tie.Need-put-requires-2
 put-requires-2 c κs = search needs
 
--- src/lib.rt:342:22
 part-cell-requires-2 : tie.Need-part-cell-requires-2
 part-cell-requires-2 c κs = search needs
 
--- src/lib.rt:342:5
 put-requires-3 : tie.Need-put-requires-3
 put-requires-3 c κs = search needs
 
--- src/lib.rt:343:22
 cell-of-requires : tie.Need-cell-of-requires
 cell-of-requires c κs = search needs
 
--- src/lib.rt:343:5
 put-requires-4 : tie.Need-put-requires-4
 put-requires-4 c κs = search needs
 
--- src/lib.rt:344:22
 cell-of-requires-2 : tie.Need-cell-of-requires-2
 cell-of-requires-2 c κs = search needs
 
--- src/lib.rt:344:5
 put-requires-5 : tie.Need-put-requires-5
 put-requires-5 c κs = search needs
 
--- src/lib.rt:345:22
 cell-of-requires-3 : tie.Need-cell-of-requires-3
 cell-of-requires-3 c κs = search needs
 
--- src/lib.rt:345:5
 put-requires-6 : tie.Need-put-requires-6
 put-requires-6 c κs = search needs
 
--- src/lib.rt:346:22
 number-cell-requires : tie.Need-number-cell-requires
 number-cell-requires c κs = search needs
 
--- src/lib.rt:346:5
 put-requires-7 : tie.Need-put-requires-7
 put-requires-7 c κs = search needs
 
--- src/lib.rt:347:22
 number-cell-requires-2 : tie.Need-number-cell-requires-2
 number-cell-requires-2 c κs = search needs
 
--- src/lib.rt:347:5
 put-requires-8 : tie.Need-put-requires-8
 put-requires-8 c κs = search needs
 
--- src/lib.rt:348:23
 flag-cell-requires : tie.Need-flag-cell-requires
 flag-cell-requires c κs = search needs
 
--- src/lib.rt:348:5
 put-requires-9 : tie.Need-put-requires-9
 put-requires-9 c κs = search needs
 
--- src/lib.rt:349:23
 number-cell-requires-3 : tie.Need-number-cell-requires-3
 number-cell-requires-3 c κs = search needs
 
--- src/lib.rt:349:5
 put-requires-10 : tie.Need-put-requires-10
 put-requires-10 c κs = search needs
 
--- src/lib.rt:350:23
 number-cell-requires-4 : tie.Need-number-cell-requires-4
 number-cell-requires-4 c κs = search needs
 
--- src/lib.rt:350:5
 put-requires-11 : tie.Need-put-requires-11
 put-requires-11 c κs = search needs
 
--- src/lib.rt:324:1
 returns : tie.Need-returns
 unfolding parameterRow blanks
 returns c =

@@ -3,27 +3,21 @@ use borrow.Author.Needs.{needs}
 use Rattle.glow_entries.proofs.parent_at.Statement.{statement}
 use Rattle.glow_entries.proofs.parent_at.Tie as tie
 
--- src/lib.rt:249:13
 element-copy-out-w : tie.Need-element-copy-out-w
 element-copy-out-w c = search needs
 
--- src/lib.rt:251:9
 returns : tie.Need-returns
 returns c = parent-root _ (c .if1 .taken)
 
--- src/lib.rt:254:28
 sub-t7 : tie.Need-sub-t7
 sub-t7 c = search needs
 
--- src/lib.rt:254:27
 cast-t8 : tie.Need-cast-t8
 cast-t8 c = search needs
 
--- src/lib.rt:254:9
 returns-2 : tie.Need-returns-2
 returns-2 c = parent-at _ (c .before .if1 .left) (c .if2 .taken)
 
--- src/lib.rt:246:1
 returns-3 : tie.Need-returns-3
 returns-3 c = parent-past _ (c .before .if1 .left) (c .if2 .left)
 

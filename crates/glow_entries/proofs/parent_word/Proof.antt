@@ -4,27 +4,21 @@ use borrow.Author.Needs.{needs}
 use Rattle.glow_entries.proofs.parent_word.Statement.{statement}
 use Rattle.glow_entries.proofs.parent_word.Tie as tie
 
--- src/lib.rt:122:25
 enum-told : tie.Need-enum-told
 enum-told c = search needs
 
--- src/lib.rt:123:20
 enum-known-p : tie.Need-enum-known-p
 enum-known-p c = search needs
 
--- src/lib.rt:123:26
 cast-result : tie.Need-cast-result
 cast-result c = search needs
 
--- src/lib.rt:123:26
 add-result : tie.Need-add-result
 add-result c = search needs
 
--- src/lib.rt:118:1
 returns : tie.Need-returns
 returns c = search needs
 
--- src/lib.rt:118:1
 returns-2 : tie.Need-returns-2
 returns-2 c = sym (ap parentWord (c .before .p .given .1))
 

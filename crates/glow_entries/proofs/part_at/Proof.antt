@@ -5,26 +5,21 @@ use borrow.Author.Needs.{needs}
 use Rattle.glow_entries.proofs.part_at.Statement.{statement}
 use Rattle.glow_entries.proofs.part_at.Tie as tie
 
--- src/lib.rt:185:9
 cell-at-requires : tie.Need-cell-at-requires
 cell-at-requires c κs = search needs
 
--- src/lib.rt:188:20
 count-requires : tie.Need-count-requires
 count-requires c κs = search needs
 
--- src/lib.rt:189:18
 count-requires-2 : tie.Need-count-requires-2
 count-requires-2 c κs = search needs
 
--- src/lib.rt:187:9
 returns : tie.Need-returns
 returns c =
     rw (c .before .count .ensures, c .count2 .ensures)
     (part-is _ _ (c .before .before .if1 .taken)
     ∙ ap (partOf (c .before .before .before .before .before .args .tag)) (c .before .before .before .before .cell-at .ensures))
 
--- src/lib.rt:182:1
 returns-2 : tie.Need-returns-2
 returns-2 c =
     part-none _ _ (c .if1 .left)

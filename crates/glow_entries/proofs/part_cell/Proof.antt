@@ -4,31 +4,24 @@ use borrow.Author.Needs.{needs}
 use Rattle.glow_entries.proofs.part_cell.Statement.{statement}
 use Rattle.glow_entries.proofs.part_cell.Tie as tie
 
--- src/lib.rt:87:25
 enum-told : tie.Need-enum-told
 enum-told c = search needs
 
--- src/lib.rt:87:25
 none-requires : tie.Need-none-requires
 none-requires c κs = search needs
 
--- src/lib.rt:88:20
 enum-known-p : tie.Need-enum-known-p
 enum-known-p c = search needs
 
--- src/lib.rt:90:20
 word-requires : tie.Need-word-requires
 word-requires c κs = search needs
 
--- src/lib.rt:91:21
 word-requires-2 : tie.Need-word-requires-2
 word-requires-2 c κs = search needs
 
--- src/lib.rt:83:1
 returns : tie.Need-returns
 returns c = search needs
 
--- src/lib.rt:83:1
 returns-2 : tie.Need-returns-2
 returns-2 c =
     rw (c .before .word .ensures, c .word2 .ensures)

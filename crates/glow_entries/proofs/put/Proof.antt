@@ -3,51 +3,39 @@ use borrow.Author.Needs.{needs}
 use Rattle.glow_entries.proofs.put.Statement.{statement}
 use Rattle.glow_entries.proofs.put.Tie as tie
 
--- src/lib.rt:142:21
 mul-j : tie.Need-mul-j
 mul-j c = search needs
 
--- src/lib.rt:142:17
 add-j : tie.Need-add-j
 add-j c = search needs
 
--- src/lib.rt:143:9
 mul-row : tie.Need-mul-row
 mul-row c = search needs
 
--- src/lib.rt:143:9
 element-write-row : tie.Need-element-write-row
 element-write-row c = search needs
 
--- src/lib.rt:144:13
 add-row : tie.Need-add-row
 add-row c = search needs
 
--- src/lib.rt:144:9
 mul-row-2 : tie.Need-mul-row-2
 mul-row-2 c = search needs
 
--- src/lib.rt:144:9
 element-write-row-2 : tie.Need-element-write-row-2
 element-write-row-2 c = search needs
 
--- src/lib.rt:145:13
 add-row-2 : tie.Need-add-row-2
 add-row-2 c = search needs
 
--- src/lib.rt:145:9
 mul-row-3 : tie.Need-mul-row-3
 mul-row-3 c = search needs
 
--- src/lib.rt:145:9
 element-write-row-3 : tie.Need-element-write-row-3
 element-write-row-3 c = search needs
 
--- src/lib.rt:138:1
 returns : tie.Need-returns
 returns c = put-in _ _ _ (c .if1 .taken)
 
--- src/lib.rt:138:1
 returns-2 : tie.Need-returns-2
 returns-2 c = put-past _ _ _ (c .if1 .left)
 

@@ -13,53 +13,42 @@ Inv-loop a b i₀ i = same (drop i a) (drop i b) ≡ same a b
 abbrev μ-loop : tie.MeasureT-loop
 μ-loop a b i₀ i = length a - i
 
--- src/lib.rt:279:9
 returns : tie.Need-returns Inv-loop μ-loop
 returns c = sym (same-lengths _ _ (c .if1 .taken))
 
--- src/lib.rt:282:5
 loop-holds : tie.Need-loop-holds Inv-loop μ-loop
 loop-holds c = refl
 
--- src/lib.rt:283:12
 mul-if2 : tie.Need-mul-if2 Inv-loop μ-loop
 mul-if2 c = omega arith
 
--- src/lib.rt:283:12
 shared-slice-read-if2 : tie.Need-shared-slice-read-if2 Inv-loop μ-loop
 shared-slice-read-if2 c = omega arith
 
--- src/lib.rt:283:20
 mul-if2-2 : tie.Need-mul-if2-2 Inv-loop μ-loop
 mul-if2-2 c = omega arith
 
--- src/lib.rt:283:20
 shared-slice-read-if2-2 : tie.Need-shared-slice-read-if2-2 Inv-loop μ-loop
 shared-slice-read-if2-2 c = omega arith
 
--- src/lib.rt:284:13
 returns-2 : tie.Need-returns-2 Inv-loop μ-loop
 returns-2 c =
     let s = c .before .before .before .before .before .before .args in
     let l = c .before .before .before .before .loop in
     sym (same-not (s .a .now) (s .b .now) (l .i) (omega arith) (omega arith) (c .if2 .taken)) ∙ l .inv
 
--- src/lib.rt:286:9
 add-i : tie.Need-add-i Inv-loop μ-loop
 add-i c = omega arith
 
--- src/lib.rt:282:5
 loop-less : tie.Need-loop-less Inv-loop μ-loop
 loop-less c = omega arith
 
--- src/lib.rt:282:5
 loop-again : tie.Need-loop-again Inv-loop μ-loop
 loop-again c =
     let s = c .before .before .before .before .before .before .args in
     let l = c .before .before .before .before .loop in
     sym (same-step (s .a .now) (s .b .now) (l .i) (omega arith) (omega arith) (c .if2 .left)) ∙ l .inv
 
--- src/lib.rt:275:1
 returns-3 : tie.Need-returns-3 Inv-loop μ-loop
 returns-3 c =
     let s = c .before .before .before .args in

@@ -6,19 +6,15 @@ use borrow.Author.Needs.{needs}
 use Rattle.glow_entries.proofs.stream_at.Statement.{statement}
 use Rattle.glow_entries.proofs.stream_at.Tie as tie
 
--- src/lib.rt:742:9
 parent-at-requires : tie.Need-parent-at-requires
 parent-at-requires c κs = search needs
 
--- src/lib.rt:743:9
 int-at-requires : tie.Need-int-at-requires
 int-at-requires c κs = search needs
 
--- src/lib.rt:744:9
 value-at-requires : tie.Need-value-at-requires
 value-at-requires c κs = search needs
 
--- src/lib.rt:739:1
 returns : tie.Need-returns
 unfolding streamOf
 returns c =

@@ -5,28 +5,22 @@ use borrow.Author.Needs.{needs}
 use Rattle.glow_entries.proofs.stream_of.Statement.{statement}
 use Rattle.glow_entries.proofs.stream_of.Tie as tie
 
--- src/lib.rt:786:8
 element-copy-out-if1 : tie.Need-element-copy-out-if1
 element-copy-out-if1 c = search needs
 
--- src/lib.rt:787:9
 returns : tie.Need-returns
 unfolding streamRead
 returns c = rw (eq-eqb _ _ (c .if1 .taken))
 
--- src/lib.rt:789:9
 stream-at-requires : tie.Need-stream-at-requires
 stream-at-requires c κs = search needs
 
--- src/lib.rt:790:17
 stream-row-requires : tie.Need-stream-row-requires
 stream-row-requires c κs = search needs
 
--- src/lib.rt:791:8
 is-same-requires : tie.Need-is-same-requires
 is-same-requires c κs = search needs
 
--- src/lib.rt:792:9
 returns-2 : tie.Need-returns-2
 unfolding streamRead
 returns-2 c =
@@ -34,7 +28,6 @@ returns-2 c =
     (told-is _ _ _ _ _ (c .before .before .before .before .stream-at .ensures) (c .before .before .before .stream-row .ensures)
     (c .before .is-same .ensures) (c .if2 .taken))
 
--- src/lib.rt:783:1
 returns-3 : tie.Need-returns-3
 unfolding streamRead
 returns-3 c =

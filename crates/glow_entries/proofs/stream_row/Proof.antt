@@ -10,34 +10,27 @@ use borrow.Author.Needs.{needs}
 use Rattle.glow_entries.proofs.stream_row.Statement.{statement}
 use Rattle.glow_entries.proofs.stream_row.Tie as tie
 
--- src/lib.rt:676:28
 parent-word-requires : tie.Need-parent-word-requires
 parent-word-requires c κs = search needs
 
--- src/lib.rt:676:19
 begun-requires : tie.Need-begun-requires
 begun-requires c κs = search needs
 
--- src/lib.rt:677:22
 cell-of-requires : tie.Need-cell-of-requires
 cell-of-requires c κs = search needs
 
--- src/lib.rt:677:5
 put-requires : tie.Need-put-requires
 put-requires c κs = search needs
 
--- src/lib.rt:678:22
 cell-of-requires-2 : tie.Need-cell-of-requires-2
 cell-of-requires-2 c κs = search needs
 
--- src/lib.rt:678:5
 put-requires-2 : tie.Need-put-requires-2
 put-requires-2 c κs = search needs
 
 held : (s : tie.Start) → toZ w64 (ofZ w64 (s .args .e .identifier)) ≡ s .args .e .identifier
 held s = search needs
 
--- src/lib.rt:670:1
 returns : tie.Need-returns
 unfolding streamRow blanks
 returns c =

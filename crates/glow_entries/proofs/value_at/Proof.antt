@@ -4,15 +4,12 @@ use borrow.Author.Needs.{needs}
 use Rattle.glow_entries.proofs.value_at.Statement.{statement}
 use Rattle.glow_entries.proofs.value_at.Tie as tie
 
--- src/lib.rt:229:9
 cell-at-requires : tie.Need-cell-at-requires
 cell-at-requires c κs = search needs
 
--- src/lib.rt:230:5
 value-of-requires : tie.Need-value-of-requires
 value-of-requires c κs = search needs
 
--- src/lib.rt:226:1
 returns : tie.Need-returns
 returns c = c .value-of .ensures ∙ ap valueOf (c .before .cell-at .ensures)
 

@@ -8,57 +8,44 @@ use borrow.Author.Needs.{needs}
 use Rattle.glow_entries.proofs.value_of.Statement.{statement}
 use Rattle.glow_entries.proofs.value_of.Tie as tie
 
--- src/lib.rt:209:27
 int-of-requires : tie.Need-int-of-requires
 int-of-requires c κs = search needs
 
--- src/lib.rt:209:9
 returns : tie.Need-returns
 returns c =
     let k : toZ w64 (ofZ w64 (c .int-of .result)) ≡ c .int-of .result = search needs in
     ap Int (k ∙ c .int-of .ensures) ∙ value-int _ (c .before .if1 .taken)
 
--- src/lib.rt:213:13
 returns-2 : tie.Need-returns-2
 returns-2 c = value-nan _ (c .before .before .if2 .taken) (c .if3 .taken)
 
--- src/lib.rt:215:28
 float-from-bits-t6 : tie.Need-float-from-bits-t6
 float-from-bits-t6 c = no-nan (c .before .before .before .before .before .before .before .args .v .first) (omega arith)
 
--- src/lib.rt:215:9
 returns-3 : tie.Need-returns-3
 returns-3 c = value-real _ (c .before .before .before .if2 .taken) (c .before .if3 .left)
 
--- src/lib.rt:219:20
 count-requires : tie.Need-count-requires
 count-requires c κs = search needs
 
--- src/lib.rt:220:18
 count-requires-2 : tie.Need-count-requires-2
 count-requires-2 c κs = search needs
 
--- src/lib.rt:218:9
 returns-4 : tie.Need-returns-4
 returns-4 c = rw (c .before .count .ensures, c .count2 .ensures) (value-text _ (c .before .before .if4 .taken))
 
--- src/lib.rt:224:9
 returns-5 : tie.Need-returns-5
 returns-5 c = value-bool _ (c .before .if5 .taken)
 
--- src/lib.rt:228:20
 count-requires-3 : tie.Need-count-requires-3
 count-requires-3 c κs = search needs
 
--- src/lib.rt:229:18
 count-requires-4 : tie.Need-count-requires-4
 count-requires-4 c κs = search needs
 
--- src/lib.rt:227:9
 returns-6 : tie.Need-returns-6
 returns-6 c = rw (c .before .count3 .ensures, c .count4 .ensures) (value-octets _ (c .before .before .if6 .taken))
 
--- src/lib.rt:205:1
 returns-7 : tie.Need-returns-7
 returns-7 c =
     value-none _ (c .before .before .before .before .before .before .before .before .if1 .left) (c .before .before .before .before .before .before .if2 .left)

@@ -5,13 +5,11 @@ use Rattle.glow_grammar.proofs.is_counted.Tie as tie
 use Rattle.glow_grammar.proofs.is_counted.Reads as reads
 use Rattle.glow_grammar.proofs.is_counted.Lts as lts
 
--- src/lib.rt:531:9
 returns : tie.Need-returns
 returns c =
     let the-if1 = c .if1 in
     λ e. counted-any _ (the-if1 .taken)
 
--- src/lib.rt:527:1
 returns-2 : tie.Need-returns-2
 returns-2 c = λ e. counted-from _ (leb-true _ _ e)
 

@@ -7,34 +7,27 @@ use Rattle.glow_grammar.proofs.list_word.Reads as reads
 use Rattle.glow_grammar.proofs.list_word.Lts as lts
 use Rattle.glow_grammar.proofs.word.Reads as word-reads
 
--- src/lib.rt:563:28
 enum-told : tie.Need-enum-told
 enum-told c = search needs
 
--- src/lib.rt:563:28
 word-requires : tie.Need-word-requires
 word-requires c κs = search needs
 
--- src/lib.rt:564:23
 enum-told-2 : tie.Need-enum-told-2
 enum-told-2 c = search needs
 
--- src/lib.rt:565:25
 enum-told-3 : tie.Need-enum-told-3
 enum-told-3 c = search needs
 
--- src/lib.rt:559:1
 returns : tie.Need-returns
 returns c =
     let the-enum-told = c .before .enum-told in
     let the-word = c .word in
     λ h. list-told _ (the-enum-told .given .1) (the-word .ensures)
 
--- src/lib.rt:559:1
 returns-2 : tie.Need-returns-2
 returns-2 c = λ h. absurd (h refl)
 
--- src/lib.rt:559:1
 returns-3 : tie.Need-returns-3
 returns-3 c = λ h. absurd (h refl)
 

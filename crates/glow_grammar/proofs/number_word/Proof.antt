@@ -11,23 +11,18 @@ use Rattle.glow_grammar.proofs.number_word.Reads as reads
 use Rattle.glow_grammar.proofs.number_word.Lts as lts
 use Rattle.glow_grammar.proofs.word_in.Reads as word-in-reads
 
--- src/lib.rt:554:28
 enum-told : tie.Need-enum-told
 enum-told c = search needs
 
--- src/lib.rt:555:21
 enum-known-n : tie.Need-enum-known-n
 enum-known-n c = search needs
 
--- src/lib.rt:555:27
 word-in-requires : tie.Need-word-in-requires
 word-in-requires c κs = search needs
 
--- src/lib.rt:550:1
 returns : tie.Need-returns
 returns c = λ h. absurd (h refl)
 
--- src/lib.rt:550:1
 returns-2 : tie.Need-returns-2
 returns-2 c =
     let the-n = c .before .before .n in

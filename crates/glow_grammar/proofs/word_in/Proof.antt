@@ -13,11 +13,9 @@ use Rattle.glow_grammar.proofs.word_in.Lts as lts
 use Rattle.glow_rows.proofs.cell_of.Reads as cell-of-reads
 use Rattle.glow_grammar.proofs.in_range.Reads as in-range-reads
 
--- src/lib.rt:540:9
 cell-of-requires : tie.Need-cell-of-requires
 cell-of-requires c κs = search needs
 
--- src/lib.rt:542:9
 returns : tie.Need-returns
 returns c =
     let the-Start = c .before .before in
@@ -28,11 +26,9 @@ returns c =
     let e = the-cell-of .ensures ∙ ap (λ (z : ℤ). cellOf (Int z)) k in
     λ h. word-any _ _ e (the-if1 .taken)
 
--- src/lib.rt:544:8
 in-range-requires : tie.Need-in-range-requires
 in-range-requires c κs = search needs
 
--- src/lib.rt:545:9
 returns-2 : tie.Need-returns-2
 returns-2 c =
     let the-Start = c .before .before .before .before in
@@ -45,7 +41,6 @@ returns-2 c =
     let e = the-cell-of .ensures ∙ ap (λ (z : ℤ). cellOf (Int z)) k in
     λ h. word-kept _ _ e (the-if1 .left) (the-Start .fits .x) (the-in-range .ensures ∙ the-if2 .taken)
 
--- src/lib.rt:537:1
 returns-3 : tie.Need-returns-3
 returns-3 c = λ h. absurd (h refl)
 

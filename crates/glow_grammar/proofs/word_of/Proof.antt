@@ -15,27 +15,21 @@ use Rattle.glow_grammar.proofs.word.Reads as word-reads
 use Rattle.ber_identifiers.proofs.read_oid.Reads as read-oid-reads
 use Rattle.ber_integers.proofs.read_int.Reads as read-int-reads
 
--- src/lib.rt:573:9
 holds-requires : tie.Need-holds-requires
 holds-requires c κs = search needs
 
--- src/lib.rt:574:9
 returns : tie.Need-returns
 returns c = λ h. absurd (h refl)
 
--- src/lib.rt:577:12
 is-counted-requires : tie.Need-is-counted-requires
 is-counted-requires c κs = search needs
 
--- src/lib.rt:578:38
 read-int-requires : tie.Need-read-int-requires
 read-int-requires c κs = search needs
 
--- src/lib.rt:578:13
 number-word-requires : tie.Need-number-word-requires
 number-word-requires c κs = search needs
 
--- src/lib.rt:578:13
 returns-2 : tie.Need-returns-2
 returns-2 c =
     let the-holds = c .before .before .before .before .before .before .holds in
@@ -48,19 +42,15 @@ returns-2 c =
     λ h. told-number _ _ _ _ _ (the-holds .ensures ∙ not-false _ (the-if1 .left)) (the-if2 .taken) (the-is-counted .ensures (the-if3 .taken))
     (the-read-int .ensures .is) (the-number-word .ensures h)
 
--- src/lib.rt:580:9
 returns-3 : tie.Need-returns-3
 returns-3 c = λ h. absurd (h refl)
 
--- src/lib.rt:584:16
 is-name-requires : tie.Need-is-name-requires
 is-name-requires c κs = search needs
 
--- src/lib.rt:585:17
 word-requires : tie.Need-word-requires
 word-requires c κs = search needs
 
--- src/lib.rt:585:17
 returns-4 : tie.Need-returns-4
 returns-4 c =
     let the-holds = c .before .before .before .before .before .before .before .holds in
@@ -73,15 +63,12 @@ returns-4 c =
     λ h. told-name _ _ _ _ _ (the-holds .ensures ∙ not-false _ (the-if1 .left)) (the-if4 .taken) (the-if5 .taken) (the-is-name .ensures
     ∙ the-if6 .taken) (the-word .ensures)
 
--- src/lib.rt:587:13
 returns-5 : tie.Need-returns-5
 returns-5 c = λ h. absurd (h refl)
 
--- src/lib.rt:590:13
 word-requires-2 : tie.Need-word-requires-2
 word-requires-2 c κs = search needs
 
--- src/lib.rt:590:13
 returns-6 : tie.Need-returns-6
 returns-6 c =
     let the-holds = c .before .before .before .before .before .before .holds in
@@ -91,19 +78,15 @@ returns-6 c =
     let the-word2 = c .word2 in
     λ h. told-text _ _ _ _ _ (the-holds .ensures ∙ not-false _ (the-if1 .left)) (the-if4 .taken) (the-if7 .taken) (the-word2 .ensures)
 
--- src/lib.rt:592:9
 returns-7 : tie.Need-returns-7
 returns-7 c = λ h. absurd (h refl)
 
--- src/lib.rt:596:37
 read-oid-requires : tie.Need-read-oid-requires
 read-oid-requires c κs = search needs
 
--- src/lib.rt:596:13
 list-word-requires : tie.Need-list-word-requires
 list-word-requires c κs = search needs
 
--- src/lib.rt:596:13
 returns-8 : tie.Need-returns-8
 returns-8 c =
     let the-holds = c .before .before .before .before .before .before .before .holds in
@@ -115,11 +98,9 @@ returns-8 c =
     λ h. told-list _ _ _ _ _ (the-holds .ensures ∙ not-false _ (the-if1 .left)) (the-if8 .taken) (the-if9 .taken) (the-read-oid .ensures .is)
     (the-list-word .ensures h)
 
--- src/lib.rt:570:1
 returns-9 : tie.Need-returns-9
 returns-9 c = λ h. absurd (h refl)
 
--- src/lib.rt:570:1
 returns-10 : tie.Need-returns-10
 returns-10 c = λ h. absurd (h refl)
 

@@ -10,39 +10,32 @@ use Rattle.ber_tags.proofs.length_size.Reads as length-size-reads
 use Rattle.glow_member_sizes.proofs.capped.Reads as capped-reads
 use Rattle.glow_member_sizes.proofs.wide.Reads as wide-reads
 
--- src/lib.rt:40:9
 returns : tie.Need-returns
 returns c =
     let the-if1 = c .if1 in
     tagged-over _ (the-if1 .taken)
 
--- src/lib.rt:42:21
 length-size-requires : tie.Need-length-size-requires
 length-size-requires c κs = search needs
 
--- src/lib.rt:42:16
 wide-requires : tie.Need-wide-requires
 wide-requires c κs = search needs
 
--- src/lib.rt:42:12
 add-capped : tie.Need-add-capped
 add-capped c =
     let the-length-size = c .before .length-size in
     let the-wide = c .wide in
     let e = the-length-size .ensures .1 in let i = the-wide .ensures in omega arith
 
--- src/lib.rt:42:12
 add-capped-2 : tie.Need-add-capped-2
 add-capped-2 c =
     let the-length-size = c .before .length-size in
     let the-wide = c .wide in
     let e = the-length-size .ensures .1 in let i = the-wide .ensures in omega arith
 
--- src/lib.rt:42:5
 capped-requires : tie.Need-capped-requires
 capped-requires c κs = search needs
 
--- src/lib.rt:36:1
 returns-2 : tie.Need-returns-2
 returns-2 c =
     let the-length-size = c .before .before .length-size in

@@ -8,31 +8,25 @@ use Rattle.glow_member_sizes.proofs.int_of.Tie as tie
 use Rattle.glow_member_sizes.proofs.int_of.Reads as reads
 use Rattle.glow_member_sizes.proofs.int_of.Lts as lts
 
--- src/lib.rt:55:16
 cast-result : tie.Need-cast-result
 cast-result c = search needs
 
--- src/lib.rt:55:9
 returns : tie.Need-returns
 returns c =
     let the-if1 = c .if1 in
     int-is-low _ (the-if1 .taken)
 
--- src/lib.rt:57:12
 sub-result : tie.Need-sub-result
 sub-result c = search needs
 
--- src/lib.rt:57:11
 cast-result-2 : tie.Need-cast-result-2
 cast-result-2 c = search needs
 
--- src/lib.rt:57:5
 sub-result-2 : tie.Need-sub-result-2
 sub-result-2 c =
     let the-Start = c .before in
     minus-fits (18446744073709551615 - the-Start .args .w) (omega arith)
 
--- src/lib.rt:51:1
 returns-2 : tie.Need-returns-2
 returns-2 c =
     let the-if1 = c .if1 in

@@ -14,27 +14,21 @@ use Rattle.glow_member_sizes.proofs.int_of.Reads as int-of-reads
 use Rattle.glow_member_sizes.proofs.place.Reads as place-reads
 use Rattle.glow_member_sizes.proofs.wide.Reads as wide-reads
 
--- src/lib.rt:74:9
 slice-aggregate-out : tie.Need-slice-aggregate-out
 slice-aggregate-out c = search needs
 
--- src/lib.rt:75:39
 int-of-requires : tie.Need-int-of-requires
 int-of-requires c κs = search needs
 
--- src/lib.rt:75:19
 write-int-requires : tie.Need-write-int-requires
 write-int-requires c κs = search needs
 
--- src/lib.rt:75:9
 place-requires : tie.Need-place-requires
 place-requires c κs = search needs
 
--- src/lib.rt:76:5
 wide-requires : tie.Need-wide-requires
 wide-requires c κs = search needs
 
--- src/lib.rt:70:1
 returns : tie.Need-returns
 returns c =
     let the-Start = c .before .before .before .before .before .before in

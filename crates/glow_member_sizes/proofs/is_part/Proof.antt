@@ -5,19 +5,16 @@ use Rattle.glow_member_sizes.proofs.is_part.Tie as tie
 use Rattle.glow_member_sizes.proofs.is_part.Reads as reads
 use Rattle.glow_member_sizes.proofs.is_part.Lts as lts
 
--- src/lib.rt:124:9
 returns : tie.Need-returns
 returns c =
     let the-if1 = c .if1 in
     part-four _ (the-if1 .taken)
 
--- src/lib.rt:127:9
 returns-2 : tie.Need-returns-2
 returns-2 c =
     let the-if2 = c .if2 in
     part-twelve _ (the-if2 .taken)
 
--- src/lib.rt:120:1
 returns-3 : tie.Need-returns-3
 returns-3 c =
     let the-if1 = c .before .if1 in

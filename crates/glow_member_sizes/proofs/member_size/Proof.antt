@@ -16,14 +16,12 @@ use Rattle.glow_member_sizes.proofs.part_size.Reads as part-size-reads
 use Rattle.glow_member_sizes.proofs.word_size.Reads as word-size-reads
 use Rattle.glow_member_sizes.proofs.word_suits.Reads as word-suits-reads
 
--- src/lib.rt:164:13
 returns : tie.Need-returns
 returns c =
     let the-if1 = c .before .before .if1 in
     let the-if2 = c .if2 in
     size-wrong _ _ (content-odd _ _ (the-if1 .taken) (the-if2 .taken))
 
--- src/lib.rt:167:13
 returns-2 : tie.Need-returns-2
 returns-2 c =
     let the-if1 = c .before .before .before .before .if1 in
@@ -31,7 +29,6 @@ returns-2 c =
     let the-if3 = c .if3 in
     size-wrong _ _ (content-more _ _ (the-if1 .taken) (the-if2 .left) (the-if3 .taken))
 
--- src/lib.rt:169:9
 returns-3 : tie.Need-returns-3
 returns-3 c =
     let the-if1 = c .before .before .before .before .if1 in
@@ -39,18 +36,15 @@ returns-3 c =
     let the-if3 = c .if3 in
     size-nothing _ _ (content-none _ _ (the-if1 .taken) (the-if2 .left) (the-if3 .left))
 
--- src/lib.rt:172:9
 returns-4 : tie.Need-returns-4
 returns-4 c =
     let the-if1 = c .before .if1 in
     let the-if4 = c .if4 in
     size-none _ _ _ _ (the-if1 .left) (the-if4 .taken)
 
--- src/lib.rt:174:9
 fits-requires : tie.Need-fits-requires
 fits-requires c κs = search needs
 
--- src/lib.rt:175:9
 returns-5 : tie.Need-returns-5
 returns-5 c =
     let the-if1 = c .before .before .before .if1 in
@@ -59,11 +53,9 @@ returns-5 c =
     let the-if5 = c .if5 in
     size-unfit _ _ _ _ (the-if1 .left) (the-if4 .left) (the-fits2 .ensures ∙ not-true _ (the-if5 .taken))
 
--- src/lib.rt:177:8
 is-part-requires : tie.Need-is-part-requires
 is-part-requires c κs = search needs
 
--- src/lib.rt:178:9
 part-size-requires : tie.Need-part-size-requires
 part-size-requires c κs =
     let the-if4 = c .before .before .before .before .if4 in
@@ -73,14 +65,12 @@ part-size-requires c κs =
     let the-if6 = c .if6 in
     (the-is-part .ensures ∙ the-if6 .taken, (the-fits2 .ensures ∙ not-false _ (the-if5 .left), the-if4 .left))
 
--- src/lib.rt:178:9
 returns-6 : tie.Need-returns-6
 returns-6 c =
     let the-Start = c .before .before .before .before .before .before .before .before .before in
     let the-part-size = c .part-size in
     the-part-size .ensures (spelling (the-Start .args .least))
 
--- src/lib.rt:181:9
 returns-7 : tie.Need-returns-7
 returns-7 c =
     let the-Start = c .before .before .before .before .before .before .before .before .before .before in
@@ -92,11 +82,9 @@ returns-7 c =
     let the-if7 = c .if7 in
     word-long _ _ _ (the-Start .args .least) (the-if4 .left) (the-fits2 .ensures ∙ not-false _ (the-if5 .left)) (the-is-part .ensures ∙ the-if6 .left) (the-if7 .taken)
 
--- src/lib.rt:183:9
 word-suits-requires : tie.Need-word-suits-requires
 word-suits-requires c κs = search needs
 
--- src/lib.rt:184:9
 returns-8 : tie.Need-returns-8
 returns-8 c =
     let the-Start = c .before .before .before .before .before .before .before .before .before .before .before .before in
@@ -111,19 +99,15 @@ returns-8 c =
     word-refused _ _ _ (the-Start .args .least) (the-if4 .left) (the-fits2 .ensures ∙ not-false _ (the-if5 .left)) (the-is-part .ensures ∙ the-if6 .left) (the-if7 .left)
     (search needs) (the-word-suits .ensures ∙ not-true _ (the-if8 .taken))
 
--- src/lib.rt:186:19
 word-size-requires : tie.Need-word-size-requires
 word-size-requires c κs = search needs
 
--- src/lib.rt:186:12
 around-requires : tie.Need-around-requires
 around-requires c κs = search needs
 
--- src/lib.rt:186:5
 around-requires-2 : tie.Need-around-requires-2
 around-requires-2 c κs = search needs
 
--- src/lib.rt:159:1
 returns-9 : tie.Need-returns-9
 returns-9 c =
     let the-Start = c .before .before .before .before .before .before .before .before .before .before .before .before .before .before .before in

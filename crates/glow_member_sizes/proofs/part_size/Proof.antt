@@ -11,11 +11,9 @@ use Rattle.glow_member_sizes.proofs.around.Reads as around-reads
 use Rattle.glow_member_sizes.proofs.index.Reads as index-reads
 use Rattle.glow_member_sizes.proofs.wide.Reads as wide-reads
 
--- src/lib.rt:143:9
 wide-requires : tie.Need-wide-requires
 wide-requires c κs = search needs
 
--- src/lib.rt:145:9
 returns : tie.Need-returns
 returns c =
     let the-Start = c .before .before .before .before in
@@ -24,7 +22,6 @@ returns c =
     let q = the-Start .pre in
     part-out _ _ _ (q .0) (q .1 .0) (q .1 .1) (omega arith)
 
--- src/lib.rt:148:9
 returns-2 : tie.Need-returns-2
 returns-2 c =
     let the-Start = c .before .before .before .before .before .before .before in
@@ -33,35 +30,27 @@ returns-2 c =
     let q = the-Start .pre in
     part-out _ _ _ (q .0) (q .1 .0) (q .1 .1) (omega arith)
 
--- src/lib.rt:150:9
 index-requires : tie.Need-index-requires
 index-requires c κs = search needs
 
--- src/lib.rt:151:9
 index-requires-2 : tie.Need-index-requires-2
 index-requires-2 c κs = search needs
 
--- src/lib.rt:152:11
 read-leaf-requires : tie.Need-read-leaf-requires
 read-leaf-requires c κs = search needs
 
--- src/lib.rt:153:32
 enum-told : tie.Need-enum-told
 enum-told c = search needs
 
--- src/lib.rt:154:36
 enum-told-2 : tie.Need-enum-told-2
 enum-told-2 c = search needs
 
--- src/lib.rt:154:36
 around-requires : tie.Need-around-requires
 around-requires c κs = search needs
 
--- src/lib.rt:154:29
 around-requires-2 : tie.Need-around-requires-2
 around-requires-2 c κs = search needs
 
--- src/lib.rt:139:1
 returns-3 : tie.Need-returns-3
 returns-3 c =
     let the-Start = c .before .before .before .before .before .before .before .before .before .before .before .before in
@@ -76,7 +65,6 @@ returns-3 c =
     let k = the-if2 .left in
     part-refused _ _ _ (q .0) (q .1 .0) (q .1 .1) _ _ (the-index .ensures) (the-index2 .ensures) (omega arith) (the-read-leaf .ensures .0 ∙ the-enum-told .given .1)
 
--- src/lib.rt:139:1
 returns-4 : tie.Need-returns-4
 returns-4 c =
     let the-Start = c .before .before .before .before .before .before .before .before .before .before .before .before .before .before in

@@ -6,27 +6,22 @@ use Rattle.glow_member_sizes.proofs.plus.Reads as reads
 use Rattle.glow_member_sizes.proofs.plus.Lts as lts
 use Rattle.glow_member_sizes.proofs.capped.Reads as capped-reads
 
--- src/lib.rt:27:9
 returns : tie.Need-returns
 returns c =
     let the-if1 = c .if1 in
     plus-left _ _ (the-if1 .taken)
 
--- src/lib.rt:30:9
 returns-2 : tie.Need-returns-2
 returns-2 c =
     let the-if2 = c .if2 in
     plus-right _ _ (the-if2 .taken)
 
--- src/lib.rt:32:12
 add-capped : tie.Need-add-capped
 add-capped c = search needs
 
--- src/lib.rt:32:5
 capped-requires : tie.Need-capped-requires
 capped-requires c κs = search needs
 
--- src/lib.rt:23:1
 returns-3 : tie.Need-returns-3
 returns-3 c =
     let the-capped = c .capped in

@@ -8,15 +8,12 @@ use Rattle.ber_real_sizes.proofs.least_size.Reads as least-size-reads
 use Rattle.ber_real_sizes.proofs.written_size.Reads as written-size-reads
 use Rattle.glow_member_sizes.proofs.wide.Reads as wide-reads
 
--- src/lib.rt:84:21
 least-size-requires : tie.Need-least-size-requires
 least-size-requires c κs = search needs
 
--- src/lib.rt:84:9
 wide-requires : tie.Need-wide-requires
 wide-requires c κs = search needs
 
--- src/lib.rt:84:9
 returns : tie.Need-returns
 returns c =
     let the-if1 = c .before .before .if1 in
@@ -24,15 +21,12 @@ returns c =
     let the-wide = c .wide in
     least-by _ _ _ _ (the-if1 .taken) (the-least-size .ensures) (the-wide .ensures)
 
--- src/lib.rt:86:10
 written-size-requires : tie.Need-written-size-requires
 written-size-requires c κs = search needs
 
--- src/lib.rt:86:5
 wide-requires-2 : tie.Need-wide-requires-2
 wide-requires-2 c κs = search needs
 
--- src/lib.rt:80:1
 returns-2 : tie.Need-returns-2
 returns-2 c =
     let the-if1 = c .before .before .if1 in

@@ -8,18 +8,15 @@ use Rattle.glow_member_sizes.proofs.word_size.Lts as lts
 use Rattle.glow_member_sizes.proofs.int_size.Reads as int-size-reads
 use Rattle.glow_member_sizes.proofs.real_size.Reads as real-size-reads
 
--- src/lib.rt:110:9
 returns : tie.Need-returns
 returns c =
     let the-Start = c .before in
     let the-if1 = c .if1 in
     flag-sized _ _ (the-Start .args .least) (the-if1 .taken)
 
--- src/lib.rt:113:9
 int-size-requires : tie.Need-int-size-requires
 int-size-requires c κs = search needs
 
--- src/lib.rt:113:9
 returns-2 : tie.Need-returns-2
 returns-2 c =
     let the-Start = c .before .before .before in
@@ -27,11 +24,9 @@ returns-2 c =
     let the-int-size = c .int-size in
     whole-sized _ _ (the-Start .args .least) _ (the-if2 .taken) (the-int-size .ensures)
 
--- src/lib.rt:115:5
 real-size-requires : tie.Need-real-size-requires
 real-size-requires c κs = search needs
 
--- src/lib.rt:106:1
 returns-3 : tie.Need-returns-3
 returns-3 c =
     let the-Start = c .before .before .before in

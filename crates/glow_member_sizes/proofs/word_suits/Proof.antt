@@ -8,24 +8,20 @@ use Rattle.glow_member_sizes.proofs.word_suits.Lts as lts
 use Rattle.glow_grammar.proofs.in_range.Reads as in-range-reads
 use Rattle.ber_real_sizes.proofs.is_written.Reads as is-written-reads
 
--- src/lib.rt:94:9
 returns : tie.Need-returns
 returns c =
     let the-if1 = c .if1 in
     suits-flag _ _ _ (the-if1 .taken)
 
--- src/lib.rt:98:13
 returns-2 : tie.Need-returns-2
 returns-2 c =
     let the-if2 = c .before .if2 in
     let the-if3 = c .if3 in
     suits-any _ _ _ (the-if2 .taken) (the-if3 .taken)
 
--- src/lib.rt:100:9
 in-range-requires : tie.Need-in-range-requires
 in-range-requires c κs = search needs
 
--- src/lib.rt:100:9
 returns-3 : tie.Need-returns-3
 returns-3 c =
     let the-Start = c .before .before .before .before in
@@ -34,11 +30,9 @@ returns-3 c =
     let the-in-range = c .in-range in
     suits-range _ _ _ (the-Start .fits .w .fits) (the-if2 .taken) (the-if3 .left) ∙ the-in-range .ensures
 
--- src/lib.rt:102:5
 is-written-requires : tie.Need-is-written-requires
 is-written-requires c κs = search needs
 
--- src/lib.rt:90:1
 returns-4 : tie.Need-returns-4
 returns-4 c =
     let the-if1 = c .before .before .if1 in

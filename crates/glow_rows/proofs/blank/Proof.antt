@@ -8,32 +8,25 @@ use Rattle.glow_rows.proofs.blank.Tie as tie
 use Rattle.glow_rows.proofs.blank.Reads as reads
 use Rattle.glow_rows.proofs.blank.Lts as lts
 
--- src/lib.rt:34:9
 array-write-row : tie.Need-array-write-row
 array-write-row c = search needs
 
--- src/lib.rt:35:9
 array-write-row-2 : tie.Need-array-write-row-2
 array-write-row-2 c = search needs
 
--- src/lib.rt:36:9
 mul-t13 : tie.Need-mul-t13
 mul-t13 c = search needs
 
--- src/lib.rt:36:9
 slice-set-from-table : tie.Need-slice-set-from-table
 slice-set-from-table c = search needs
 
--- src/lib.rt:29:1
 same-length : tie.Need-same-length
 same-length c = search needs
 
--- src/lib.rt:29:1
 returns : tie.Need-returns
 unfolding blanked words blanks
 returns c = refl
 
--- src/lib.rt:29:1
 returns-2 : tie.Need-returns-2
 returns-2 c = blank-past _ _ _ _ (c .if1 .left)
 

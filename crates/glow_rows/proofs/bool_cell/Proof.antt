@@ -4,11 +4,9 @@ use Rattle.glow_rows.proofs.bool_cell.Tie as tie
 use Rattle.glow_rows.proofs.bool_cell.Reads as reads
 use Rattle.glow_rows.proofs.bool_cell.Lts as lts
 
--- src/lib.rt:83:9
 returns : tie.Need-returns
 returns c = bit-true _ (c .if1 .taken)
 
--- src/lib.rt:79:1
 returns-2 : tie.Need-returns-2
 returns-2 c = bit-false _ (c .if1 .left)
 

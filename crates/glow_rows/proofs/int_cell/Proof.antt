@@ -8,23 +8,18 @@ use Rattle.glow_rows.proofs.int_cell.Tie as tie
 use Rattle.glow_rows.proofs.int_cell.Reads as reads
 use Rattle.glow_rows.proofs.int_cell.Lts as lts
 
--- src/lib.rt:64:17
 cast-n : tie.Need-cast-n
 cast-n c = low-cast (c .before .args .x) (c .before .fits .x) (c .if1 .taken)
 
--- src/lib.rt:65:39
 sub-t5 : tie.Need-sub-t5
 sub-t5 c = let k = low-cast (c .before .args .x) (c .before .fits .x) (c .if1 .taken) .1 .fits in omega arith
 
--- src/lib.rt:65:9
 returns : tie.Need-returns
 returns c = ap (λ (n : ℕ). cell 2 n 0) (low-is (c .before .args .x) (c .before .fits .x) (c .if1 .taken))
 
--- src/lib.rt:67:28
 cast-t6 : tie.Need-cast-t6
 cast-t6 c = high-cast (c .before .args .x) (c .before .fits .x) (c .if1 .left)
 
--- src/lib.rt:60:1
 returns-2 : tie.Need-returns-2
 returns-2 c = ap (λ (n : ℕ). cell 2 n 0) (high-is (c .before .args .x) (c .before .fits .x) (c .if1 .left))
 

@@ -5,83 +5,63 @@ use Rattle.glow_rows.proofs.put_cell.Tie as tie
 use Rattle.glow_rows.proofs.put_cell.Reads as reads
 use Rattle.glow_rows.proofs.put_cell.Lts as lts
 
--- src/lib.rt:20:25
 mul-j : tie.Need-mul-j
 mul-j c = search needs
 
--- src/lib.rt:20:21
 add-j : tie.Need-add-j
 add-j c = search needs
 
--- src/lib.rt:21:13
 mul-table : tie.Need-mul-table
 mul-table c = search needs
 
--- src/lib.rt:21:13
 mul-table-2 : tie.Need-mul-table-2
 mul-table-2 c = search needs
 
--- src/lib.rt:21:13
 index-1-table : tie.Need-index-1-table
 index-1-table c = search needs
 
--- src/lib.rt:21:13
 index-2-table : tie.Need-index-2-table
 index-2-table c = search needs
 
--- src/lib.rt:22:22
 add-table : tie.Need-add-table
 add-table c = search needs
 
--- src/lib.rt:22:13
 mul-table-3 : tie.Need-mul-table-3
 mul-table-3 c = search needs
 
--- src/lib.rt:22:13
 mul-table-4 : tie.Need-mul-table-4
 mul-table-4 c = search needs
 
--- src/lib.rt:22:13
 index-1-table-2 : tie.Need-index-1-table-2
 index-1-table-2 c = search needs
 
--- src/lib.rt:22:13
 index-2-table-2 : tie.Need-index-2-table-2
 index-2-table-2 c = search needs
 
--- src/lib.rt:23:22
 add-table-2 : tie.Need-add-table-2
 add-table-2 c = search needs
 
--- src/lib.rt:23:13
 mul-table-5 : tie.Need-mul-table-5
 mul-table-5 c = search needs
 
--- src/lib.rt:23:13
 mul-table-6 : tie.Need-mul-table-6
 mul-table-6 c = search needs
 
--- src/lib.rt:23:13
 index-1-table-3 : tie.Need-index-1-table-3
 index-1-table-3 c = search needs
 
--- src/lib.rt:23:13
 index-2-table-3 : tie.Need-index-2-table-3
 index-2-table-3 c = search needs
 
--- src/lib.rt:15:1
 same-length : tie.Need-same-length
 same-length c = search needs
 
--- src/lib.rt:15:1
 returns : tie.Need-returns
 returns c = put-three _ _ _ _ (c .before .if1 .taken) (c .if2 .taken)
 
--- src/lib.rt:15:1
 returns-2 : tie.Need-returns-2
 returns-2 c = put-beyond _ _ _ _ (c .if2 .left)
 
--- src/lib.rt:15:1
 returns-3 : tie.Need-returns-3
 returns-3 c = put-past _ _ _ _ (c .if1 .left)
 

@@ -4,15 +4,12 @@ use Rattle.glow_rows.proofs.real_cell.Tie as tie
 use Rattle.glow_rows.proofs.real_cell.Reads as reads
 use Rattle.glow_rows.proofs.real_cell.Lts as lts
 
--- src/lib.rt:74:9
 returns : tie.Need-returns
 returns c = real-none _ (c .if1 .taken)
 
--- src/lib.rt:76:28
 float-to-bits-t3 : tie.Need-float-to-bits-t3
 float-to-bits-t3 c = no-nan (c .before .args .x) (c .if1 .left)
 
--- src/lib.rt:70:1
 returns-2 : tie.Need-returns-2
 returns-2 c = real-bits _ (c .if1 .left)
 

@@ -60,17 +60,14 @@ items-Inv-loop rows s count which parent start k above least i₀ total₀ i tot
 abbrev items-μ-loop : items-lts.MeasureT-loop
 items-μ-loop rows s count which parent start k above least i₀ total₀ i total = count - i
 
--- src/lib.rt:475:5
 items-loop-holds : (t : ℕ) → items-lts.Need-loop-holds (items-calls t) (items-at t) items.Post items-Inv-loop items-μ-loop
 items-loop-holds t c =
     let the-Start = c .before in
     turn-first _ _ _ _ _ _ _ _ _ (the-Start .pre .1 .0)
 
--- src/lib.rt:476:13
 items-is-next-requires : (t : ℕ) → items-lts.Need-is-next-requires (items-calls t) (items-at t) items.Post items-Inv-loop items-μ-loop
 items-is-next-requires t c κs = search needs
 
--- src/lib.rt:477:13
 items-returns : (t : ℕ) → items-lts.Need-returns (items-calls t) (items-at t) items.Post items-Inv-loop items-μ-loop
 items-returns t c =
     let the-if1 = c .if1 in
@@ -80,11 +77,9 @@ items-returns t c =
     let the-Start = c .before .before .before .before .before in
     turn-none _ _ _ _ _ _ _ _ _ _ _ (the-loop .inv) (the-Start .pre .1 .1) (the-loop-test .taken) (the-is-next .ensures ∙ not-true _ (the-if1 .taken))
 
--- src/lib.rt:480:13
 items-refused-requires : (t : ℕ) → items-lts.Need-refused-requires (items-calls t) (items-at t) items.Post items-Inv-loop items-μ-loop
 items-refused-requires t c κs = search needs
 
--- src/lib.rt:480:13
 items-returns-2 : (t : ℕ) → items-lts.Need-returns-2 (items-calls t) (items-at t) items.Post items-Inv-loop items-μ-loop
 items-returns-2 t c =
     let the-refused = c .refused in
@@ -98,15 +93,12 @@ items-returns-2 t c =
     turn-shallow _ _ _ _ _ _ _ _ _ _ _ (the-loop .inv) (the-Start .pre .1 .1) (the-loop-test .taken)
     (the-is-next .ensures ∙ not-false _ (the-if1 .left)) (the-refused .ensures) (the-if2 .taken)
 
--- src/lib.rt:482:13
 items-entry-size-requires : (t : ℕ) → items-lts.Need-entry-size-requires (items-calls t) (items-at t) items.Post items-Inv-loop items-μ-loop
 items-entry-size-requires t c κs = search needs
 
--- src/lib.rt:484:13
 items-refused-requires-2 : (t : ℕ) → items-lts.Need-refused-requires-2 (items-calls t) (items-at t) items.Post items-Inv-loop items-μ-loop
 items-refused-requires-2 t c κs = search needs
 
--- src/lib.rt:484:13
 items-returns-3 : (t : ℕ) → items-lts.Need-returns-3 (items-calls t) (items-at t) items.Post items-Inv-loop items-μ-loop
 items-returns-3 t c =
     let the-refused2 = c .refused2 in
@@ -121,26 +113,21 @@ items-returns-3 t c =
     turn-entry _ _ _ _ _ _ _ _ _ _ _ (the-loop .inv) (the-Start .pre .1 .1) (the-loop-test .taken)
     (the-is-next .ensures ∙ not-false _ (the-if1 .left)) _ (the-entry-size .ensures) (the-refused2 .ensures) (the-if3 .taken)
 
--- src/lib.rt:486:13
 items-word-at-requires : (t : ℕ) → items-lts.Need-word-at-requires (items-calls t) (items-at t) items.Post items-Inv-loop items-μ-loop
 items-word-at-requires t c κs = search needs
 
--- src/lib.rt:487:21
 items-add-below : (t : ℕ) → items-lts.Need-add-below (items-calls t) (items-at t) items.Post items-Inv-loop items-μ-loop
 items-add-below t c =
     let c1 = c .before .before .before .before .before .before in
     let the-loop-test = c1 .before .loop-test in
     let h = the-loop-test .taken in omega arith
 
--- src/lib.rt:488:13
 items-wide-requires : (t : ℕ) → items-lts.Need-wide-requires (items-calls t) (items-at t) items.Post items-Inv-loop items-μ-loop
 items-wide-requires t c κs = search needs
 
--- src/lib.rt:489:13
 items-inside-of-requires : (t : ℕ) → items-lts.Need-inside-of-requires (items-calls t) (items-at t) items.Post items-Inv-loop items-μ-loop
 items-inside-of-requires t c κs = search needs
 
--- src/lib.rt:490:13
 items-items-requires : (t : ℕ) → items-lts.Need-items-requires (items-calls t) (items-at t) items.Post items-Inv-loop items-μ-loop
 items-items-requires t c κs =
     let c1 = c .before .before .before .before .before .before in
@@ -150,11 +137,9 @@ items-items-requires t c κs =
     let p = the-Start .pre in let h = the-loop-test .taken in let o = the-loop .inv .onward in
     (omega (arith, p .0, h, o), (omega (arith, h), p .1 .1))
 
--- src/lib.rt:492:13
 items-refused-requires-3 : (t : ℕ) → items-lts.Need-refused-requires-3 (items-calls t) (items-at t) items.Post items-Inv-loop items-μ-loop
 items-refused-requires-3 t c κs = search needs
 
--- src/lib.rt:492:13
 items-returns-4 : (t : ℕ) → items-lts.Need-returns-4 (items-calls t) (items-at t) items.Post items-Inv-loop items-μ-loop
 items-returns-4 t c =
     let the-refused3 = c .refused3 in
@@ -177,15 +162,12 @@ items-returns-4 t c =
     (the-if3 .left) _ _ _ _ (the-word-at .ensures) (the-wide .ensures) refl (the-inside-of .ensures) _ (the-items .ensures .0)
     (the-refused3 .ensures) (the-if4 .taken)
 
--- src/lib.rt:494:13
 items-may-hold-requires : (t : ℕ) → items-lts.Need-may-hold-requires (items-calls t) (items-at t) items.Post items-Inv-loop items-μ-loop
 items-may-hold-requires t c κs = search needs
 
--- src/lib.rt:495:13
 items-refused-requires-4 : (t : ℕ) → items-lts.Need-refused-requires-4 (items-calls t) (items-at t) items.Post items-Inv-loop items-μ-loop
 items-refused-requires-4 t c κs = search needs
 
--- src/lib.rt:495:13
 items-returns-5 : (t : ℕ) → items-lts.Need-returns-5 (items-calls t) (items-at t) items.Post items-Inv-loop items-μ-loop
 items-returns-5 t c =
     let the-refused4 = c .refused4 in
@@ -210,7 +192,6 @@ items-returns-5 t c =
     (the-if3 .left) _ _ _ _ (the-word-at .ensures) (the-wide .ensures) refl (the-inside-of .ensures) _ (the-items .ensures .0) (the-if4 .left)
     (the-refused4 .ensures) (the-may-hold .ensures ∙ not-true _ (the-if5 .taken))
 
--- src/lib.rt:497:13
 items-items-requires-2 : (t : ℕ) → items-lts.Need-items-requires-2 (items-calls t) (items-at t) items.Post items-Inv-loop items-μ-loop
 items-items-requires-2 t c κs =
     let the-if4 = c .before .before .if4 in
@@ -223,11 +204,9 @@ items-items-requires-2 t c κs =
     let p = the-Start .pre in let h = the-loop-test .taken in let o = the-loop .inv .onward in
     let a = passed (the-items .ensures .1 .0) (the-if4 .left) in (omega (arith, p .0, h, o, a), (the-items .ensures .1 .1, p .1 .1))
 
--- src/lib.rt:499:13
 items-refused-requires-5 : (t : ℕ) → items-lts.Need-refused-requires-5 (items-calls t) (items-at t) items.Post items-Inv-loop items-μ-loop
 items-refused-requires-5 t c κs = search needs
 
--- src/lib.rt:499:13
 items-returns-6 : (t : ℕ) → items-lts.Need-returns-6 (items-calls t) (items-at t) items.Post items-Inv-loop items-μ-loop
 items-returns-6 t c =
     let the-refused5 = c .refused5 in
@@ -256,15 +235,12 @@ items-returns-6 t c =
     (the-may-hold .ensures ∙ not-false _ (the-if5 .left)) _ (the-items2 .ensures .0)
     (the-refused5 .ensures) (the-if6 .taken)
 
--- src/lib.rt:501:13
 items-may-hold-requires-2 : (t : ℕ) → items-lts.Need-may-hold-requires-2 (items-calls t) (items-at t) items.Post items-Inv-loop items-μ-loop
 items-may-hold-requires-2 t c κs = search needs
 
--- src/lib.rt:502:13
 items-refused-requires-6 : (t : ℕ) → items-lts.Need-refused-requires-6 (items-calls t) (items-at t) items.Post items-Inv-loop items-μ-loop
 items-refused-requires-6 t c κs = search needs
 
--- src/lib.rt:502:13
 items-returns-7 : (t : ℕ) → items-lts.Need-returns-7 (items-calls t) (items-at t) items.Post items-Inv-loop items-μ-loop
 items-returns-7 t c =
     let the-refused6 = c .refused6 in
@@ -295,15 +271,12 @@ items-returns-7 t c =
     (the-may-hold .ensures ∙ not-false _ (the-if5 .left)) _ (the-items2 .ensures .0) (the-if6 .left)
     (the-refused6 .ensures) (the-may-hold2 .ensures ∙ not-true _ (the-if7 .taken))
 
--- src/lib.rt:504:9
 items-tree-size-requires : (t : ℕ) → items-lts.Need-tree-size-requires (items-calls t) (items-at t) items.Post items-Inv-loop items-μ-loop
 items-tree-size-requires t c κs = search needs
 
--- src/lib.rt:506:13
 items-refused-requires-7 : (t : ℕ) → items-lts.Need-refused-requires-7 (items-calls t) (items-at t) items.Post items-Inv-loop items-μ-loop
 items-refused-requires-7 t c κs = search needs
 
--- src/lib.rt:506:13
 items-returns-8 : (t : ℕ) → items-lts.Need-returns-8 (items-calls t) (items-at t) items.Post items-Inv-loop items-μ-loop
 items-returns-8 t c =
     let the-refused7 = c .refused7 in
@@ -338,7 +311,6 @@ items-returns-8 t c =
     (the-may-hold2 .ensures ∙ not-false _ (the-if7 .left)) _ (the-tree-size .ensures)
     (the-refused7 .ensures) (the-if8 .taken)
 
--- src/lib.rt:475:5
 items-loop-less : (t : ℕ) → items-lts.Need-loop-less (items-calls t) (items-at t) items.Post items-Inv-loop items-μ-loop
 items-loop-less t c =
     let the-if6 = c .before .before .before .before .if6 in
@@ -352,7 +324,6 @@ items-loop-less t c =
     let h = the-loop-test .taken in let a = passed (the-items .ensures .1 .0) (the-if4 .left) in
     let b = passed (the-items2 .ensures .1 .0) (the-if6 .left) in let d = the-items2 .ensures .1 .1 in omega (arith, h, a, b, d)
 
--- src/lib.rt:475:5
 items-loop-again : (t : ℕ) → items-lts.Need-loop-again (items-calls t) (items-at t) items.Post items-Inv-loop items-μ-loop
 items-loop-again t c =
     let the-if8 = c .if8 in
@@ -387,7 +358,6 @@ items-loop-again t c =
     (the-if8 .left) (the-if2 .left) (passed (the-items .ensures .1 .0) (the-if4 .left))
     (passed (the-items2 .ensures .1 .0) (the-if6 .left)) (the-items2 .ensures .1 .1)
 
--- src/lib.rt:457:1
 items-returns-9 : (t : ℕ) → items-lts.Need-returns-9 (items-calls t) (items-at t) items.Post items-Inv-loop items-μ-loop
 items-returns-9 t c =
     let the-loop-test = c .loop-test in

@@ -23,41 +23,32 @@ Inv-loop rows i s kind from to least c₀ total₀ c total = (from ≤ c) × ((c
 abbrev μ-loop : tie.MeasureT-loop
 μ-loop rows i s kind from to least c₀ total₀ c total = c
 
--- src/lib.rt:230:5
 loop-holds : tie.Need-loop-holds Inv-loop μ-loop
 loop-holds c =
     let the-Start = c .before in
     let q = the-Start .pre in (q .0, (q .1, sum-none _ _ _ _ _))
 
--- src/lib.rt:231:13
 sub-c : tie.Need-sub-c Inv-loop μ-loop
 sub-c c = omega arith
 
--- src/lib.rt:232:37
 cell-at-requires : tie.Need-cell-at-requires Inv-loop μ-loop
 cell-at-requires c κs = search needs
 
--- src/lib.rt:232:72
 wide-requires : tie.Need-wide-requires Inv-loop μ-loop
 wide-requires c κs = search needs
 
--- src/lib.rt:232:58
 rule-at-requires : tie.Need-rule-at-requires Inv-loop μ-loop
 rule-at-requires c κs = search needs
 
--- src/lib.rt:232:22
 member-size-requires : tie.Need-member-size-requires Inv-loop μ-loop
 member-size-requires c κs = search needs
 
--- src/lib.rt:232:9
 plus-requires : tie.Need-plus-requires Inv-loop μ-loop
 plus-requires c κs = search needs
 
--- src/lib.rt:230:5
 loop-less : tie.Need-loop-less Inv-loop μ-loop
 loop-less c = omega arith
 
--- src/lib.rt:230:5
 loop-again : tie.Need-loop-again Inv-loop μ-loop
 loop-again c =
     let the-loop = c .before .before .before .before .before .before .loop in
@@ -77,7 +68,6 @@ loop-again c =
       ),
     )
 
--- src/lib.rt:224:1
 returns : tie.Need-returns Inv-loop μ-loop
 returns c =
     let the-loop = c .before .loop in

@@ -109,88 +109,70 @@ module _ (c : tie.After-path-after) where
       path-judged _ _ _ _ _ (summed (parts size)) (sized size) (the-if3 .left) (shallow (flat (checked c))) (full (checked c))
       (the-rule-at .ensures) (the-cell-at .ensures ∙ cell-in _ _ 0 (omega arith)) (c .path-after .ensures)
 
--- src/lib.rt:352:9
 word-at-requires : tie.Need-word-at-requires
 word-at-requires c κs = search needs
 
--- src/lib.rt:353:9
 split-of-requires : tie.Need-split-of-requires
 split-of-requires c κs = search needs
 
--- src/lib.rt:354:9
 cells-size-requires : tie.Need-cells-size-requires
 cells-size-requires c κs =
     let the-split-of = c .split-of in
     (omega arith, the-split-of .ensures .1)
 
--- src/lib.rt:355:9
 cells-size-requires-2 : tie.Need-cells-size-requires-2
 cells-size-requires-2 c κs =
     let the-split-of = c .before .split-of in
     (the-split-of .ensures .1, omega arith)
 
--- src/lib.rt:357:9
 none-requires : tie.Need-none-requires
 none-requires c κs = search needs
 
--- src/lib.rt:357:9
 returns : tie.Need-returns
 returns c =
     let p = c .before .before in
     own-over _ _ _ _ _ (summed p) (c .before .if1 .taken) ∙ sym (c .none .ensures)
 
--- src/lib.rt:360:9
 none-requires-2 : tie.Need-none-requires-2
 none-requires-2 c κs = search needs
 
--- src/lib.rt:360:9
 returns-2 : tie.Need-returns-2
 returns-2 c =
     let p = c .before .before .before in
     inner-over _ _ _ _ _ (summed p) (c .before .if2 .taken) ∙ sym (c .none2 .ensures)
 
--- src/lib.rt:362:26
 wrapped-size-requires : tie.Need-wrapped-size-requires
 wrapped-size-requires c κs = search needs
 
--- src/lib.rt:362:9
 plus-requires : tie.Need-plus-requires
 plus-requires c κs = search needs
 
--- src/lib.rt:364:9
 none-requires-3 : tie.Need-none-requires-3
 none-requires-3 c κs = search needs
 
--- src/lib.rt:364:9
 returns-3 : tie.Need-returns-3
 returns-3 c =
     let p = c .before .before in
     size-over _ _ _ _ _ (summed (parts p)) (sized p) (c .before .if3 .taken) ∙ sym (c .none3 .ensures)
 
--- src/lib.rt:366:9
 is-shallow-requires : tie.Need-is-shallow-requires
 is-shallow-requires c κs = search needs
 
--- src/lib.rt:367:9
 none-requires-4 : tie.Need-none-requires-4
 none-requires-4 c κs = search needs
 
--- src/lib.rt:367:9
 returns-4 : tie.Need-returns-4
 returns-4 c =
     let the-is-shallow = c .before .before .is-shallow in
     let p = c .before .before .before .before in
     deep-over _ _ _ _ _ (summed (parts p)) (sized p) (the-is-shallow .ensures ∙ not-true _ (c .before .if4 .taken)) ∙ sym (c .none4 .ensures)
 
--- src/lib.rt:369:9
 is-complete-requires : tie.Need-is-complete-requires
 is-complete-requires c κs = search needs
 
--- src/lib.rt:370:9
 none-requires-5 : tie.Need-none-requires-5
 none-requires-5 c κs = search needs
 
--- src/lib.rt:370:9
 returns-5 : tie.Need-returns-5
 returns-5 c =
     let the-is-complete = c .before .before .is-complete in
@@ -200,15 +182,12 @@ returns-5 c =
     incomplete _ _ _ _ _ (summed (parts p)) (sized p) (the-if3 .left) (shallow q) (the-is-complete .ensures ∙ not-true _ (c .before .if5 .taken))
     ∙ sym (c .none5 .ensures)
 
--- src/lib.rt:372:30
 cell-at-requires : tie.Need-cell-at-requires
 cell-at-requires c κs = search needs
 
--- src/lib.rt:372:51
 rule-at-requires : tie.Need-rule-at-requires
 rule-at-requires c κs = search needs
 
--- src/lib.rt:372:9
 path-after-requires : tie.Need-path-after-requires
 path-after-requires c κs =
     let the-rule-at = c .rule-at in
@@ -219,15 +198,12 @@ path-after-requires c κs =
     path-fits _ _ _ (start (parts p) .args .k) 0 (summed (parts p)) (sized p) (the-if3 .left) (shallow (flat q)) (full q)
     (the-rule-at .ensures) (the-cell-at .ensures ∙ cell-in _ _ 0 (omega arith))
 
--- src/lib.rt:374:9
 none-requires-6 : tie.Need-none-requires-6
 none-requires-6 c κs = search needs
 
--- src/lib.rt:374:9
 returns-6 : tie.Need-returns-6
 returns-6 c = judged (c .before .before) .0 (omega (arith, c .before .if6 .taken)) ∙ sym (c .none6 .ensures)
 
--- src/lib.rt:348:1
 returns-7 : tie.Need-returns-7
 returns-7 c = judged (c .before) .1 (omega (arith, c .if6 .left))
 

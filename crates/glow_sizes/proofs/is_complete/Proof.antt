@@ -11,22 +11,18 @@ use Rattle.glow_sizes.proofs.is_complete.Lts as lts
 use Rattle.glow_sizes.proofs.word_at.Reads as word-at-reads
 use Rattle.glow_grammar.proofs.required_of.Reads as required-of-reads
 
--- src/lib.rt:274:9
 required-of-requires : tie.Need-required-of-requires
 required-of-requires c κs = search needs
 
--- src/lib.rt:276:9
 returns : tie.Need-returns
 returns c =
     let the-required-of = c .before .required-of in
     let the-if1 = c .if1 in
     keyed-none _ _ (the-required-of .ensures ∙ the-if1 .taken)
 
--- src/lib.rt:278:8
 word-at-requires : tie.Need-word-at-requires
 word-at-requires c κs = search needs
 
--- src/lib.rt:279:9
 returns-2 : tie.Need-returns-2
 returns-2 c =
     let the-required-of = c .before .before .before .required-of in
@@ -35,7 +31,6 @@ returns-2 c =
     let the-if2 = c .if2 in
     keyed-no _ _ (λ e. the-if1 .left (sym (the-required-of .ensures) ∙ e)) (sym (the-word-at .ensures) ∙ the-if2 .taken)
 
--- src/lib.rt:282:9
 returns-3 : tie.Need-returns-3
 returns-3 c =
     let the-required-of = c .before .before .before .before .required-of in
@@ -46,11 +41,9 @@ returns-3 c =
     keyed-one _ _ (λ e. the-if1 .left (sym (the-required-of .ensures) ∙ e)) (λ e. the-if2 .left (the-word-at .ensures ∙ e))
     (the-required-of .ensures ∙ the-if3 .taken)
 
--- src/lib.rt:284:5
 word-at-requires-2 : tie.Need-word-at-requires-2
 word-at-requires-2 c κs = search needs
 
--- src/lib.rt:270:1
 returns-4 : tie.Need-returns-4
 returns-4 c =
     let the-required-of = c .before .before .before .before .before .required-of in

@@ -7,23 +7,18 @@ use Rattle.glow_sizes.proofs.is_next.Lts as lts
 use Rattle.glow_sizes.proofs.stands_in.Reads as stands-in-reads
 use Rattle.glow_sizes.proofs.word_at.Reads as word-at-reads
 
--- src/lib.rt:432:8
 word-at-requires : tie.Need-word-at-requires
 word-at-requires c κs = search needs
 
--- src/lib.rt:433:9
 returns : tie.Need-returns
 returns c = next-not _ _ _ _ (c .before .word-at .ensures) (c .if1 .taken)
 
--- src/lib.rt:435:22
 word-at-requires-2 : tie.Need-word-at-requires-2
 word-at-requires-2 c κs = search needs
 
--- src/lib.rt:435:5
 stands-in-requires : tie.Need-stands-in-requires
 stands-in-requires c κs = search needs
 
--- src/lib.rt:428:1
 returns-2 : tie.Need-returns-2
 returns-2 c =
     next-is _ _ _ _ _ _ _ (c .before .before .before .word-at .ensures) (c .before .before .if1 .left)

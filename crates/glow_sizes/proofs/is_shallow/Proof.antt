@@ -5,14 +5,12 @@ use Rattle.glow_sizes.proofs.is_shallow.Tie as tie
 use Rattle.glow_sizes.proofs.is_shallow.Reads as reads
 use Rattle.glow_sizes.proofs.is_shallow.Lts as lts
 
--- src/lib.rt:342:9
 returns : tie.Need-returns
 returns c =
     let the-Start = c .before in
     let the-if1 = c .if1 in
     shallow-none _ (the-Start .args .k) (the-if1 .taken)
 
--- src/lib.rt:338:1
 returns-2 : tie.Need-returns-2
 returns-2 c =
     let the-Start = c .before in

@@ -7,11 +7,9 @@ use Rattle.glow_sizes.proofs.is_tree.Reads as reads
 use Rattle.glow_sizes.proofs.is_tree.Lts as lts
 use Rattle.glow_sizes.proofs.measure.Reads as measure-reads
 
--- src/lib.rt:547:5
 measure-requires : tie.Need-measure-requires
 measure-requires c κs = search needs
 
--- src/lib.rt:544:1
 returns : tie.Need-returns
 returns c =
     let the-measure = c .measure in

@@ -6,15 +6,12 @@ use Rattle.glow_sizes.proofs.may_hold.Reads as reads
 use Rattle.glow_sizes.proofs.may_hold.Lts as lts
 use Rattle.glow_grammar.proofs.rule_of.Reads as rule-of-reads
 
--- src/lib.rt:442:8
 rule-of-requires : tie.Need-rule-of-requires
 rule-of-requires c κs = search needs
 
--- src/lib.rt:443:9
 returns : tie.Need-returns
 returns c = may-hold _ _ _ (c .before .before .args .from) (c .before .before .args .next) _ (c .before .rule-of .ensures) (c .if1 .taken)
 
--- src/lib.rt:439:1
 returns-2 : tie.Need-returns-2
 returns-2 c = may-else _ _ _ (c .before .before .args .from) (c .before .before .args .next) _ (c .before .rule-of .ensures) (c .if1 .left)
 

@@ -10,43 +10,36 @@ use Rattle.glow_trees.proofs.is_root.Reads as is-root-reads
 use Rattle.glow_member_sizes.proofs.around.Reads as around-reads
 use Rattle.glow_sizes.proofs.items.Reads as items-reads
 
--- src/lib.rt:519:9
 returns : tie.Need-returns
 returns c =
     let the-if1 = c .if1 in
     length-rows _ _ _ _ _ (the-if1 .taken)
 
--- src/lib.rt:522:9
 returns-2 : tie.Need-returns-2
 returns-2 c =
     let the-if2 = c .if2 in
     length-many _ _ _ _ _ (the-if2 .taken)
 
--- src/lib.rt:524:9
 is-root-requires : tie.Need-is-root-requires
 is-root-requires c κs = search needs
 
--- src/lib.rt:525:9
 returns-3 : tie.Need-returns-3
 returns-3 c =
     let the-is-root = c .before .is-root in
     let the-if3 = c .if3 in
     length-root _ _ _ _ _ _ (the-is-root .ensures) (not-true _ (the-if3 .taken))
 
--- src/lib.rt:527:9
 items-requires : tie.Need-items-requires
 items-requires c κs =
     let the-if1 = c .before .before .before .if1 in
     let h = the-if1 .left in (omega arith, h)
 
--- src/lib.rt:529:9
 returns-4 : tie.Need-returns-4
 returns-4 c =
     let the-items = c .before .before .items in
     let the-if4 = c .if4 in
     length-over _ _ _ _ _ _ (the-items .ensures .0) (the-if4 .taken)
 
--- src/lib.rt:532:9
 returns-5 : tie.Need-returns-5
 returns-5 c =
     let the-if1 = c .before .before .before .before .before .before .before .before .if1 in
@@ -55,15 +48,12 @@ returns-5 c =
     let the-if5 = c .if5 in
     length-left _ _ _ _ _ _ (the-items .ensures .0) (the-if4 .left) (rows-length _ _ _ (the-if1 .left)) (the-items .ensures .1 .1) (the-if5 .taken)
 
--- src/lib.rt:534:12
 around-requires : tie.Need-around-requires
 around-requires c κs = search needs
 
--- src/lib.rt:534:5
 around-requires-2 : tie.Need-around-requires-2
 around-requires-2 c κs = search needs
 
--- src/lib.rt:515:1
 returns-6 : tie.Need-returns-6
 returns-6 c =
     let the-if1 = c .before .before .before .before .before .before .before .before .before .before .if1 in

@@ -12,11 +12,9 @@ use Rattle.glow_member_sizes.proofs.index.Reads as index-reads
 use Rattle.glow_member_sizes.proofs.wide.Reads as wide-reads
 use Rattle.ber_identifiers.proofs.read_oid.Reads as read-oid-reads
 
--- src/lib.rt:301:9
 few-requires : tie.Need-few-requires
 few-requires c κs = search needs
 
--- src/lib.rt:301:9
 returns : tie.Need-returns
 returns c =
     let the-Start = c .before .before .before .before in
@@ -24,7 +22,6 @@ returns c =
     let the-few = c .few in
     ap pathCap (path-none _ _ _ _ (the-if1 .taken) (the-Start .pre)) ∙ the-few .ensures
 
--- src/lib.rt:305:13
 returns-2 : tie.Need-returns-2
 returns-2 c =
     let the-Start = c .before .before .before .before .before in
@@ -33,11 +30,9 @@ returns-2 c =
     let the-if3 = c .if3 in
     path-step-over _ _ _ _ (the-Start .pre) (kind-present _ _ 0 (the-if1 .left)) (the-if2 .taken) (the-if3 .taken)
 
--- src/lib.rt:307:16
 add-result : tie.Need-add-result
 add-result c = omega arith
 
--- src/lib.rt:307:9
 returns-3 : tie.Need-returns-3
 returns-3 c =
     let the-Start = c .before .before .before .before .before in
@@ -46,27 +41,21 @@ returns-3 c =
     let the-if3 = c .if3 in
     path-step _ _ _ _ (the-Start .pre) (kind-present _ _ 0 (the-if1 .left)) (the-if2 .taken) (the-if3 .left)
 
--- src/lib.rt:310:40
 index-requires : tie.Need-index-requires
 index-requires c κs = search needs
 
--- src/lib.rt:310:56
 index-requires-2 : tie.Need-index-requires-2
 index-requires-2 c κs = search needs
 
--- src/lib.rt:310:15
 read-oid-requires : tie.Need-read-oid-requires
 read-oid-requires c κs = search needs
 
--- src/lib.rt:311:26
 enum-known-n : tie.Need-enum-known-n
 enum-known-n c = search needs
 
--- src/lib.rt:313:21
 wide-requires : tie.Need-wide-requires
 wide-requires c κs = search needs
 
--- src/lib.rt:313:21
 returns-4 : tie.Need-returns-4
 returns-4 c =
     let the-Start = c .before .before .before .before .before .before .before .before .before .before .before .before .before in
@@ -82,7 +71,6 @@ returns-4 c =
     (the-read-oid .ensures .is) ∙ ap countOf (the-n .given .1))
     ∙ cap-few _ (the-if5 .taken) ∙ sym (the-wide .ensures)
 
--- src/lib.rt:315:17
 returns-5 : tie.Need-returns-5
 returns-5 c =
     let the-Start = c .before .before .before .before .before .before .before .before .before .before .before .before in
@@ -97,11 +85,9 @@ returns-5 c =
     (the-read-oid .ensures .is) ∙ ap countOf (the-n .given .1))
     ∙ cap-many _ (the-if5 .left)
 
--- src/lib.rt:318:17
 enum-told : tie.Need-enum-told
 enum-told c = search needs
 
--- src/lib.rt:318:17
 returns-6 : tie.Need-returns-6
 returns-6 c =
     let the-Start = c .before .before .before .before .before .before .before .before .before .before in
@@ -115,11 +101,9 @@ returns-6 c =
     (the-read-oid .ensures .is) ∙ ap countOf (the-enum-told .given .1))
     ∙ cap-few 0 (omega arith)
 
--- src/lib.rt:321:17
 enum-told-2 : tie.Need-enum-told-2
 enum-told-2 c = search needs
 
--- src/lib.rt:321:17
 returns-7 : tie.Need-returns-7
 returns-7 c =
     let the-Start = c .before .before .before .before .before .before .before .before .before .before in
@@ -133,11 +117,9 @@ returns-7 c =
     (the-read-oid .ensures .is) ∙ ap countOf (the-enum-told2 .given .1))
     ∙ cap-few 0 (omega arith)
 
--- src/lib.rt:325:5
 few-requires-2 : tie.Need-few-requires-2
 few-requires-2 c κs = search needs
 
--- src/lib.rt:296:1
 returns-8 : tie.Need-returns-8
 returns-8 c =
     let the-Start = c .before .before .before .before .before .before in

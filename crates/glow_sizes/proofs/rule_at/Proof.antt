@@ -8,15 +8,12 @@ use Rattle.glow_sizes.proofs.rule_at.Lts as lts
 use Rattle.glow_grammar.proofs.contents_of.Reads as contents-of-reads
 use Rattle.glow_grammar.proofs.rule_of.Reads as rule-of-reads
 
--- src/lib.rt:201:9
 contents-of-requires : tie.Need-contents-of-requires
 contents-of-requires c κs = search needs
 
--- src/lib.rt:203:9
 rule-of-requires : tie.Need-rule-of-requires
 rule-of-requires c κs = search needs
 
--- src/lib.rt:203:9
 returns : tie.Need-returns
 returns c =
     let the-contents-of = c .before .before .contents-of in
@@ -24,11 +21,9 @@ returns c =
     let the-rule-of = c .rule-of in
     rule-plain _ _ _ (the-contents-of .ensures) (the-if1 .taken) ∙ the-rule-of .ensures
 
--- src/lib.rt:206:9
 rule-of-requires-2 : tie.Need-rule-of-requires-2
 rule-of-requires-2 c κs = search needs
 
--- src/lib.rt:206:9
 returns-2 : tie.Need-returns-2
 returns-2 c =
     let the-contents-of = c .before .before .before .contents-of in
@@ -37,15 +32,12 @@ returns-2 c =
     let the-rule-of2 = c .rule-of2 in
     rule-first _ _ _ (the-contents-of .ensures) (the-if1 .left) (the-if2 .taken) ∙ the-rule-of2 .ensures
 
--- src/lib.rt:208:27
 sub-rule-of : tie.Need-sub-rule-of
 sub-rule-of c = search needs
 
--- src/lib.rt:208:5
 rule-of-requires-3 : tie.Need-rule-of-requires-3
 rule-of-requires-3 c κs = search needs
 
--- src/lib.rt:198:1
 returns-3 : tie.Need-returns-3
 returns-3 c =
     let the-contents-of = c .before .before .before .contents-of in

@@ -7,18 +7,15 @@ use Rattle.glow_sizes.proofs.split_of.Reads as reads
 use Rattle.glow_sizes.proofs.split_of.Lts as lts
 use Rattle.glow_grammar.proofs.contents_of.Reads as contents-of-reads
 
--- src/lib.rt:255:8
 contents-of-requires : tie.Need-contents-of-requires
 contents-of-requires c κs = search needs
 
--- src/lib.rt:256:9
 returns : tie.Need-returns
 returns c =
     let the-contents-of = c .before .contents-of in
     let the-if1 = c .if1 in
     (split-all _ _ (the-contents-of .ensures) (the-if1 .taken), omega arith)
 
--- src/lib.rt:251:1
 returns-2 : tie.Need-returns-2
 returns-2 c =
     let the-contents-of = c .before .contents-of in

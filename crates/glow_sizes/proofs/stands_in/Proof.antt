@@ -5,47 +5,40 @@ use Rattle.glow_sizes.proofs.stands_in.Tie as tie
 use Rattle.glow_sizes.proofs.stands_in.Reads as reads
 use Rattle.glow_sizes.proofs.stands_in.Lts as lts
 
--- src/lib.rt:367:17
 returns : tie.Need-returns
 returns c =
     let the-match = c .before .match in
     let the-if1 = c .if1 in
     in-which _ 0 _ (the-match .keys1) (in-kind 0 _ 0 (the-if1 .taken) (in-zero 0))
 
--- src/lib.rt:373:17
 returns-2 : tie.Need-returns-2
 returns-2 c =
     let the-match = c .before .match in
     let the-if2 = c .if2 in
     in-which _ 1 _ (the-match .keys2) (in-kind 1 _ 0 (the-if2 .taken) (in-zero-children 0))
 
--- src/lib.rt:361:1
 returns-3 : tie.Need-returns-3
 returns-3 c =
     let the-match = c .before .match in
     let the-if1 = c .if1 in
     in-which _ 0 _ (the-match .keys1) (in-root _ (the-if1 .left))
 
--- src/lib.rt:361:1
 returns-4 : tie.Need-returns-4
 returns-4 c =
     let the-match = c .before .match in
     let the-if2 = c .if2 in
     in-which _ 1 _ (the-match .keys2) (in-children _ (the-if2 .left))
 
--- src/lib.rt:361:1
 returns-5 : tie.Need-returns-5
 returns-5 c =
     let the-match = c .match in
     in-which _ 2 _ (the-match .keys3) (in-connections _)
 
--- src/lib.rt:361:1
 returns-6 : tie.Need-returns-6
 returns-6 c =
     let the-match = c .match in
     in-which _ 3 _ (the-match .keys4) (in-streams _)
 
--- src/lib.rt:361:1
 returns-7 : tie.Need-returns-7
 returns-7 c = in-none _ _ (omega arith)
 

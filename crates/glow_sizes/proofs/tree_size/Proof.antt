@@ -8,35 +8,27 @@ use Rattle.glow_member_sizes.proofs.around.Reads as around-reads
 use Rattle.glow_member_sizes.proofs.plus.Reads as plus-reads
 use Rattle.glow_sizes.proofs.wrapped_size.Reads as wrapped-size-reads
 
--- src/lib.rt:452:31
 wrapped-size-requires : tie.Need-wrapped-size-requires
 wrapped-size-requires c κs = search needs
 
--- src/lib.rt:452:51
 wrapped-size-requires-2 : tie.Need-wrapped-size-requires-2
 wrapped-size-requires-2 c κs = search needs
 
--- src/lib.rt:452:26
 plus-requires : tie.Need-plus-requires
 plus-requires c κs = search needs
 
--- src/lib.rt:452:9
 plus-requires-2 : tie.Need-plus-requires-2
 plus-requires-2 c κs = search needs
 
--- src/lib.rt:453:24
 around-requires : tie.Need-around-requires
 around-requires c κs = search needs
 
--- src/lib.rt:453:17
 around-requires-2 : tie.Need-around-requires-2
 around-requires-2 c κs = search needs
 
--- src/lib.rt:453:5
 plus-requires-3 : tie.Need-plus-requires-3
 plus-requires-3 c κs = search needs
 
--- src/lib.rt:449:1
 returns : tie.Need-returns
 returns c =
     tree-sized _ _ _ _ _ _ _ _ _ _ _ (c .before .before .before .before .before .before .wrapped-size .ensures)

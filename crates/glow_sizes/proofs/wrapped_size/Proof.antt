@@ -7,21 +7,17 @@ use Rattle.glow_sizes.proofs.wrapped_size.Reads as reads
 use Rattle.glow_sizes.proofs.wrapped_size.Lts as lts
 use Rattle.glow_member_sizes.proofs.around.Reads as around-reads
 
--- src/lib.rt:242:9
 returns : tie.Need-returns
 returns c =
     let the-if1 = c .if1 in
     wrapped-none _ (the-if1 .taken)
 
--- src/lib.rt:244:12
 around-requires : tie.Need-around-requires
 around-requires c κs = search needs
 
--- src/lib.rt:244:5
 around-requires-2 : tie.Need-around-requires-2
 around-requires-2 c κs = search needs
 
--- src/lib.rt:238:1
 returns-2 : tie.Need-returns-2
 returns-2 c =
     let the-if1 = c .before .before .if1 in

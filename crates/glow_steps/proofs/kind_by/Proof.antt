@@ -8,23 +8,18 @@ use Rattle.glow_steps.proofs.kind_by.Lts as lts
 use Rattle.glow_steps.proofs.wide.Reads as wide-reads
 use Rattle.glow_grammar.proofs.kind_in.Reads as kind-in-reads
 
--- src/lib.rt:391:9
 returns : tie.Need-returns
 returns c = λ h. absurd (h refl)
 
--- src/lib.rt:394:9
 returns-2 : tie.Need-returns-2
 returns-2 c = λ h. absurd (h refl)
 
--- src/lib.rt:396:29
 wide-requires : tie.Need-wide-requires
 wide-requires c κs = search needs
 
--- src/lib.rt:396:5
 kind-in-requires : tie.Need-kind-in-requires
 kind-in-requires c κs = search needs
 
--- src/lib.rt:387:1
 returns-3 : tie.Need-returns-3
 returns-3 c =
     let the-if1 = c .before .before .before .if1 in

@@ -12,23 +12,18 @@ use Rattle.glow_steps.proofs.in_order.Reads as in-order-reads
 use Rattle.glow_steps.proofs.is_due.Reads as is-due-reads
 use Rattle.glow_steps.proofs.ruled.Reads as ruled-reads
 
--- src/lib.rt:357:11
 entering-requires : tie.Need-entering-requires
 entering-requires c κs = search needs
 
--- src/lib.rt:358:25
 enum-known-e : tie.Need-enum-known-e
 enum-known-e c = search needs
 
--- src/lib.rt:359:23
 enum-known-next : tie.Need-enum-known-next
 enum-known-next c = search needs
 
--- src/lib.rt:360:16
 is-due-requires : tie.Need-is-due-requires
 is-due-requires c κs = search needs
 
--- src/lib.rt:361:17
 returns : tie.Need-returns
 returns c =
     let the-entering = c .before .before .before .before .before .entering in
@@ -37,11 +32,9 @@ returns c =
     let the-if1 = c .if1 in
     (member-due _ _ _ _ _ _ _ (the-entering .ensures .0 ∙ the-next .given .1) (the-is-due .ensures ∙ the-if1 .taken), tt)
 
--- src/lib.rt:365:22
 enum-known-t : tie.Need-enum-known-t
 enum-known-t c = search needs
 
--- src/lib.rt:367:17
 returns-2 : tie.Need-returns-2
 returns-2 c =
     let the-entering = c .before .before .before .before .before .entering in
@@ -49,22 +42,18 @@ returns-2 c =
     let the-if2 = c .if2 in
     (member-class _ _ _ _ _ _ _ (the-entering .ensures .0 ∙ the-t .given .1) (the-if2 .taken), tt)
 
--- src/lib.rt:369:16
 in-order-requires : tie.Need-in-order-requires
 in-order-requires c κs = search needs
 
--- src/lib.rt:370:39
 less-requires : tie.Need-less-requires
 less-requires c κs = search needs
 
--- src/lib.rt:370:17
 ruled-requires : tie.Need-ruled-requires
 ruled-requires c κs =
     let the-entering = c .before .before .before .before .before .before .before .before .entering in
     let the-t = c .before .before .before .before .before .before .t in
     subst (Onward _ _) (the-t .given .1) (the-entering .ensures .1)
 
--- src/lib.rt:370:17
 returns-3 : tie.Need-returns-3
 returns-3 c =
     let the-entering = c .before .before .before .before .before .before .before .before .before .entering in
@@ -79,14 +68,12 @@ returns-3 c =
       the-ruled .ensures .1,
     )
 
--- src/lib.rt:345:1
 returns-4 : tie.Need-returns-4
 returns-4 c =
     let the-entering = c .before .before .before .entering in
     let the-e = c .before .e in
     (member-no _ _ _ _ _ _ _ (the-entering .ensures .0 ∙ the-e .given .1), tt)
 
--- src/lib.rt:345:1
 returns-5 : tie.Need-returns-5
 returns-5 c =
     let the-entering = c .before .before .before .before .before .entering in
@@ -97,7 +84,6 @@ returns-5 c =
       subst (Onward _ _) (the-next .given .1) (the-entering .ensures .1),
     )
 
--- src/lib.rt:345:1
 returns-6 : tie.Need-returns-6
 returns-6 c =
     let the-entering = c .before .before .before .before .before .before .before .entering in

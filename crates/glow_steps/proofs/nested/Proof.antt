@@ -7,21 +7,17 @@ use Rattle.glow_steps.proofs.nested.Reads as reads
 use Rattle.glow_steps.proofs.nested.Lts as lts
 use Rattle.ber_containers.proofs.short.Reads as short-reads
 
--- src/lib.rt:326:14
 add-at : tie.Need-add-at
 add-at c =
     let the-Start = c .before in
     omega (arith, the-Start .pre .1 .inside)
 
--- src/lib.rt:328:12
 short-requires : tie.Need-short-requires
 short-requires c κs = search needs
 
--- src/lib.rt:329:13
 returns : tie.Need-returns
 returns c = λ h. absurd (omega arith)
 
--- src/lib.rt:331:9
 returns-2 : tie.Need-returns-2
 returns-2 c =
     let the-Start = c .before .before .before .before in
@@ -30,30 +26,24 @@ returns-2 c =
     let the-if2 = c .if2 in
     λ h. nested-open _ _ _ (the-Start .pre .1) (the-short .ensures (omega (arith, the-if2 .left))) (the-if1 .taken) (the-if2 .left)
 
--- src/lib.rt:333:38
 add-short : tie.Need-add-short
 add-short c =
     let the-Start = c .before .before in
     let the-if1 = c .if1 in
     omega (arith, the-Start .pre .1 .fits (omega (arith, the-Start .pre .0, the-if1 .left)))
 
--- src/lib.rt:333:9
 short-requires-2 : tie.Need-short-requires-2
 short-requires-2 c κs = search needs
 
--- src/lib.rt:335:9
 returns-3 : tie.Need-returns-3
 returns-3 c = λ h. absurd (omega arith)
 
--- src/lib.rt:337:8
 add-if4 : tie.Need-add-if4
 add-if4 c = search needs
 
--- src/lib.rt:338:9
 returns-4 : tie.Need-returns-4
 returns-4 c = λ h. absurd (omega arith)
 
--- src/lib.rt:322:1
 returns-5 : tie.Need-returns-5
 returns-5 c =
     let the-Start = c .before .before .before .before .before in

@@ -12,42 +12,33 @@ use Rattle.glow_steps.proofs.is_again.Reads as is-again-reads
 use Rattle.glow_steps.proofs.wide.Reads as wide-reads
 use Rattle.glow_grammar.proofs.rule_of.Reads as rule-of-reads
 
--- src/lib.rt:267:9
 returns : tie.Need-returns
 returns c = λ h. absurd (h refl)
 
--- src/lib.rt:269:9
 wide-requires : tie.Need-wide-requires
 wide-requires c κs = search needs
 
--- src/lib.rt:270:9
 rule-of-requires : tie.Need-rule-of-requires
 rule-of-requires c κs = search needs
 
--- src/lib.rt:272:9
 returns-2 : tie.Need-returns-2
 returns-2 c = λ h. absurd (h refl)
 
--- src/lib.rt:274:9
 in-order-requires : tie.Need-in-order-requires
 in-order-requires c κs = search needs
 
--- src/lib.rt:275:9
 returns-3 : tie.Need-returns-3
 returns-3 c = λ h. absurd (h refl)
 
--- src/lib.rt:277:8
 is-again-requires : tie.Need-is-again-requires
 is-again-requires c κs =
     let the-rule-of = c .before .before .before .rule-of in
     let the-if2 = c .before .before .if2 in
     rule-small _ _ (λ e. the-if2 .left (sym (the-rule-of .ensures) ∙ e))
 
--- src/lib.rt:278:9
 returns-4 : tie.Need-returns-4
 returns-4 c = λ h. absurd (h refl)
 
--- src/lib.rt:263:1
 returns-5 : tie.Need-returns-5
 returns-5 c =
     let the-if1 = c .before .before .before .before .before .before .before .if1 in

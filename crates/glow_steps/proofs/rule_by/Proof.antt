@@ -7,19 +7,15 @@ use Rattle.glow_steps.proofs.rule_by.Lts as lts
 use Rattle.glow_steps.proofs.next_rule.Reads as next-rule-reads
 use Rattle.glow_steps.proofs.suits.Reads as suits-reads
 
--- src/lib.rt:306:9
 next-rule-requires : tie.Need-next-rule-requires
 next-rule-requires c κs = search needs
 
--- src/lib.rt:308:9
 returns : tie.Need-returns
 returns c = λ h. absurd (h refl)
 
--- src/lib.rt:310:8
 suits-requires : tie.Need-suits-requires
 suits-requires c κs = search needs
 
--- src/lib.rt:311:9
 returns-2 : tie.Need-returns-2
 returns-2 c =
     let the-next-rule = c .before .before .before .next-rule in
@@ -28,7 +24,6 @@ returns-2 c =
     let the-if2 = c .if2 in
     λ h. (the-next-rule .ensures (the-if1 .left), the-suits .ensures (the-if2 .taken))
 
--- src/lib.rt:303:1
 returns-3 : tie.Need-returns-3
 returns-3 c = λ h. absurd (h refl)
 

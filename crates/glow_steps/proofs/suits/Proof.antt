@@ -8,24 +8,20 @@ use Rattle.glow_steps.proofs.suits.Tie as tie
 use Rattle.glow_steps.proofs.suits.Reads as reads
 use Rattle.glow_steps.proofs.suits.Lts as lts
 
--- src/lib.rt:289:13
 returns : tie.Need-returns
 returns c =
     let the-if1 = c .before .if1 in
     let the-if2 = c .if2 in
     λ e. suits-plain _ _ _ (the-if1 .taken) (the-if2 .taken) (ltb-true _ _ e)
 
--- src/lib.rt:291:9
 returns-2 : tie.Need-returns-2
 returns-2 c = λ e. search needs
 
--- src/lib.rt:294:9
 returns-3 : tie.Need-returns-3
 returns-3 c =
     let the-if3 = c .if3 in
     λ e. suits-body _ _ _ (the-if3 .taken) (eqb-true _ _ e)
 
--- src/lib.rt:297:9
 returns-4 : tie.Need-returns-4
 returns-4 c =
     let the-if1 = c .before .before .if1 in
@@ -33,7 +29,6 @@ returns-4 c =
     let the-if4 = c .if4 in
     λ e. suits-list _ _ _ (the-if1 .left) (the-if3 .left) (eqb-true _ _ e ∙ rw (eq-eqb _ _ (the-if4 .taken)))
 
--- src/lib.rt:284:1
 returns-5 : tie.Need-returns-5
 returns-5 c =
     let the-if1 = c .before .before .if1 in

@@ -4,13 +4,11 @@ use Rattle.glow_trees.proofs.is_root.Tie as tie
 use Rattle.glow_trees.proofs.is_root.Reads as reads
 use Rattle.glow_trees.proofs.is_root.Lts as lts
 
--- src/lib.rt:10:9
 returns : tie.Need-returns
 returns c =
     let the-if1 = c .if1 in
     root-zero _ (the-if1 .taken)
 
--- src/lib.rt:6:1
 returns-2 : tie.Need-returns-2
 returns-2 c =
     let the-if1 = c .if1 in

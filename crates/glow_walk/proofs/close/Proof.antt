@@ -12,19 +12,15 @@ use Rattle.glow_walk.proofs.close.Lts as lts
 use Rattle.ber_containers.proofs.last.Reads as last-reads
 use Rattle.ber_containers.proofs.shut.Reads as shut-reads
 
--- src/lib.rt:80:25
 enum-known-w : tie.Need-enum-known-w
 enum-known-w c = search needs
 
--- src/lib.rt:81:22
 enum-known-w-2 : tie.Need-enum-known-w-2
 enum-known-w-2 c = search needs
 
--- src/lib.rt:82:17
 shut-requires : tie.Need-shut-requires
 shut-requires c κs = search needs
 
--- src/lib.rt:84:17
 returns : tie.Need-returns
 returns c =
     let the-w2 = c .before .before .before .w2 in
@@ -37,25 +33,20 @@ returns c =
           (omega (arith, x .0, z .1), (omega (arith, x .1 .0, z .1), x .1 .1)),
     )
 
--- src/lib.rt:86:19
 last-requires : tie.Need-last-requires
 last-requires c κs = search needs
 
--- src/lib.rt:87:31
 enum-known-e : tie.Need-enum-known-e
 enum-known-e c = search needs
 
--- src/lib.rt:88:28
 enum-known-q : tie.Need-enum-known-q
 enum-known-q c = search needs
 
--- src/lib.rt:75:1
 returns-2 : tie.Need-returns-2
 returns-2 c =
     let the-w = c .before .w in
     (λ a n h. close-no _ _ _ a n h (the-w .given .1), λ p n h. tt)
 
--- src/lib.rt:75:1
 returns-3 : tie.Need-returns-3
 returns-3 c =
     let the-w2 = c .before .before .before .before .before .before .before .w2 in
@@ -63,7 +54,6 @@ returns-3 c =
     let the-e = c .before .e in
     (λ a n h. close-more _ _ _ a n h (the-w2 .given .1) (the-last .ensures .0 ∙ the-e .given .1), λ p n h. tt)
 
--- src/lib.rt:75:1
 returns-4 : tie.Need-returns-4
 returns-4 c =
     let the-w2 = c .before .before .before .before .before .before .before .w2 in

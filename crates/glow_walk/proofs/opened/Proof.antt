@@ -6,7 +6,6 @@ use Rattle.glow_walk.proofs.opened.Tie as tie
 use Rattle.glow_walk.proofs.opened.Reads as reads
 use Rattle.glow_walk.proofs.opened.Lts as lts
 
--- src/lib.rt:50:18
 add-t5 : tie.Need-add-t5
 add-t5 c =
     let the-Start = c .before in
@@ -14,13 +13,11 @@ add-t5 c =
     let q = the-Start .pre (the-if1 .taken) in
     omega arith
 
--- src/lib.rt:48:9
 returns : tie.Need-returns
 returns c =
     let the-if1 = c .if1 in
     opened-definite _ _ _ (the-if1 .taken)
 
--- src/lib.rt:43:1
 returns-2 : tie.Need-returns-2
 returns-2 c =
     let the-if1 = c .if1 in

@@ -7,17 +7,14 @@ use Rattle.glow_walk.proofs.worded.Reads as reads
 use Rattle.glow_walk.proofs.worded.Lts as lts
 use Rattle.glow_walk.proofs.word.Reads as word-reads
 
--- src/lib.rt:61:9
 returns : tie.Need-returns
 returns c =
     let the-if1 = c .if1 in
     cell-short _ _ _ (the-if1 .taken)
 
--- src/lib.rt:70:17
 word-requires : tie.Need-word-requires
 word-requires c κs = search needs
 
--- src/lib.rt:57:1
 returns-2 : tie.Need-returns-2
 returns-2 c =
     let the-if1 = c .before .if1 in

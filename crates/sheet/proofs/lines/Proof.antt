@@ -9,23 +9,18 @@ use Rattle.sheet.proofs.lines.Lts as lts
 use Rattle.program_lines.proofs.print.say.Reads as say-reads
 use Rattle.sheet.proofs.number.Reads as number-reads
 
--- src/main.rt:16:5
 number-requires : tie.Need-number-requires
 number-requires c κs = search needs
 
--- src/main.rt:18:20
 slice-aggregate-say : tie.Need-slice-aggregate-say
 slice-aggregate-say c = sym (length-take-le _ _ (omega arith))
 
--- src/main.rt:18:9
 say-requires : tie.Need-say-requires
 say-requires c κs = search needs
 
--- src/main.rt:15:1
 returns : tie.Need-returns
 returns c = search needs
 
--- src/main.rt:15:1
 returns-2 : tie.Need-returns-2
 returns-2 c = search needs
 

@@ -9,43 +9,33 @@ use Rattle.sheet.proofs.take.Lts as lts
 use Rattle.program_lines.proofs.print.say.Reads as say-reads
 use Rattle.sheet.proofs.read.Reads as read-reads
 
--- src/main.rt:64:20
 slice-aggregate-say : tie.Need-slice-aggregate-say
 slice-aggregate-say c = search needs
 
--- src/main.rt:64:9
 say-requires : tie.Need-say-requires
 say-requires c κs = search needs
 
--- src/main.rt:65:9
 returns : tie.Need-returns
 returns c = search needs
 
--- src/main.rt:68:14
 slice-aggregate-read : tie.Need-slice-aggregate-read
 slice-aggregate-read c = sym (length-take-le _ _ (omega arith))
 
--- src/main.rt:68:9
 read-requires : tie.Need-read-requires
 read-requires c κs = search needs
 
--- src/main.rt:55:1
 same-length : tie.Need-same-length
 same-length c = search needs
 
--- src/main.rt:55:1
 same-length-2 : tie.Need-same-length-2
 same-length-2 c = search needs
 
--- src/main.rt:55:1
 same-length-3 : tie.Need-same-length-3
 same-length-3 c = search needs
 
--- src/main.rt:55:1
 returns-2 : tie.Need-returns-2
 returns-2 c = search needs
 
--- src/main.rt:55:1
 returns-3 : tie.Need-returns-3
 returns-3 c = search needs
 

@@ -16,7 +16,6 @@ Inv-loop answers j₀ j = firstRefused answers ≡ firstRefused (drop j answers)
 abbrev μ-loop : tie.MeasureT-loop
 μ-loop answers j₀ j = length answers - j
 
--- src/lib.rt:149:5
 loop-holds : tie.Need-loop-holds Inv-loop μ-loop
 loop-holds c = refl
 
@@ -37,15 +36,12 @@ returns c =
     let the-word = c .word in
     the-loop .inv ∙ refused-one _ _ (the-loop-test .taken) (the-if1 .taken) ∙ sym (the-word .ensures)
 
--- src/lib.rt:154:9
 add-j : tie.Need-add-j Inv-loop μ-loop
 add-j c = omega arith
 
--- src/lib.rt:149:5
 loop-less : tie.Need-loop-less Inv-loop μ-loop
 loop-less c = omega arith
 
--- src/lib.rt:149:5
 loop-again : tie.Need-loop-again Inv-loop μ-loop
 loop-again c =
     let the-loop = c .before .before .before .loop in
@@ -53,7 +49,6 @@ loop-again c =
     let the-if1 = c .if1 in
     the-loop .inv ∙ refused-more _ _ (the-loop-test .taken) (the-if1 .left)
 
--- src/lib.rt:145:1
 returns-2 : tie.Need-returns-2 Inv-loop μ-loop
 returns-2 c =
     let the-loop = c .before .loop in

@@ -10,50 +10,40 @@ use Rattle.sheet_reader.proofs.of_message.Reads as of-message-reads
 use Rattle.sheet_stream.proofs.find_message.Reads as find-message-reads
 use Rattle.turns.proofs.front.Reads as front-reads
 
--- src/lib.rt:297:9
 returns : tie.Need-returns
 returns c =
     let the-if1 = c .if1 in
     setup-path 64 _ _ _ _ (the-if1 .taken)
 
--- src/lib.rt:300:9
 returns-2 : tie.Need-returns-2
 returns-2 c =
     let the-if1 = c .before .if1 in
     let the-if2 = c .if2 in
     setup-cells 64 _ _ _ _ (the-if1 .left) (the-if2 .taken)
 
--- src/lib.rt:302:11
 find-message-requires : tie.Need-find-message-requires
 find-message-requires c κs = search needs
 
--- src/lib.rt:303:25
 enum-told : tie.Need-enum-told
 enum-told c = search needs
 
--- src/lib.rt:304:26
 enum-known-number : tie.Need-enum-known-number
 enum-known-number c = search needs
 
--- src/lib.rt:305:26
 enum-known-length : tie.Need-enum-known-length
 enum-known-length c = search needs
 
--- src/lib.rt:306:17
 front-requires : tie.Need-front-requires
 front-requires c κs = search needs
 
--- src/lib.rt:307:24
 slice-reshare-prefix-of-message : tie.Need-slice-reshare-prefix-of-message
 slice-reshare-prefix-of-message c = search needs
 
--- src/lib.rt:307:24
 slice-aggregate-of-message : tie.Need-slice-aggregate-of-message
 slice-aggregate-of-message c =
     let the-front = c .before .front in
     sym (length-take-le _ _ (the-front .ensures .1))
 
--- src/lib.rt:307:13
 of-message-requires : tie.Need-of-message-requires
 of-message-requires c κs =
     let the-Start = c .before .before .before .before .before .before .before .before .before .before .before .before .before .before .before .before .before .before in
@@ -67,11 +57,9 @@ of-message-requires c κs =
     _ _ (the-find-message .ensures) _ (the-length .given .1) (the-front .result) (the-front .ensures .0) in
     (short, (the-if1 .left, the-if2 .left))
 
--- src/lib.rt:292:1
 same-length : tie.Need-same-length
 same-length c = search needs
 
--- src/lib.rt:292:1
 returns-3 : tie.Need-returns-3
 returns-3 c =
     let the-if1 = c .before .before .before .before .before .before .before .if1 in
@@ -80,11 +68,9 @@ returns-3 c =
     let the-enum-told = c .enum-told in
     found-setup 64 _ _ _ _ (the-if1 .left) (the-if2 .left) _ _ (the-find-message .ensures) (the-enum-told .given .1)
 
--- src/lib.rt:292:1
 same-length-2 : tie.Need-same-length-2
 same-length-2 c = search needs
 
--- src/lib.rt:292:1
 returns-4 : tie.Need-returns-4
 returns-4 c =
     let the-if1 = c .before .before .before .before .before .before .before .before .if1 in
@@ -93,19 +79,15 @@ returns-4 c =
     let the-number = c .before .number in
     found-refused 64 _ _ _ _ (the-if1 .left) (the-if2 .left) _ _ (the-find-message .ensures) _ (the-number .given .1)
 
--- src/lib.rt:292:1
 same-length-3 : tie.Need-same-length-3
 same-length-3 c = search needs
 
--- src/lib.rt:292:1
 same-length-4 : tie.Need-same-length-4
 same-length-4 c = search needs
 
--- src/lib.rt:292:1
 same-length-5 : tie.Need-same-length-5
 same-length-5 c = search needs
 
--- src/lib.rt:292:1
 returns-5 : tie.Need-returns-5
 returns-5 c =
     let the-Start = c .before .before .before .before .before .before .before .before .before .before .before .before .before .before .before .before .before .before .before .before .before .before .before in

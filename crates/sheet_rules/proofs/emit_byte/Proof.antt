@@ -10,31 +10,24 @@ use Rattle.sheet_rules.proofs.emit_byte.Lts as lts
 use Rattle.sheet_rules.proofs.emit.Reads as emit-reads
 use Rattle.sheet_rules.proofs.glyph.Reads as glyph-reads
 
--- src/lib.rt:40:31
 glyph-requires : tie.Need-glyph-requires
 glyph-requires c κs = omega arith
 
--- src/lib.rt:40:9
 emit-requires : tie.Need-emit-requires
 emit-requires c κs = omega arith
 
--- src/lib.rt:41:35
 glyph-requires-2 : tie.Need-glyph-requires-2
 glyph-requires-2 c κs = omega arith
 
--- src/lib.rt:41:9
 emit-requires-2 : tie.Need-emit-requires-2
 emit-requires-2 c κs = omega arith
 
--- src/lib.rt:43:9
 emit-requires-3 : tie.Need-emit-requires-3
 emit-requires-3 c κs = omega arith
 
--- src/lib.rt:43:9
 same-length : tie.Need-same-length
 same-length c = search needs
 
--- src/lib.rt:43:9
 returns : tie.Need-returns
 returns c =
     let the-glyph = c .before .before .before .before .before .before .before .before .before .before .before .before .before .glyph in
@@ -46,11 +39,9 @@ returns c =
     let e = wrote-then _ _ _ _ (the-emit .ensures .0) ∙ wrote-then _ _ _ _ (the-emit2 .ensures .0) ∙ the-emit3 .ensures .0 in
     (rw (broken-last _ (the-if1 .taken), sym (the-glyph .ensures), sym (the-glyph2 .ensures)) e, omega arith)
 
--- src/lib.rt:35:1
 same-length-2 : tie.Need-same-length-2
 same-length-2 c = search needs
 
--- src/lib.rt:35:1
 returns-2 : tie.Need-returns-2
 returns-2 c =
     let the-glyph = c .before .before .before .before .before .before .before .before .before .glyph in

@@ -6,11 +6,9 @@ use Rattle.sheet_rules.proofs.step_line.Reads as reads
 use Rattle.sheet_rules.proofs.step_line.Lts as lts
 use Rattle.sheet_rules.proofs.digit.Reads as digit-reads
 
--- src/lib.rt:106:9
 digit-requires : tie.Need-digit-requires
 digit-requires c κs = search needs
 
--- src/lib.rt:109:13
 returns : tie.Need-returns
 returns c =
     let the-digit = c .before .before .digit in
@@ -18,7 +16,6 @@ returns c =
     let the-if2 = c .if2 in
     step-end _ _ _ (the-digit .ensures) (the-if1 .taken) (the-if2 .taken)
 
--- src/lib.rt:112:13
 returns-2 : tie.Need-returns-2
 returns-2 c =
     let the-digit = c .before .before .before .digit in
@@ -27,7 +24,6 @@ returns-2 c =
     let the-if3 = c .if3 in
     step-bad _ _ _ (the-digit .ensures) (the-if1 .taken) (the-if2 .left) (the-if3 .taken)
 
--- src/lib.rt:114:9
 returns-3 : tie.Need-returns-3
 returns-3 c =
     let the-digit = c .before .before .before .digit in
@@ -36,7 +32,6 @@ returns-3 c =
     let the-if3 = c .if3 in
     step-first _ _ _ (the-digit .ensures) (the-if1 .taken) (the-if2 .left) (the-if3 .left)
 
--- src/lib.rt:117:9
 returns-4 : tie.Need-returns-4
 returns-4 c =
     let the-digit = c .before .before .digit in
@@ -44,7 +39,6 @@ returns-4 c =
     let the-if4 = c .if4 in
     step-no _ _ _ (the-digit .ensures) (the-if1 .left) (the-if4 .taken)
 
--- src/lib.rt:120:9
 returns-5 : tie.Need-returns-5
 returns-5 c =
     let the-digit = c .before .before .before .digit in
@@ -53,7 +47,6 @@ returns-5 c =
     let the-if5 = c .if5 in
     step-fresh _ _ _ (the-digit .ensures) (the-if1 .left) (the-if4 .left) (the-if5 .taken)
 
--- src/lib.rt:103:1
 returns-6 : tie.Need-returns-6
 returns-6 c =
     let the-digit = c .before .before .before .digit in

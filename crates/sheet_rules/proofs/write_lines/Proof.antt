@@ -8,29 +8,23 @@ use Rattle.sheet_rules.proofs.write_lines.Reads as reads
 use Rattle.sheet_rules.proofs.write_lines.Lts as lts
 use Rattle.sheet_rules.proofs.emit_lines.Reads as emit-lines-reads
 
--- src/lib.rt:67:9
 returns : tie.Need-returns
 returns c =
     let the-if1 = c .if1 in
     limited-over _ _ _ _ (the-if1 .taken)
 
--- src/lib.rt:69:29
 slice-relend-prefix-emit-lines : tie.Need-slice-relend-prefix-emit-lines
 slice-relend-prefix-emit-lines c = search needs
 
--- src/lib.rt:69:29
 slice-aggregate-emit-lines : tie.Need-slice-aggregate-emit-lines
 slice-aggregate-emit-lines c = search needs
 
--- src/lib.rt:69:9
 emit-lines-requires : tie.Need-emit-lines-requires
 emit-lines-requires c κs = omega arith
 
--- src/lib.rt:71:9
 same-length : tie.Need-same-length
 same-length c = search needs
 
--- src/lib.rt:71:9
 returns-2 : tie.Need-returns-2
 returns-2 c =
     let the-if1 = c .before .before .before .before .before .if1 in
@@ -38,15 +32,12 @@ returns-2 c =
     let the-if2 = c .if2 in
     limited-fits _ _ _ _ (the-if1 .left) ∙ into-short _ _ (the-emit-lines .ensures .0) (the-if2 .taken)
 
--- src/lib.rt:73:5
 emit-lines-requires-2 : tie.Need-emit-lines-requires-2
 emit-lines-requires-2 c κs = omega arith
 
--- src/lib.rt:63:1
 same-length-2 : tie.Need-same-length-2
 same-length-2 c = search needs
 
--- src/lib.rt:63:1
 returns-3 : tie.Need-returns-3
 returns-3 c =
     let the-if1 = c .before .before .before .before .before .before .before .before .before .if1 in

@@ -2,13 +2,11 @@ use borrow.Author.Tests.{eq-eqb, ne-eqb}
 use Rattle.sheet_stream.proofs.another.Statement.{statement}
 use Rattle.sheet_stream.proofs.another.Tie as tie
 
--- src/lib.rt:67:1
 returns : tie.Need-returns
 returns c =
     let the-if1 = c .if1 in
     simp (eq-eqb _ _ (the-if1 .taken))
 
--- src/lib.rt:67:1
 returns-2 : tie.Need-returns-2
 returns-2 c =
     let the-if1 = c .if1 in

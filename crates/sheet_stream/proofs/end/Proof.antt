@@ -5,18 +5,15 @@ use borrow.Author.Needs.{needs}
 use Rattle.sheet_stream.proofs.end.Statement.{statement}
 use Rattle.sheet_stream.proofs.end.Tie as tie
 
--- src/lib.rt:146:9
 returns : tie.Need-returns
 returns c =
     let the-Start = c .before .before .before in
     let the-if1 = c .if1 in
     λ t. ap (λ x. holds x t) (left-refused (the-Start .args .tally) t _ (the-if1 .taken))
 
--- src/lib.rt:150:8
 is-open-requires : tie.Need-is-open-requires
 is-open-requires c κs = search needs
 
--- src/lib.rt:151:9
 returns-2 : tie.Need-returns-2
 returns-2 c =
     let the-Start = c .before .before .before .before .before in
@@ -25,7 +22,6 @@ returns-2 c =
     let the-if2 = c .if2 in
     λ t. ap (λ x. holds x t) (left-open (the-Start .args .tally) t (the-if1 .left) (the-is-open .ensures ∙ the-if2 .taken))
 
--- src/lib.rt:154:9
 returns-3 : tie.Need-returns-3
 returns-3 c =
     let the-Start = c .before .before .before .before .before .before .before in
@@ -35,7 +31,6 @@ returns-3 c =
     let the-if3 = c .if3 in
     λ t. ap (λ x. holds x t) (left-one (the-Start .args .tally) t (the-if1 .left) (the-is-open .ensures ∙ the-if2 .left) (the-if3 .taken))
 
--- src/lib.rt:141:1
 returns-4 : tie.Need-returns-4
 returns-4 c =
     let the-Start = c .before .before .before .before .before .before .before in

@@ -4,17 +4,14 @@ use borrow.Author.Needs.{needs}
 use Rattle.sheet_stream.proofs.find_message.Statement.{statement}
 use Rattle.sheet_stream.proofs.find_message.Tie as tie
 
--- src/lib.rt:166:9
 returns : tie.Need-returns
 returns c =
     let the-if1 = c .if1 in
     finds-setup _ _ (the-if1 .taken)
 
--- src/lib.rt:168:8
 has-bad-line-requires : tie.Need-has-bad-line-requires
 has-bad-line-requires c κs = search needs
 
--- src/lib.rt:169:9
 returns-2 : tie.Need-returns-2
 returns-2 c =
     let the-if1 = c .before .before .if1 in
@@ -22,19 +19,15 @@ returns-2 c =
     let the-if2 = c .if2 in
     finds-bad _ _ (the-if1 .left) (the-has-bad-line .ensures ∙ the-if2 .taken)
 
--- src/lib.rt:171:9
 take-text-requires : tie.Need-take-text-requires
 take-text-requires c κs = search needs
 
--- src/lib.rt:172:5
 end-requires : tie.Need-end-requires
 end-requires c κs = search needs
 
--- src/lib.rt:162:1
 same-length : tie.Need-same-length
 same-length c = search needs
 
--- src/lib.rt:162:1
 returns-3 : tie.Need-returns-3
 returns-3 c =
     let the-if1 = c .before .before .before .before .before .before .before .if1 in

@@ -4,23 +4,18 @@ use borrow.Author.Needs.{needs}
 use Rattle.sheet_stream.proofs.take_byte.Statement.{statement}
 use Rattle.sheet_stream.proofs.take_byte.Tie as tie
 
--- src/lib.rt:80:44
 slice-aggregate-feed : tie.Need-slice-aggregate-feed
 slice-aggregate-feed c = search needs
 
--- src/lib.rt:80:9
 feed-requires : tie.Need-feed-requires
 feed-requires c κs = search needs
 
--- src/lib.rt:83:9
 number-requires : tie.Need-number-requires
 number-requires c κs = search needs
 
--- src/lib.rt:85:9
 same-length : tie.Need-same-length
 same-length c = search needs
 
--- src/lib.rt:85:9
 returns : tie.Need-returns
 returns c =
     let the-Start = c .before .before .before .before .before .before .before .before .before .before in
@@ -29,15 +24,12 @@ returns c =
     let the-if1 = c .if1 in
     taken-high (the-Start .args .tally) _ _ (search needs) (search needs) (the-feed .result) _ (the-feed .ensures) _ (the-number .ensures) (omega arith)
 
--- src/lib.rt:92:26
 enum-known-event : tie.Need-enum-known-event
 enum-known-event c = search needs
 
--- src/lib.rt:93:9
 same-length-2 : tie.Need-same-length-2
 same-length-2 c = search needs
 
--- src/lib.rt:93:9
 returns-2 : tie.Need-returns-2
 returns-2 c =
     let the-Start = c .before .before .before .before .before .before .before .before .before .before .before in
@@ -45,15 +37,12 @@ returns-2 c =
     let the-match = c .match in
     taken-on (the-Start .args .tally) _ _ (search needs) (search needs) (the-feed .result) _ (the-feed .ensures) (omega arith) (no-message (the-feed .result .event) (the-match .keys2) (omega arith))
 
--- src/lib.rt:102:19
 another-requires : tie.Need-another-requires
 another-requires c κs = search needs
 
--- src/lib.rt:74:1
 same-length-3 : tie.Need-same-length-3
 same-length-3 c = search needs
 
--- src/lib.rt:74:1
 returns-3 : tie.Need-returns-3
 returns-3 c =
     let the-Start = c .before .before .before .before .before .before .before .before .before .before .before .before .before .before in

@@ -17,33 +17,26 @@ Inv-loop text store₀ tally₀ first₀ i₀ store tally first i =
 abbrev μ-loop : tie.MeasureT-loop
 μ-loop text store₀ tally₀ first₀ i₀ store tally first i = length text - i
 
--- src/lib.rt:114:18
 start-requires : tie.Need-start-requires Inv-loop μ-loop
 start-requires c κs = search needs
 
--- src/lib.rt:121:5
 loop-holds : tie.Need-loop-holds Inv-loop μ-loop
 loop-holds c =
     let the-start = c .start in
     (omega arith, (omega arith, (refl, (sound-start _ _ (the-start .ensures) (search needs), (refl, goes-start _ _ _ (the-start .ensures))))))
 
--- src/lib.rt:122:31
 shared-slice-read-digit : tie.Need-shared-slice-read-digit Inv-loop μ-loop
 shared-slice-read-digit c = omega arith
 
--- src/lib.rt:122:13
 digit-requires : tie.Need-digit-requires Inv-loop μ-loop
 digit-requires c κs = search needs
 
--- src/lib.rt:123:9
 add-i : tie.Need-add-i Inv-loop μ-loop
 add-i c = omega arith
 
--- src/lib.rt:121:5
 loop-less : tie.Need-loop-less Inv-loop μ-loop
 loop-less c = omega arith
 
--- src/lib.rt:121:5
 loop-again : tie.Need-loop-again Inv-loop μ-loop
 loop-again c =
     let the-loop = c .before .before .before .before .loop in
@@ -52,11 +45,9 @@ loop-again c =
     let the-if1 = c .if1 in
     (omega arith, (the-loop .inv .1 .0, (the-loop .inv .1 .1 .0, (the-loop .inv .1 .1 .1 .0, (the-loop .inv .1 .1 .1 .1 .0, goes-as (the-loop .inv .1 .1 .1 .1 .1) (bytes-over _ _ _ _ (the-loop-test .taken) (the-digit .ensures) (the-if1 .taken)))))))
 
--- src/lib.rt:121:5
 loop-less-2 : tie.Need-loop-less-2 Inv-loop μ-loop
 loop-less-2 c = omega arith
 
--- src/lib.rt:121:5
 loop-again-2 : tie.Need-loop-again-2 Inv-loop μ-loop
 loop-again-2 c =
     let the-loop = c .before .before .before .before .before .loop in
@@ -66,25 +57,20 @@ loop-again-2 c =
     let the-if2 = c .if2 in
     (omega arith, (subst (λ x. x ≤ 16) (the-digit .ensures) (digit-small _), (the-loop .inv .1 .1 .0, (the-loop .inv .1 .1 .1 .0, (the-loop .inv .1 .1 .1 .1 .0, goes-as (the-loop .inv .1 .1 .1 .1 .1) (bytes-first _ _ _ _ (the-loop-test .taken) (the-digit .ensures) (the-if1 .left) (the-if2 .taken)))))))
 
--- src/lib.rt:131:41
 mul-take-byte : tie.Need-mul-take-byte Inv-loop μ-loop
 mul-take-byte c = search needs
 
--- src/lib.rt:131:41
 add-take-byte : tie.Need-add-take-byte Inv-loop μ-loop
 add-take-byte c =
     let the-digit = c .before .before .before .digit in
     let k = subst (λ x. x ≤ 16) (the-digit .ensures) (digit-small _) in omega (arith, k)
 
--- src/lib.rt:131:9
 take-byte-requires : tie.Need-take-byte-requires Inv-loop μ-loop
 take-byte-requires c κs = search needs
 
--- src/lib.rt:133:13
 same-length : tie.Need-same-length Inv-loop μ-loop
 same-length c = omega arith
 
--- src/lib.rt:133:13
 returns : tie.Need-returns Inv-loop μ-loop
 returns c =
     let the-loop = c .before .before .before .before .before .before .before .before .before .before .before .loop in
@@ -97,11 +83,9 @@ returns c =
     goes-refused (goes-byte (goes-as (the-loop .inv .1 .1 .1 .1 .1) (bytes-pair _ _ _ _ (the-loop-test .taken) (the-digit .ensures) (the-if1 .left) (the-if2 .left)))
     (the-take-byte .ensures)) (the-if3 .taken)
 
--- src/lib.rt:121:5
 loop-less-3 : tie.Need-loop-less-3 Inv-loop μ-loop
 loop-less-3 c = omega arith
 
--- src/lib.rt:121:5
 loop-again-3 : tie.Need-loop-again-3 Inv-loop μ-loop
 loop-again-3 c =
     let the-loop = c .before .before .before .before .before .before .before .before .before .before .before .loop in
@@ -128,11 +112,9 @@ loop-again-3 c =
       ),
     )
 
--- src/lib.rt:109:1
 same-length-2 : tie.Need-same-length-2 Inv-loop μ-loop
 same-length-2 c = omega arith
 
--- src/lib.rt:109:1
 returns-2 : tie.Need-returns-2 Inv-loop μ-loop
 returns-2 c =
     let the-loop = c .before .loop in

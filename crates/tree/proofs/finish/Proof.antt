@@ -9,39 +9,30 @@ use Rattle.tree.proofs.finish.Lts as lts
 use Rattle.program_lines.proofs.print.bad_line.Reads as bad-line-reads
 use Rattle.tree.proofs.answer.Reads as answer-reads
 
--- src/main.rt:139:9
 bad-line-requires : tie.Need-bad-line-requires
 bad-line-requires c κs = search needs
 
--- src/main.rt:140:9
 returns : tie.Need-returns
 returns c = search needs
 
--- src/main.rt:143:16
 slice-aggregate-answer : tie.Need-slice-aggregate-answer
 slice-aggregate-answer c = sym (length-take-le _ _ (omega arith))
 
--- src/main.rt:143:9
 answer-requires : tie.Need-answer-requires
 answer-requires c κs = search needs
 
--- src/main.rt:136:1
 same-length : tie.Need-same-length
 same-length c = search needs
 
--- src/main.rt:136:1
 same-length-2 : tie.Need-same-length-2
 same-length-2 c = search needs
 
--- src/main.rt:136:1
 same-length-3 : tie.Need-same-length-3
 same-length-3 c = search needs
 
--- src/main.rt:136:1
 returns-2 : tie.Need-returns-2
 returns-2 c = search needs
 
--- src/main.rt:136:1
 returns-3 : tie.Need-returns-3
 returns-3 c = search needs
 

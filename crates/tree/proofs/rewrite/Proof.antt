@@ -10,63 +10,48 @@ use Rattle.program_lines.proofs.print.bad_line.Reads as bad-line-reads
 use Rattle.program_lines.proofs.text.octets.Reads as octets-reads
 use Rattle.tree.proofs.write_with.Reads as write-with-reads
 
--- src/main.rt:96:28
 octets-requires : tie.Need-octets-requires
 octets-requires c κs = search needs
 
--- src/main.rt:96:21
 enum-known-end : tie.Need-enum-known-end
 enum-known-end c = search needs
 
--- src/main.rt:97:9
 enum-told : tie.Need-enum-told
 enum-told c = search needs
 
--- src/main.rt:97:9
 bad-line-requires : tie.Need-bad-line-requires
 bad-line-requires c κs = search needs
 
--- src/main.rt:98:9
 same-length : tie.Need-same-length
 same-length c = search needs
 
--- src/main.rt:98:9
 returns : tie.Need-returns
 returns c = search needs
 
--- src/main.rt:101:20
 slice-reshare-prefix-write-with : tie.Need-slice-reshare-prefix-write-with
 slice-reshare-prefix-write-with c = search needs
 
--- src/main.rt:101:20
 slice-aggregate-write-with : tie.Need-slice-aggregate-write-with
 slice-aggregate-write-with c = sym (length-take-le _ _ (omega arith))
 
--- src/main.rt:101:9
 write-with-requires : tie.Need-write-with-requires
 write-with-requires c κs = search needs
 
--- src/main.rt:95:1
 same-length-2 : tie.Need-same-length-2
 same-length-2 c = search needs
 
--- src/main.rt:95:1
 same-length-3 : tie.Need-same-length-3
 same-length-3 c = search needs
 
--- src/main.rt:95:1
 same-length-4 : tie.Need-same-length-4
 same-length-4 c = search needs
 
--- src/main.rt:95:1
 returns-2 : tie.Need-returns-2
 returns-2 c = search needs
 
--- src/main.rt:95:1
 same-length-5 : tie.Need-same-length-5
 same-length-5 c = search needs
 
--- src/main.rt:95:1
 returns-3 : tie.Need-returns-3
 returns-3 c = search needs
 

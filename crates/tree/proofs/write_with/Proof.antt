@@ -8,31 +8,24 @@ use Rattle.tree.proofs.write_with.Reads as reads
 use Rattle.tree.proofs.write_with.Lts as lts
 use Rattle.tree.proofs.write.Reads as write-reads
 
--- src/main.rt:79:18
 slice-relend-prefix-write : tie.Need-slice-relend-prefix-write
 slice-relend-prefix-write c = search needs
 
--- src/main.rt:79:18
 slice-aggregate-write : tie.Need-slice-aggregate-write
 slice-aggregate-write c = sym (length-take-le _ _ (omega arith))
 
--- src/main.rt:79:9
 write-requires : tie.Need-write-requires
 write-requires c κs = search needs
 
--- src/main.rt:77:1
 same-length : tie.Need-same-length
 same-length c = search needs
 
--- src/main.rt:77:1
 same-length-2 : tie.Need-same-length-2
 same-length-2 c = search needs
 
--- src/main.rt:77:1
 returns : tie.Need-returns
 returns c = search needs
 
--- src/main.rt:77:1
 returns-2 : tie.Need-returns-2
 returns-2 c = search needs
 

@@ -8,19 +8,15 @@ use Rattle.desk.proofs.route.lines.Reads as reads
 use Rattle.desk.proofs.route.lines.Lts as lts
 use Rattle.program_lines.proofs.print.say.Reads as say-reads
 
--- src/route.rt:8:20
 slice-aggregate-say : tie.Need-slice-aggregate-say
 slice-aggregate-say c = sym (length-take-le _ _ (omega arith))
 
--- src/route.rt:8:9
 say-requires : tie.Need-say-requires
 say-requires c κs = search needs
 
--- src/route.rt:6:1
 returns : tie.Need-returns
 returns c = search needs
 
--- src/route.rt:6:1
 returns-2 : tie.Need-returns-2
 returns-2 c = search needs
 

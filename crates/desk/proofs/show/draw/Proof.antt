@@ -15,39 +15,30 @@ Inv-loop out₀ cells targets sources t₀ out t = length out ≡ length out₀
 abbrev μ-loop : tie.MeasureT-loop
 μ-loop out₀ cells targets sources t₀ out t = targets - t
 
--- src/show.rt:167:5
 heading-requires : tie.Need-heading-requires Inv-loop μ-loop
 heading-requires c κs = search needs
 
--- src/show.rt:168:5
 heading-requires-2 : tie.Need-heading-requires-2 Inv-loop μ-loop
 heading-requires-2 c κs = search needs
 
--- src/show.rt:170:5
 loop-holds : tie.Need-loop-holds Inv-loop μ-loop
 loop-holds c = search needs
 
--- src/show.rt:171:9
 drawn-requires : tie.Need-drawn-requires Inv-loop μ-loop
 drawn-requires c κs = search needs
 
--- src/show.rt:172:13
 add-t : tie.Need-add-t Inv-loop μ-loop
 add-t c = search needs
 
--- src/show.rt:170:5
 loop-less : tie.Need-loop-less Inv-loop μ-loop
 loop-less c = search needs
 
--- src/show.rt:170:5
 loop-again : tie.Need-loop-again Inv-loop μ-loop
 loop-again c = search needs
 
--- src/show.rt:166:1
 same-length : tie.Need-same-length Inv-loop μ-loop
 same-length c = search needs
 
--- src/show.rt:166:1
 returns : tie.Need-returns Inv-loop μ-loop
 returns c = search needs
 

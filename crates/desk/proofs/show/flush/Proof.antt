@@ -9,23 +9,18 @@ use Rattle.desk.proofs.show.flush.Lts as lts
 use Rattle.program_lines.proofs.print.end.Reads as end-reads
 use Rattle.program_lines.proofs.print.say.Reads as say-reads
 
--- src/show.rt:146:17
 add-n : tie.Need-add-n
 add-n c = search needs
 
--- src/show.rt:148:24
 slice-aggregate-say : tie.Need-slice-aggregate-say
 slice-aggregate-say c = sym (length-take-le _ _ (omega arith))
 
--- src/show.rt:148:13
 say-requires : tie.Need-say-requires
 say-requires c κs = search needs
 
--- src/show.rt:151:5
 end-requires : tie.Need-end-requires
 end-requires c κs = search needs
 
--- src/show.rt:144:1
 returns : tie.Need-returns
 returns c = search needs
 

@@ -13,39 +13,30 @@ Inv-loop cells t sources begun₀ s₀ t6 begun s = Unit {0}
 abbrev μ-loop : tie.MeasureT-loop
 μ-loop cells t sources begun₀ s₀ t6 begun s = sources - s
 
--- src/show.rt:48:5
 loop-holds : tie.Need-loop-holds Inv-loop μ-loop
 loop-holds c = search needs
 
--- src/show.rt:49:9
 source-requires : tie.Need-source-requires Inv-loop μ-loop
 source-requires c κs = search needs
 
--- src/show.rt:50:13
 add-s : tie.Need-add-s Inv-loop μ-loop
 add-s c = search needs
 
--- src/show.rt:48:5
 loop-less : tie.Need-loop-less Inv-loop μ-loop
 loop-less c = search needs
 
--- src/show.rt:48:5
 loop-again : tie.Need-loop-again Inv-loop μ-loop
 loop-again c = search needs
 
--- src/show.rt:53:20
 slice-aggregate-say : tie.Need-slice-aggregate-say Inv-loop μ-loop
 slice-aggregate-say c = search needs
 
--- src/show.rt:53:9
 say-requires : tie.Need-say-requires Inv-loop μ-loop
 say-requires c κs = search needs
 
--- src/show.rt:45:1
 returns : tie.Need-returns Inv-loop μ-loop
 returns c = search needs
 
--- src/show.rt:45:1
 returns-2 : tie.Need-returns-2 Inv-loop μ-loop
 returns-2 c = search needs
 

@@ -9,31 +9,24 @@ use Rattle.desk.proofs.stream.first.Lts as lts
 use Rattle.desk.proofs.stream.list.Reads as list-reads
 use Rattle.program_lines.proofs.print.say.Reads as say-reads
 
--- src/stream.rt:34:20
 slice-aggregate-say : tie.Need-slice-aggregate-say
 slice-aggregate-say c = search needs
 
--- src/stream.rt:34:9
 say-requires : tie.Need-say-requires
 say-requires c κs = search needs
 
--- src/stream.rt:35:9
 returns : tie.Need-returns
 returns c = search needs
 
--- src/stream.rt:38:14
 slice-aggregate-list : tie.Need-slice-aggregate-list
 slice-aggregate-list c = sym (length-take-le _ _ (omega arith))
 
--- src/stream.rt:38:9
 list-requires : tie.Need-list-requires
 list-requires c κs = search needs
 
--- src/stream.rt:32:1
 returns-2 : tie.Need-returns-2
 returns-2 c = search needs
 
--- src/stream.rt:32:1
 returns-3 : tie.Need-returns-3
 returns-3 c = search needs
 

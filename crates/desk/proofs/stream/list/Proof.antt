@@ -13,31 +13,24 @@ Inv-loop answers i₀ i = Unit {0}
 abbrev μ-loop : tie.MeasureT-loop
 μ-loop answers i₀ i = length answers - i
 
--- src/stream.rt:26:5
 loop-holds : tie.Need-loop-holds Inv-loop μ-loop
 loop-holds c = search needs
 
--- src/stream.rt:27:13
 shared-slice-read-one : tie.Need-shared-slice-read-one Inv-loop μ-loop
 shared-slice-read-one c = search needs
 
--- src/stream.rt:27:9
 one-requires : tie.Need-one-requires Inv-loop μ-loop
 one-requires c κs = search needs
 
--- src/stream.rt:28:13
 add-i : tie.Need-add-i Inv-loop μ-loop
 add-i c = search needs
 
--- src/stream.rt:26:5
 loop-less : tie.Need-loop-less Inv-loop μ-loop
 loop-less c = search needs
 
--- src/stream.rt:26:5
 loop-again : tie.Need-loop-again Inv-loop μ-loop
 loop-again c = search needs
 
--- src/stream.rt:24:1
 returns : tie.Need-returns Inv-loop μ-loop
 returns c = search needs
 

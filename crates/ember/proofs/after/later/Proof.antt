@@ -8,53 +8,42 @@ use Rattle.ember.proofs.after.make.Reads as make-reads
 use Rattle.ember.proofs.after.refused.Reads as refused-reads
 use Rattle.framing_words.proofs.word.Reads as word-reads
 
--- src/after.rt:47:27
 enum-told : tie.Need-enum-told
 enum-told c = search needs
 
--- src/after.rt:47:27
 make-requires : tie.Need-make-requires
 make-requires c κs = search needs
 
--- src/after.rt:48:26
 enum-known-x : tie.Need-enum-known-x
 enum-known-x c = search needs
 
--- src/after.rt:48:38
 refused-requires : tie.Need-refused-requires
 refused-requires c κs = search needs
 
--- src/after.rt:50:13
 enum-known-x-2 : tie.Need-enum-known-x-2
 enum-known-x-2 c = search needs
 
--- src/after.rt:57:13
 word-requires : tie.Need-word-requires
 word-requires c κs = search needs
 
--- src/after.rt:60:13
 word-requires-2 : tie.Need-word-requires-2
 word-requires-2 c κs = search needs
 
--- src/after.rt:54:14
 make-requires-2 : tie.Need-make-requires-2
 make-requires-2 c κs = search needs
 
--- src/after.rt:43:1
 returns : tie.Need-returns
 returns c =
     let the-enum-told = c .before .enum-told in
     let the-make = c .make in
     later-nothing (the-enum-told .given .1) (the-make .ensures)
 
--- src/after.rt:43:1
 returns-2 : tie.Need-returns-2
 returns-2 c =
     let the-x = c .before .before .x in
     let the-refused = c .refused in
     later-refused (the-x .given .1) (the-refused .ensures)
 
--- src/after.rt:43:1
 returns-3 : tie.Need-returns-3
 returns-3 c =
     let the-x2 = c .before .before .before .before .x2 in

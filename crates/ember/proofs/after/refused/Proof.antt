@@ -7,58 +7,45 @@ use Rattle.ember.proofs.after.refused.Lts as lts
 use Rattle.ember.proofs.after.make.Reads as make-reads
 use Rattle.framing_words.proofs.word.Reads as word-reads
 
--- src/after.rt:48:26
 enum-told : tie.Need-enum-told
 enum-told c = search needs
 
--- src/after.rt:48:26
 make-requires : tie.Need-make-requires
 make-requires c κs = search needs
 
--- src/after.rt:49:27
 enum-known-a : tie.Need-enum-known-a
 enum-known-a c = search needs
 
--- src/after.rt:49:59
 word-requires : tie.Need-word-requires
 word-requires c κs = search needs
 
--- src/after.rt:49:46
 make-requires-2 : tie.Need-make-requires-2
 make-requires-2 c κs = search needs
 
--- src/after.rt:50:24
 enum-known-a-2 : tie.Need-enum-known-a-2
 enum-known-a-2 c = search needs
 
--- src/after.rt:50:47
 word-requires-2 : tie.Need-word-requires-2
 word-requires-2 c κs = search needs
 
--- src/after.rt:50:35
 make-requires-3 : tie.Need-make-requires-3
 make-requires-3 c κs = search needs
 
--- src/after.rt:51:24
 enum-known-a-3 : tie.Need-enum-known-a-3
 enum-known-a-3 c = search needs
 
--- src/after.rt:51:52
 word-requires-3 : tie.Need-word-requires-3
 word-requires-3 c κs = search needs
 
--- src/after.rt:51:41
 make-requires-4 : tie.Need-make-requires-4
 make-requires-4 c κs = search needs
 
--- src/after.rt:44:1
 returns : tie.Need-returns
 returns c =
     let the-enum-told = c .before .enum-told in
     let the-make = c .make in
     tree-setup (the-enum-told .given .1) (the-make .ensures)
 
--- src/after.rt:44:1
 returns-2 : tie.Need-returns-2
 returns-2 c =
     let the-a = c .before .before .before .a in
@@ -66,7 +53,6 @@ returns-2 c =
     let the-make2 = c .make2 in
     tree-refused (the-a .given .1) (the-word .ensures) (the-make2 .ensures)
 
--- src/after.rt:44:1
 returns-3 : tie.Need-returns-3
 returns-3 c =
     let the-a2 = c .before .before .before .a2 in
@@ -74,7 +60,6 @@ returns-3 c =
     let the-make3 = c .make3 in
     tree-room (the-a2 .given .1) (the-word2 .ensures) (the-make3 .ensures)
 
--- src/after.rt:44:1
 returns-4 : tie.Need-returns-4
 returns-4 c =
     let the-a3 = c .before .before .before .a3 in

@@ -7,61 +7,48 @@ use Rattle.ember.proofs.sheet.read.Lts as lts
 use Rattle.framing_words.proofs.word.Reads as word-reads
 use Rattle.ember.proofs.words.put_figures.Reads as put-figures-reads
 
--- src/sheet.rt:40:25
 enum-told : tie.Need-enum-told
 enum-told c = search needs
 
--- src/sheet.rt:41:26
 enum-known-x : tie.Need-enum-known-x
 enum-known-x c = search needs
 
--- src/sheet.rt:42:13
 slice-write-answer : tie.Need-slice-write-answer
 slice-write-answer c = search needs
 
--- src/sheet.rt:45:32
 enum-known-x-2 : tie.Need-enum-known-x-2
 enum-known-x-2 c = search needs
 
--- src/sheet.rt:46:13
 put-figures-requires : tie.Need-put-figures-requires
 put-figures-requires c κs = search needs
 
--- src/sheet.rt:47:25
 word-requires : tie.Need-word-requires
 word-requires c κs = search needs
 
--- src/sheet.rt:47:13
 slice-write-answer-2 : tie.Need-slice-write-answer-2
 slice-write-answer-2 c = search needs
 
--- src/sheet.rt:33:1
 returns : tie.Need-returns
 returns c =
     let the-Start = c .before .before .before .before in
     let the-enum-told = c .enum-told in
     λ store path cells. read-setup (the-Start .args .figures .now) (the-Start .args .answer .now) store path cells (the-enum-told .given .1)
 
--- src/sheet.rt:33:1
 same-length : tie.Need-same-length
 same-length c = search needs
 
--- src/sheet.rt:33:1
 returns-2 : tie.Need-returns-2
 returns-2 c =
     let the-Start = c .before .before .before .before .before in
     let the-x = c .before .x in
     λ store path cells. read-refused (the-Start .args .figures .now) (the-Start .args .answer .now) store path cells (the-Start .pre .1) (the-x .given .1)
 
--- src/sheet.rt:33:1
 same-length-2 : tie.Need-same-length-2
 same-length-2 c = search needs
 
--- src/sheet.rt:33:1
 same-length-3 : tie.Need-same-length-3
 same-length-3 c = search needs
 
--- src/sheet.rt:33:1
 returns-3 : tie.Need-returns-3
 returns-3 c =
     let the-Start = c .before .before .before .before .before .before .before .before .before .before in

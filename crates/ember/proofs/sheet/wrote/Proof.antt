@@ -6,53 +6,42 @@ use Rattle.ember.proofs.sheet.wrote.Reads as reads
 use Rattle.ember.proofs.sheet.wrote.Lts as lts
 use Rattle.framing_words.proofs.word.Reads as word-reads
 
--- src/sheet.rt:20:26
 enum-told : tie.Need-enum-told
 enum-told c = search needs
 
--- src/sheet.rt:22:13
 enum-told-2 : tie.Need-enum-told-2
 enum-told-2 c = search needs
 
--- src/sheet.rt:22:13
 slice-write-answer : tie.Need-slice-write-answer
 slice-write-answer c = search needs
 
--- src/sheet.rt:25:24
 enum-known-a : tie.Need-enum-known-a
 enum-known-a c = search needs
 
--- src/sheet.rt:26:25
 word-requires : tie.Need-word-requires
 word-requires c κs = search needs
 
--- src/sheet.rt:26:13
 slice-write-answer-2 : tie.Need-slice-write-answer-2
 slice-write-answer-2 c = search needs
 
--- src/sheet.rt:15:1
 returns : tie.Need-returns
 returns c =
     let the-Start = c .before .before .before in
     let the-enum-told = c .enum-told in
     λ out. wrote-setup (the-Start .args .answer .now) out (the-enum-told .given .1)
 
--- src/sheet.rt:15:1
 same-length : tie.Need-same-length
 same-length c = search needs
 
--- src/sheet.rt:15:1
 returns-2 : tie.Need-returns-2
 returns-2 c =
     let the-Start = c .before .before .before in
     let the-enum-told2 = c .enum-told2 in
     λ out. wrote-out (the-Start .args .answer .now) out (the-Start .pre) (the-enum-told2 .given .1)
 
--- src/sheet.rt:15:1
 same-length-2 : tie.Need-same-length-2
 same-length-2 c = search needs
 
--- src/sheet.rt:15:1
 returns-3 : tie.Need-returns-3
 returns-3 c =
     let the-Start = c .before .before .before .before .before in

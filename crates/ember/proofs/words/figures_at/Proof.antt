@@ -6,43 +6,33 @@ use Rattle.ember.proofs.words.figures_at.Lts as lts
 use Rattle.ember.proofs.words.limit_at.Reads as limit-at-reads
 use Rattle.framing_words.proofs.word_at.Reads as word-at-reads
 
--- src/words.rt:52:15
 word-at-requires : tie.Need-word-at-requires
 word-at-requires c κs = search needs
 
--- src/words.rt:53:18
 word-at-requires-2 : tie.Need-word-at-requires-2
 word-at-requires-2 c κs = search needs
 
--- src/words.rt:54:18
 word-at-requires-3 : tie.Need-word-at-requires-3
 word-at-requires-3 c κs = search needs
 
--- src/words.rt:55:25
 word-at-requires-4 : tie.Need-word-at-requires-4
 word-at-requires-4 c κs = search needs
 
--- src/words.rt:55:44
 word-at-requires-5 : tie.Need-word-at-requires-5
 word-at-requires-5 c κs = search needs
 
--- src/words.rt:55:16
 limit-at-requires : tie.Need-limit-at-requires
 limit-at-requires c κs = search needs
 
--- src/words.rt:56:24
 word-at-requires-6 : tie.Need-word-at-requires-6
 word-at-requires-6 c κs = search needs
 
--- src/words.rt:56:43
 word-at-requires-7 : tie.Need-word-at-requires-7
 word-at-requires-7 c κs = search needs
 
--- src/words.rt:56:15
 limit-at-requires-2 : tie.Need-limit-at-requires-2
 limit-at-requires-2 c κs = search needs
 
--- src/words.rt:48:1
 returns : tie.Need-returns
 returns c =
     let the-word-at = c .before .before .before .before .before .before .before .before .word-at in

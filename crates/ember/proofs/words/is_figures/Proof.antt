@@ -6,37 +6,29 @@ use Rattle.ember.proofs.words.is_figures.Reads as reads
 use Rattle.ember.proofs.words.is_figures.Lts as lts
 use Rattle.ember.proofs.words.is_limit.Reads as is-limit-reads
 
--- src/words.rt:40:9
 returns : tie.Need-returns
 returns c =
     let the-if1 = c .if1 in
     figures-length _ (the-if1 .taken)
 
--- src/words.rt:42:17
 shared-slice-read-is-limit : tie.Need-shared-slice-read-is-limit
 shared-slice-read-is-limit c = search needs
 
--- src/words.rt:42:27
 shared-slice-read-is-limit-2 : tie.Need-shared-slice-read-is-limit-2
 shared-slice-read-is-limit-2 c = search needs
 
--- src/words.rt:42:8
 is-limit-requires : tie.Need-is-limit-requires
 is-limit-requires c κs = search needs
 
--- src/words.rt:43:25
 shared-slice-read-is-limit-3 : tie.Need-shared-slice-read-is-limit-3
 shared-slice-read-is-limit-3 c = search needs
 
--- src/words.rt:43:35
 shared-slice-read-is-limit-4 : tie.Need-shared-slice-read-is-limit-4
 shared-slice-read-is-limit-4 c = search needs
 
--- src/words.rt:43:9
 is-limit-requires-2 : tie.Need-is-limit-requires-2
 is-limit-requires-2 c κs = search needs
 
--- src/words.rt:43:9
 returns-2 : tie.Need-returns-2
 returns-2 c =
     let the-if1 = c .before .before .before .before .before .before .before .if1 in
@@ -45,7 +37,6 @@ returns-2 c =
     let the-is-limit2 = c .is-limit2 in
     figures-second _ (the-if1 .left) (the-is-limit .ensures) (the-if2 .taken) (the-is-limit2 .ensures)
 
--- src/words.rt:36:1
 returns-3 : tie.Need-returns-3
 returns-3 c =
     let the-if1 = c .before .before .before .before .if1 in

@@ -4,13 +4,11 @@ use Rattle.ember.proofs.words.is_limit.Tie as tie
 use Rattle.ember.proofs.words.is_limit.Reads as reads
 use Rattle.ember.proofs.words.is_limit.Lts as lts
 
--- src/words.rt:30:9
 returns : tie.Need-returns
 returns c =
     let the-if1 = c .if1 in
     limit-none _ _ (the-if1 .taken)
 
--- src/words.rt:26:1
 returns-2 : tie.Need-returns-2
 returns-2 c =
     let the-if1 = c .if1 in

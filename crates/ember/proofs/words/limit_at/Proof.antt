@@ -4,13 +4,11 @@ use Rattle.ember.proofs.words.limit_at.Tie as tie
 use Rattle.ember.proofs.words.limit_at.Reads as reads
 use Rattle.ember.proofs.words.limit_at.Lts as lts
 
--- src/words.rt:21:9
 returns : tie.Need-returns
 returns c =
     let the-if1 = c .if1 in
     limit-absent _ _ (the-if1 .taken)
 
--- src/words.rt:17:1
 returns-2 : tie.Need-returns-2
 returns-2 c =
     let the-if1 = c .if1 in

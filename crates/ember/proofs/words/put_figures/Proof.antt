@@ -7,19 +7,15 @@ use Rattle.ember.proofs.words.put_figures.Lts as lts
 use Rattle.ember.proofs.words.put_limits.Reads as put-limits-reads
 use Rattle.ember.proofs.words.put_words.Reads as put-words-reads
 
--- src/words.rt:101:5
 put-words-requires : tie.Need-put-words-requires
 put-words-requires c κs = search needs
 
--- src/words.rt:104:5
 put-limits-requires : tie.Need-put-limits-requires
 put-limits-requires c κs = search needs
 
--- src/words.rt:97:1
 same-length : tie.Need-same-length
 same-length c = search needs
 
--- src/words.rt:97:1
 returns : tie.Need-returns
 returns c =
     let the-Start = c .before .before .before .before .before .before .before .before .before in

@@ -7,43 +7,33 @@ use Rattle.ember.proofs.words.put_limits.Lts as lts
 use Rattle.ember.proofs.words.given_word.Reads as given-word-reads
 use Rattle.ember.proofs.words.limit_word.Reads as limit-word-reads
 
--- src/words.rt:91:16
 given-word-requires : tie.Need-given-word-requires
 given-word-requires c κs = search needs
 
--- src/words.rt:91:5
 slice-write-words : tie.Need-slice-write-words
 slice-write-words c = search needs
 
--- src/words.rt:92:16
 limit-word-requires : tie.Need-limit-word-requires
 limit-word-requires c κs = search needs
 
--- src/words.rt:92:5
 slice-write-words-2 : tie.Need-slice-write-words-2
 slice-write-words-2 c = search needs
 
--- src/words.rt:93:16
 given-word-requires-2 : tie.Need-given-word-requires-2
 given-word-requires-2 c κs = search needs
 
--- src/words.rt:93:5
 slice-write-words-3 : tie.Need-slice-write-words-3
 slice-write-words-3 c = search needs
 
--- src/words.rt:94:16
 limit-word-requires-2 : tie.Need-limit-word-requires-2
 limit-word-requires-2 c κs = search needs
 
--- src/words.rt:94:5
 slice-write-words-4 : tie.Need-slice-write-words-4
 slice-write-words-4 c = search needs
 
--- src/words.rt:87:1
 same-length : tie.Need-same-length
 same-length c = search needs
 
--- src/words.rt:87:1
 returns : tie.Need-returns
 returns c =
     let the-Start = c .before .before .before .before .before in

@@ -74,30 +74,25 @@ put-inside-calls t = (
   put-items.Post,
 )
 
--- src/write.rt:197:9
 put-inside-returns : (t : ℕ) → put-inside-lts.Need-returns (put-inside-calls t) (put-inside-at t) put-inside.Post
 put-inside-returns t c =
     let the-Start = c .before .before .before in
     let the-if1 = c .if1 in
     let q = the-Start .pre .1 in (inside-none _ _ _ _ _ _ _ _ _ _ _ (the-if1 .taken), (omega arith, q .0))
 
--- src/write.rt:202:9
 put-inside-put-outer-requires : (t : ℕ) → put-inside-lts.Need-put-outer-requires (put-inside-calls t) (put-inside-at t) put-inside.Post
 put-inside-put-outer-requires t c κs =
     let the-Start = c .before .before .before .before in
     the-Start .pre .1 .1 .1
 
--- src/write.rt:203:5
 put-inside-put-items-requires : (t : ℕ) → put-inside-lts.Need-put-items-requires (put-inside-calls t) (put-inside-at t) put-inside.Post
 put-inside-put-items-requires t c κs =
     let the-Start = c .before .before .before .before .before .before .before .before in
     let q = the-Start .pre .1 in (omega arith, (q .0, q .1 .0))
 
--- src/write.rt:177:1
 put-inside-same-length : (t : ℕ) → put-inside-lts.Need-same-length (put-inside-calls t) (put-inside-at t) put-inside.Post
 put-inside-same-length t c = search needs
 
--- src/write.rt:177:1
 put-inside-returns-2 : (t : ℕ) → put-inside-lts.Need-returns-2 (put-inside-calls t) (put-inside-at t) put-inside.Post
 put-inside-returns-2 t c =
     let the-Start = c .before .before .before .before .before .before .before .before .before .before .before in
@@ -135,76 +130,60 @@ put-item-calls t = (
   put-inside.Post,
 )
 
--- src/write.rt:221:9
 put-item-word-at-requires : (t : ℕ) → put-item-lts.Need-word-at-requires (put-item-calls t) (put-item-at t) put-item.Post
 put-item-word-at-requires t c κs = search needs
 
--- src/write.rt:222:9
 put-item-entry-size-requires : (t : ℕ) → put-item-lts.Need-entry-size-requires (put-item-calls t) (put-item-at t) put-item.Post
 put-item-entry-size-requires t c κs = search needs
 
--- src/write.rt:223:14
 put-item-wide-requires : (t : ℕ) → put-item-lts.Need-wide-requires (put-item-calls t) (put-item-at t) put-item.Post
 put-item-wide-requires t c κs = search needs
 
--- src/write.rt:223:14
 put-item-add-me : (t : ℕ) → put-item-lts.Need-add-me (put-item-calls t) (put-item-at t) put-item.Post
 put-item-add-me t c =
     let the-Start = c .before .before .before .before .before in
     let the-wide = c .wide in
     let q = the-Start .pre .1 in let z = the-Start .fits .count .fits in let w = the-wide .ensures in omega arith
 
--- src/write.rt:224:9
 put-item-inside-of-requires : (t : ℕ) → put-item-lts.Need-inside-of-requires (put-item-calls t) (put-item-at t) put-item.Post
 put-item-inside-of-requires t c κs = search needs
 
--- src/write.rt:225:45
 put-item-add-trees-size : (t : ℕ) → put-item-lts.Need-add-trees-size (put-item-calls t) (put-item-at t) put-item.Post
 put-item-add-trees-size t c =
     let the-Start = c .before .before .before .before .before .before in
     let q = the-Start .pre .1 in let z = the-Start .fits .count .fits in omega arith
 
--- src/write.rt:225:9
 put-item-trees-size-requires : (t : ℕ) → put-item-lts.Need-trees-size-requires (put-item-calls t) (put-item-at t) put-item.Post
 put-item-trees-size-requires t c κs = search needs
 
--- src/write.rt:226:9
 put-item-trees-size-requires-2 : (t : ℕ) → put-item-lts.Need-trees-size-requires-2 (put-item-calls t) (put-item-at t) put-item.Post
 put-item-trees-size-requires-2 t c κs = search needs
 
--- src/write.rt:227:34
 put-item-wrapped-size-requires : (t : ℕ) → put-item-lts.Need-wrapped-size-requires (put-item-calls t) (put-item-at t) put-item.Post
 put-item-wrapped-size-requires t c κs = search needs
 
--- src/write.rt:227:59
 put-item-wrapped-size-requires-2 : (t : ℕ) → put-item-lts.Need-wrapped-size-requires-2 (put-item-calls t) (put-item-at t) put-item.Post
 put-item-wrapped-size-requires-2 t c κs = search needs
 
--- src/write.rt:227:29
 put-item-plus-requires : (t : ℕ) → put-item-lts.Need-plus-requires (put-item-calls t) (put-item-at t) put-item.Post
 put-item-plus-requires t c κs = search needs
 
--- src/write.rt:227:9
 put-item-plus-requires-2 : (t : ℕ) → put-item-lts.Need-plus-requires-2 (put-item-calls t) (put-item-at t) put-item.Post
 put-item-plus-requires-2 t c κs = search needs
 
--- src/write.rt:228:26
 put-item-tag-of-requires : (t : ℕ) → put-item-lts.Need-tag-of-requires (put-item-calls t) (put-item-at t) put-item.Post
 put-item-tag-of-requires t c κs = search needs
 
--- src/write.rt:228:9
 put-item-put-outer-requires : (t : ℕ) → put-item-lts.Need-put-outer-requires (put-item-calls t) (put-item-at t) put-item.Post
 put-item-put-outer-requires t c κs =
     omega arith
 
--- src/write.rt:229:9
 put-item-put-entry-requires : (t : ℕ) → put-item-lts.Need-put-entry-requires (put-item-calls t) (put-item-at t) put-item.Post
 put-item-put-entry-requires t c κs =
     let c10 = c .before .before .before .before .before .before .before .before .before .before in
     let the-Start = c10 .before .before .before .before .before .before .before .before in
     let q = the-Start .pre .1 in omega arith
 
--- src/write.rt:230:67
 put-item-add-put-inside : (t : ℕ) → put-item-lts.Need-add-put-inside (put-item-calls t) (put-item-at t) put-item.Post
 put-item-add-put-inside t c =
     let c10 = c .before .before .before .before .before .before .before .before .before .before in
@@ -212,7 +191,6 @@ put-item-add-put-inside t c =
     let the-Start = c20 .before in
     let q = the-Start .pre .1 in let z = the-Start .fits .count .fits in omega arith
 
--- src/write.rt:230:9
 put-item-put-inside-requires : (t : ℕ) → put-item-lts.Need-put-inside-requires (put-item-calls t) (put-item-at t) put-item.Post
 put-item-put-inside-requires t c κs =
     let c10 = c .before .before .before .before .before .before .before .before .before .before in
@@ -220,7 +198,6 @@ put-item-put-inside-requires t c κs =
     let the-Start = c20 .before .before in
     let q = the-Start .pre .1 in (omega arith, (omega arith, (q .1, omega arith)))
 
--- src/write.rt:231:5
 put-item-put-inside-requires-2 : (t : ℕ) → put-item-lts.Need-put-inside-requires-2 (put-item-calls t) (put-item-at t) put-item.Post
 put-item-put-inside-requires-2 t c κs =
     let c10 = c .before .before .before .before .before .before .before .before .before .before in
@@ -229,11 +206,9 @@ put-item-put-inside-requires-2 t c κs =
     let the-put-inside = c .before .before .before .put-inside in
     let q = the-Start .pre .1 in let m = the-put-inside .ensures .1 in (omega arith, (m .1, (q .1, omega arith)))
 
--- src/write.rt:207:1
 put-item-same-length : (t : ℕ) → put-item-lts.Need-same-length (put-item-calls t) (put-item-at t) put-item.Post
 put-item-same-length t c = search needs
 
--- src/write.rt:207:1
 put-item-returns : (t : ℕ) → put-item-lts.Need-returns (put-item-calls t) (put-item-at t) put-item.Post
 put-item-returns t c =
     let c10 = c .before .before .before .before .before .before .before .before .before .before in
@@ -285,24 +260,20 @@ abbrev put-items-μ-loop : put-items-lts.MeasureT-loop
 put-items-μ-loop rows s count which parent start k above out₀ at i₀ p₀ out i p =
     count - i
 
--- src/write.rt:253:5
 put-items-loop-holds : (t : ℕ) → put-items-lts.Need-loop-holds (put-items-calls t) (put-items-at t) put-items.Post put-items-Inv-loop put-items-μ-loop
 put-items-loop-holds t c =
     let the-Start = c .before .before in
     let q = the-Start .pre .1 in (omega arith, (q .0, (refl, λ r o′ h. h)))
 
--- src/write.rt:254:12
 put-items-word-at-requires : (t : ℕ) → put-items-lts.Need-word-at-requires (put-items-calls t)
     (put-items-at t) put-items.Post put-items-Inv-loop put-items-μ-loop
 put-items-word-at-requires t c κs = search needs
 
--- src/write.rt:255:13
 put-items-same-length : (t : ℕ) → put-items-lts.Need-same-length (put-items-calls t) (put-items-at t) put-items.Post put-items-Inv-loop put-items-μ-loop
 put-items-same-length t c =
     let the-loop = c .before .before .before .loop in
     the-loop .inv .1 .1 .0
 
--- src/write.rt:255:13
 put-items-returns : (t : ℕ) → put-items-lts.Need-returns (put-items-calls t) (put-items-at t) put-items.Post put-items-Inv-loop put-items-μ-loop
 put-items-returns t c =
     let the-loop = c .before .before .before .loop in
@@ -316,23 +287,19 @@ put-items-returns t c =
       (h .0, h .1 .0),
     )
 
--- src/write.rt:257:30
 put-items-word-at-requires-2 : (t : ℕ) → put-items-lts.Need-word-at-requires-2 (put-items-calls t)
     (put-items-at t) put-items.Post put-items-Inv-loop put-items-μ-loop
 put-items-word-at-requires-2 t c κs = search needs
 
--- src/write.rt:257:13
 put-items-stands-in-requires : (t : ℕ) → put-items-lts.Need-stands-in-requires (put-items-calls t)
     (put-items-at t) put-items.Post put-items-Inv-loop put-items-μ-loop
 put-items-stands-in-requires t c κs = search needs
 
--- src/write.rt:258:13
 put-items-same-length-2 : (t : ℕ) → put-items-lts.Need-same-length-2 (put-items-calls t) (put-items-at t) put-items.Post put-items-Inv-loop put-items-μ-loop
 put-items-same-length-2 t c =
     let the-loop = c .before .before .before .before .before .before .loop in
     the-loop .inv .1 .1 .0
 
--- src/write.rt:258:13
 put-items-returns-2 : (t : ℕ) → put-items-lts.Need-returns-2 (put-items-calls t) (put-items-at t) put-items.Post put-items-Inv-loop put-items-μ-loop
 put-items-returns-2 t c =
     let the-loop = c .before .before .before .before .before .before .loop in
@@ -349,7 +316,6 @@ put-items-returns-2 t c =
       (h .0, h .1 .0),
     )
 
--- src/write.rt:260:13
 put-items-put-item-requires : (t : ℕ) → put-items-lts.Need-put-item-requires (put-items-calls t)
     (put-items-at t) put-items.Post put-items-Inv-loop put-items-μ-loop
 put-items-put-item-requires t c κs =
@@ -358,13 +324,11 @@ put-items-put-item-requires t c κs =
     let the-loop-test = c .before .before .before .before .before .before .loop-test in
     let q = the-Start .pre .1 in let h = the-loop .inv in (omega arith, (the-loop-test .taken, q .1))
 
--- src/write.rt:253:5
 put-items-loop-less : (t : ℕ) → put-items-lts.Need-loop-less (put-items-calls t) (put-items-at t) put-items.Post put-items-Inv-loop put-items-μ-loop
 put-items-loop-less t c =
     let the-put-item = c .before .before .put-item in
     let m = the-put-item .ensures .1 in omega arith
 
--- src/write.rt:253:5
 put-items-loop-again : (t : ℕ) → put-items-lts.Need-loop-again (put-items-calls t) (put-items-at t) put-items.Post put-items-Inv-loop put-items-μ-loop
 put-items-loop-again t c =
     let c10 = c .before .before .before .before .before .before .before .before .before .before in
@@ -390,13 +354,11 @@ put-items-loop-again t c =
       ),
     )
 
--- src/write.rt:235:1
 put-items-same-length-3 : (t : ℕ) → put-items-lts.Need-same-length-3 (put-items-calls t) (put-items-at t) put-items.Post put-items-Inv-loop put-items-μ-loop
 put-items-same-length-3 t c =
     let the-loop = c .before .loop in
     the-loop .inv .1 .1 .0
 
--- src/write.rt:235:1
 put-items-returns-3 : (t : ℕ) → put-items-lts.Need-returns-3 (put-items-calls t) (put-items-at t) put-items.Post put-items-Inv-loop put-items-μ-loop
 put-items-returns-3 t c =
     let the-loop = c .before .loop in

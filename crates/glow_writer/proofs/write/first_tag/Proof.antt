@@ -7,35 +7,30 @@ use Rattle.glow_writer.proofs.write.first_tag.Tie as tie
 use Rattle.glow_writer.proofs.write.first_tag.Reads as reads
 use Rattle.glow_writer.proofs.write.first_tag.Lts as lts
 
--- src/write.rt:146:1
 returns : tie.Need-returns
 unfolding applications
 returns c =
     let the-Start = c .before in
     let e : the-Start .args .kind ≡ 1 = omega arith in tag-at _ 1 _ e refl
 
--- src/write.rt:146:1
 returns-2 : tie.Need-returns-2
 unfolding applications
 returns-2 c =
     let the-Start = c .before in
     let e : the-Start .args .kind ≡ 2 = omega arith in tag-at _ 2 _ e refl
 
--- src/write.rt:146:1
 returns-3 : tie.Need-returns-3
 unfolding applications
 returns-3 c =
     let the-Start = c .before in
     let e : the-Start .args .kind ≡ 3 = omega arith in tag-at _ 3 _ e refl
 
--- src/write.rt:146:1
 returns-4 : tie.Need-returns-4
 unfolding applications
 returns-4 c =
     let the-Start = c .before in
     let e : the-Start .args .kind ≡ 4 = omega arith in tag-at _ 4 _ e refl
 
--- src/write.rt:146:1
 returns-5 : tie.Need-returns-5
 unfolding applications
 returns-5 c =

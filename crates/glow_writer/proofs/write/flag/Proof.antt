@@ -5,13 +5,11 @@ use Rattle.glow_writer.proofs.write.flag.Tie as tie
 use Rattle.glow_writer.proofs.write.flag.Reads as reads
 use Rattle.glow_writer.proofs.write.flag.Lts as lts
 
--- src/write.rt:73:1
 returns : tie.Need-returns
 returns c =
     let the-if1 = c .if1 in
     simp (eq-eqb _ _ (the-if1 .taken))
 
--- src/write.rt:73:1
 returns-2 : tie.Need-returns-2
 returns-2 c =
     let the-if1 = c .if1 in

@@ -21,30 +21,25 @@ Inv-loop rows i s kind from to out₀ at c₀ p₀ out c p =
 abbrev μ-loop : tie.MeasureT-loop
 μ-loop rows i s kind from to out₀ at c₀ p₀ out c p = to - c
 
--- src/write.rt:123:5
 loop-holds : tie.Need-loop-holds Inv-loop μ-loop
 loop-holds c =
     let the-Start = c .before .before in
     let q = the-Start .pre in (omega arith, (q .1 .0, (refl, onward-start _ _ _ _ _ _ _)))
 
--- src/write.rt:124:27
 cell-at-requires : tie.Need-cell-at-requires Inv-loop μ-loop
 cell-at-requires c κs = search needs
 
--- src/write.rt:124:53
 sub-byte : tie.Need-sub-byte Inv-loop μ-loop
 sub-byte c =
     let the-loop = c .before .before .loop in
     let h = the-loop .inv in omega arith
 
--- src/write.rt:124:48
 byte-requires : tie.Need-byte-requires Inv-loop μ-loop
 byte-requires c κs =
     let the-Start = c .before .before .before .before .before in
     let the-loop = c .before .before .loop in
     let h = the-loop .inv in let q = the-Start .pre in omega arith
 
--- src/write.rt:124:9
 put-member-requires : tie.Need-put-member-requires Inv-loop μ-loop
 put-member-requires c κs =
     let the-Start = c .before .before .before .before .before .before .before in
@@ -52,15 +47,12 @@ put-member-requires c κs =
     let the-byte = c .before .byte in
     let h = the-loop .inv in let q = the-Start .pre in let b = the-byte .ensures in omega arith
 
--- src/write.rt:125:13
 add-c : tie.Need-add-c Inv-loop μ-loop
 add-c c = omega arith
 
--- src/write.rt:123:5
 loop-less : tie.Need-loop-less Inv-loop μ-loop
 loop-less c = omega arith
 
--- src/write.rt:123:5
 loop-again : tie.Need-loop-again Inv-loop μ-loop
 loop-again c =
     let the-loop = c .before .before .before .before .before .before .before .loop in
@@ -82,13 +74,11 @@ loop-again c =
       ),
     )
 
--- src/write.rt:117:1
 same-length : tie.Need-same-length Inv-loop μ-loop
 same-length c =
     let the-loop = c .before .loop in
     the-loop .inv .1 .1 .0
 
--- src/write.rt:117:1
 returns : tie.Need-returns Inv-loop μ-loop
 returns c =
     let the-loop = c .before .loop in

@@ -13,26 +13,21 @@ use Rattle.glow_sizes.proofs.split_of.Reads as split-of-reads
 use Rattle.glow_writer.proofs.write.put_cells.Reads as put-cells-reads
 use Rattle.glow_writer.proofs.write.put_outer.Reads as put-outer-reads
 
--- src/write.rt:133:9
 split-of-requires : tie.Need-split-of-requires
 split-of-requires c κs = search needs
 
--- src/write.rt:134:9
 contents-size-requires : tie.Need-contents-size-requires
 contents-size-requires c κs = search needs
 
--- src/write.rt:135:9
 put-cells-requires : tie.Need-put-cells-requires
 put-cells-requires c κs =
     let the-Start = c .before .before .before .before .before in
     let the-split-of = c .before .before .split-of in
     let h = the-split-of .ensures .1 in (the-Start .pre, (omega arith, omega arith))
 
--- src/write.rt:137:9
 same-length : tie.Need-same-length
 same-length c = search needs
 
--- src/write.rt:137:9
 returns : tie.Need-returns
 returns c =
     let the-split-of = c .before .before .before .before .before .before .split-of in
@@ -45,22 +40,18 @@ returns c =
     entry-none _ _ _ _ (the-split-of .ensures .0) (the-split-of .ensures .1) _
     (contents-at writtenReal _ _ _ _ _ (the-split-of .ensures .0) (the-contents-size .ensures)) _ _ _ _ (the-put-cells .ensures) u z
 
--- src/write.rt:139:9
 put-outer-requires : tie.Need-put-outer-requires
 put-outer-requires c κs = omega arith
 
--- src/write.rt:140:5
 put-cells-requires-2 : tie.Need-put-cells-requires-2
 put-cells-requires-2 c κs =
     let the-Start = c .before .before .before .before .before .before .before .before .before .before .before .before .before .before in
     let the-split-of = c .before .before .before .before .before .before .before .before .before .before .before .split-of in
     let h = the-split-of .ensures .1 in (the-Start .pre, (omega arith, omega arith))
 
--- src/write.rt:129:1
 same-length-2 : tie.Need-same-length-2
 same-length-2 c = search needs
 
--- src/write.rt:129:1
 returns-2 : tie.Need-returns-2
 returns-2 c =
     let the-split-of = c .before .before .before .before .before .before .before .before .before .before .before .before .before .before .split-of in

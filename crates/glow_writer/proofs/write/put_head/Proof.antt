@@ -8,23 +8,18 @@ use Rattle.glow_member_sizes.proofs.place.Reads as place-reads
 use Rattle.glow_writer.proofs.write.put_octet.Reads as put-octet-reads
 use Rattle.ber_tags.proofs.write_length.Reads as write-length-reads
 
--- src/write.rt:54:9
 put-octet-requires : tie.Need-put-octet-requires
 put-octet-requires c κs = search needs
 
--- src/write.rt:55:11
 write-length-requires : tie.Need-write-length-requires
 write-length-requires c κs = search needs
 
--- src/write.rt:55:5
 place-requires : tie.Need-place-requires
 place-requires c κs = search needs
 
--- src/write.rt:51:1
 same-length : tie.Need-same-length
 same-length c = search needs
 
--- src/write.rt:51:1
 returns : tie.Need-returns
 returns c =
     let the-put-octet = c .before .before .before .before .before .before .before .put-octet in

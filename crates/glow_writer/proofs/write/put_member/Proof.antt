@@ -15,47 +15,37 @@ use Rattle.glow_writer.proofs.write.put_outer.Reads as put-outer-reads
 use Rattle.glow_writer.proofs.write.put_word.Reads as put-word-reads
 use Rattle.ber_values.proofs.write_part.Reads as write-part-reads
 
--- src/write.rt:96:9
 returns : tie.Need-returns
 returns c =
     let the-if1 = c .if1 in
     λ what h. absent-put _ _ _ _ _ (the-if1 .taken) what h
 
--- src/write.rt:98:9
 low-requires : tie.Need-low-requires
 low-requires c κs = search needs
 
--- src/write.rt:99:8
 is-part-requires : tie.Need-is-part-requires
 is-part-requires c κs = search needs
 
--- src/write.rt:100:13
 put-outer-requires : tie.Need-put-outer-requires
 put-outer-requires c κs =
     let the-Start = c .before .before .before .before .before .before .before .before in
     the-Start .pre
 
--- src/write.rt:101:44
 index-requires : tie.Need-index-requires
 index-requires c κs = search needs
 
--- src/write.rt:101:60
 index-requires-2 : tie.Need-index-requires-2
 index-requires-2 c κs = search needs
 
--- src/write.rt:101:22
 write-part-requires : tie.Need-write-part-requires
 write-part-requires c κs = search needs
 
--- src/write.rt:101:9
 place-requires : tie.Need-place-requires
 place-requires c κs = search needs
 
--- src/write.rt:101:9
 same-length : tie.Need-same-length
 same-length c = search needs
 
--- src/write.rt:101:9
 returns-2 : tie.Need-returns-2
 returns-2 c =
     let the-Start = c .before .before .before .before .before .before .before .before .before .before .before .before .before .before .before
@@ -76,25 +66,20 @@ returns-2 c =
     part-put _ _ _ (the-Start .pre) _ _ _ (the-low .ensures) _ _ _ _ (the-is-part .ensures ∙ the-if2 .taken) (the-put-outer .ensures) _ _ i j _
     (the-write-part .ensures) (the-place .ensures) what h
 
--- src/write.rt:103:36
 word-size-requires : tie.Need-word-size-requires
 word-size-requires c κs = search needs
 
--- src/write.rt:103:9
 put-outer-requires-2 : tie.Need-put-outer-requires-2
 put-outer-requires-2 c κs =
     let the-Start = c .before .before .before .before .before .before .before .before .before in
     the-Start .pre
 
--- src/write.rt:104:5
 put-word-requires : tie.Need-put-word-requires
 put-word-requires c κs = search needs
 
--- src/write.rt:91:1
 same-length-2 : tie.Need-same-length-2
 same-length-2 c = search needs
 
--- src/write.rt:91:1
 returns-3 : tie.Need-returns-3
 returns-3 c =
     let the-Start = c .before .before .before .before .before .before .before .before .before .before .before .before .before .before .before .before in

@@ -7,19 +7,15 @@ use Rattle.glow_writer.proofs.write.put_octet.Lts as lts
 use Rattle.glow_member_sizes.proofs.place.Reads as place-reads
 use Rattle.ber_integers.proofs.write_octet.Reads as write-octet-reads
 
--- src/write.rt:47:11
 write-octet-requires : tie.Need-write-octet-requires
 write-octet-requires c κs = search needs
 
--- src/write.rt:47:5
 place-requires : tie.Need-place-requires
 place-requires c κs = search needs
 
--- src/write.rt:44:1
 same-length : tie.Need-same-length
 same-length c = search needs
 
--- src/write.rt:44:1
 returns : tie.Need-returns
 returns c =
     let the-write-octet = c .before .before .before .write-octet in

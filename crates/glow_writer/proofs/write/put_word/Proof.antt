@@ -14,19 +14,15 @@ use Rattle.glow_writer.proofs.write.put_octet.Reads as put-octet-reads
 use Rattle.ber_integers.proofs.write_int.Reads as write-int-reads
 use Rattle.ber_reals.proofs.write_bits.Reads as write-bits-reads
 
--- src/write.rt:84:26
 flag-requires : tie.Need-flag-requires
 flag-requires c κs = search needs
 
--- src/write.rt:84:9
 put-octet-requires : tie.Need-put-octet-requires
 put-octet-requires c κs = search needs
 
--- src/write.rt:84:9
 same-length : tie.Need-same-length
 same-length c = search needs
 
--- src/write.rt:84:9
 returns : tie.Need-returns
 returns c =
     let the-if1 = c .before .before .before .before .before .if1 in
@@ -34,23 +30,18 @@ returns c =
     let the-put-octet = c .before .before .put-octet in
     λ t. flag-put _ _ _ _ _ _ _ (the-if1 .taken) (the-flag .ensures) (the-put-octet .ensures)
 
--- src/write.rt:87:42
 int-of-requires : tie.Need-int-of-requires
 int-of-requires c κs = search needs
 
--- src/write.rt:87:22
 write-int-requires : tie.Need-write-int-requires
 write-int-requires c κs = search needs
 
--- src/write.rt:87:9
 place-requires : tie.Need-place-requires
 place-requires c κs = search needs
 
--- src/write.rt:87:9
 same-length-2 : tie.Need-same-length-2
 same-length-2 c = search needs
 
--- src/write.rt:87:9
 returns-2 : tie.Need-returns-2
 returns-2 c =
     let the-if2 = c .before .before .before .before .before .before .if2 in
@@ -60,19 +51,15 @@ returns-2 c =
     let z : toZ w64 (ofZ w64 (the-int-of .result)) ≡ the-int-of .result = search needs in
     λ t. int-put _ _ _ _ _ _ _ _ (the-if2 .taken) (the-int-of .ensures ∙ sym z) (the-write-int .ensures) (the-place .ensures)
 
--- src/write.rt:89:11
 write-bits-requires : tie.Need-write-bits-requires
 write-bits-requires c κs = search needs
 
--- src/write.rt:89:5
 place-requires-2 : tie.Need-place-requires-2
 place-requires-2 c κs = search needs
 
--- src/write.rt:80:1
 same-length-3 : tie.Need-same-length-3
 same-length-3 c = search needs
 
--- src/write.rt:80:1
 returns-3 : tie.Need-returns-3
 returns-3 c =
     let the-if1 = c .before .before .before .before .before .before .if1 in

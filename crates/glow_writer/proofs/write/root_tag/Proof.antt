@@ -4,13 +4,11 @@ use Rattle.glow_writer.proofs.write.root_tag.Tie as tie
 use Rattle.glow_writer.proofs.write.root_tag.Reads as reads
 use Rattle.glow_writer.proofs.write.root_tag.Lts as lts
 
--- src/write.rt:255:1
 returns : tie.Need-returns
 returns c =
     let the-if1 = c .if1 in
     root-first _ (the-if1 .taken)
 
--- src/write.rt:255:1
 returns-2 : tie.Need-returns-2
 returns-2 c =
     let the-if1 = c .if1 in

@@ -9,55 +9,47 @@ use Rattle.glow_writer.proofs.write.tag_of.Reads as reads
 use Rattle.glow_writer.proofs.write.tag_of.Lts as lts
 use Rattle.glow_writer.proofs.write.first_tag.Reads as first-tag-reads
 
--- src/write.rt:164:9
 first-tag-requires : tie.Need-first-tag-requires
 first-tag-requires c κs =
     let the-if1 = c .if1 in
     the-if1 .taken
 
--- src/write.rt:164:9
 returns : tie.Need-returns
 unfolding applications
 returns c =
     let the-first-tag = c .first-tag in
     the-first-tag .ensures
 
--- src/write.rt:160:1
 returns-2 : tie.Need-returns-2
 unfolding applications
 returns-2 c =
     let the-Start = c .before .before in
     let e : the-Start .args .kind ≡ 5 = omega arith in tag-at _ 5 _ e refl
 
--- src/write.rt:160:1
 returns-3 : tie.Need-returns-3
 unfolding applications
 returns-3 c =
     let the-Start = c .before .before in
     let e : the-Start .args .kind ≡ 6 = omega arith in tag-at _ 6 _ e refl
 
--- src/write.rt:160:1
 returns-4 : tie.Need-returns-4
 unfolding applications
 returns-4 c =
     let the-Start = c .before .before in
     let e : the-Start .args .kind ≡ 7 = omega arith in tag-at _ 7 _ e refl
 
--- src/write.rt:160:1
 returns-5 : tie.Need-returns-5
 unfolding applications
 returns-5 c =
     let the-Start = c .before .before in
     let e : the-Start .args .kind ≡ 8 = omega arith in tag-at _ 8 _ e refl
 
--- src/write.rt:160:1
 returns-6 : tie.Need-returns-6
 unfolding applications
 returns-6 c =
     let the-Start = c .before .before in
     let e : the-Start .args .kind ≡ 9 = omega arith in tag-at _ 9 _ e refl
 
--- src/write.rt:160:1
 returns-7 : tie.Need-returns-7
 unfolding applications
 returns-7 c =

@@ -14,22 +14,18 @@ use Rattle.glow_writer.proofs.write.put_head.Reads as put-head-reads
 use Rattle.glow_writer.proofs.write.put_items.Reads as put-items-reads
 use Rattle.glow_writer.proofs.write.root_tag.Reads as root-tag-reads
 
--- src/write.rt:277:9
 measure-requires : tie.Need-measure-requires
 measure-requires c κs = search needs
 
--- src/write.rt:279:9
 returns : tie.Need-returns
 returns c =
     let the-measure = c .before .measure in
     let the-if1 = c .if1 in
     let t = the-if1 .taken in let k : 16384 < the-measure .result = omega arith in write-long _ _ _ _ _ (the-measure .ensures) _ k
 
--- src/write.rt:281:8
 wide-requires : tie.Need-wide-requires
 wide-requires c κs = search needs
 
--- src/write.rt:282:9
 returns-2 : tie.Need-returns-2
 returns-2 c =
     let the-measure = c .before .before .before .measure in
@@ -42,38 +38,30 @@ returns-2 c =
     let k : the-wide .result < the-measure .result = omega arith in
     write-short _ _ _ _ _ (the-measure .ensures) _ h _ (the-wide .ensures) k
 
--- src/write.rt:284:9
 trees-size-requires : tie.Need-trees-size-requires
 trees-size-requires c κs = search needs
 
--- src/write.rt:285:28
 around-requires : tie.Need-around-requires
 around-requires c κs = search needs
 
--- src/write.rt:285:9
 put-head-requires : tie.Need-put-head-requires
 put-head-requires c κs = search needs
 
--- src/write.rt:286:22
 root-tag-requires : tie.Need-root-tag-requires
 root-tag-requires c κs = search needs
 
--- src/write.rt:286:9
 put-head-requires-2 : tie.Need-put-head-requires-2
 put-head-requires-2 c κs = search needs
 
--- src/write.rt:287:9
 put-items-requires : tie.Need-put-items-requires
 put-items-requires c κs =
     let the-measure = c .before .before .before .before .before .before .before .before .before .before .before .before .before .before .before .measure in
     let the-if1 = c .before .before .before .before .before .before .before .before .before .before .before .before .before .before .if1 in
     let t = the-if1 .left in let h : the-measure .result ≤ 16384 = omega arith in (omega arith, write-bound _ _ _ _ _ (the-measure .ensures) h)
 
--- src/write.rt:273:1
 same-length : tie.Need-same-length
 same-length c = search needs
 
--- src/write.rt:273:1
 returns-3 : tie.Need-returns-3
 returns-3 c =
     let the-measure = c .before .before .before .before .before .before .before .before .before .before .before .before .before .before .before

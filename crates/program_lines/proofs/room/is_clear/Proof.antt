@@ -16,15 +16,12 @@ Inv-loop out i₀ i = (i ≤ length out) × (clear (drop i out) ≡ clear out)
 abbrev μ-loop : tie.MeasureT-loop
 μ-loop out i₀ i = length out - i
 
--- src/room.rt:10:5
 loop-holds : tie.Need-loop-holds Inv-loop μ-loop
 loop-holds c = (omega arith, refl)
 
--- src/room.rt:11:12
 shared-slice-read-if1 : tie.Need-shared-slice-read-if1 Inv-loop μ-loop
 shared-slice-read-if1 c = search needs
 
--- src/room.rt:12:13
 returns : tie.Need-returns Inv-loop μ-loop
 returns c =
     let the-loop = c .before .before .before .loop in
@@ -32,15 +29,12 @@ returns c =
     let the-if1 = c .if1 in
     clear-no _ _ (the-loop .inv .1) (the-loop-test .taken) (the-if1 .taken)
 
--- src/room.rt:14:13
 add-i : tie.Need-add-i Inv-loop μ-loop
 add-i c = search needs
 
--- src/room.rt:10:5
 loop-less : tie.Need-loop-less Inv-loop μ-loop
 loop-less c = search needs
 
--- src/room.rt:10:5
 loop-again : tie.Need-loop-again Inv-loop μ-loop
 loop-again c =
     let the-loop = c .before .before .before .loop in
@@ -48,7 +42,6 @@ loop-again c =
     let the-if1 = c .if1 in
     (omega arith, clear-more _ _ (the-loop .inv .1) (the-loop-test .taken) (the-if1 .left))
 
--- src/room.rt:6:1
 returns-2 : tie.Need-returns-2 Inv-loop μ-loop
 returns-2 c =
     let the-loop = c .before .loop in

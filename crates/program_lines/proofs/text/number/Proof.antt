@@ -17,31 +17,26 @@ Inv-loop line from end n₀ i₀ n i = (i ≤ end) × ((n < 18446744073709551616
 abbrev μ-loop : tie.MeasureT-loop
 μ-loop line from end n₀ i₀ n i = end - i
 
--- src/text.rt:113:9
 returns : tie.Need-returns Inv-loop μ-loop
 returns c =
     let the-if1 = c .if1 in
     number-short _ _ _ (the-if1 .taken)
 
--- src/text.rt:116:9
 returns-2 : tie.Need-returns-2 Inv-loop μ-loop
 returns-2 c =
     let the-if1 = c .before .if1 in
     let the-if2 = c .if2 in
     number-none _ _ _ (the-if1 .left) (the-if2 .taken)
 
--- src/text.rt:120:5
 loop-holds : tie.Need-loop-holds Inv-loop μ-loop
 loop-holds c =
     let the-if1 = c .before .if1 in
     let the-if2 = c .if2 in
     (omega arith, (omega arith, number-start _ _ _ (the-if1 .left) (the-if2 .left)))
 
--- src/text.rt:121:17
 shared-slice-read-b : tie.Need-shared-slice-read-b Inv-loop μ-loop
 shared-slice-read-b c = search needs
 
--- src/text.rt:123:13
 returns-3 : tie.Need-returns-3 Inv-loop μ-loop
 returns-3 c =
     let the-if1 = c .before .before .before .before .before .if1 in
@@ -50,7 +45,6 @@ returns-3 c =
     let the-if3 = c .if3 in
     number-low _ _ _ (the-if1 .left) _ _ (the-loop .inv .1 .1) (the-loop-test .taken) (the-if3 .taken)
 
--- src/text.rt:126:13
 returns-4 : tie.Need-returns-4 Inv-loop μ-loop
 returns-4 c =
     let the-if1 = c .before .before .before .before .before .before .if1 in
@@ -59,25 +53,20 @@ returns-4 c =
     let the-if4 = c .if4 in
     number-high _ _ _ (the-if1 .left) _ _ (the-loop .inv .1 .1) (the-loop-test .taken) (the-if4 .taken)
 
--- src/text.rt:128:21
 wide-requires : tie.Need-wide-requires Inv-loop μ-loop
 wide-requires c κs = search needs
 
--- src/text.rt:128:9
 more-requires : tie.Need-more-requires Inv-loop μ-loop
 more-requires c κs =
     let the-wide = c .wide in
     omega (arith, the-wide .ensures)
 
--- src/text.rt:129:13
 add-i : tie.Need-add-i Inv-loop μ-loop
 add-i c = search needs
 
--- src/text.rt:120:5
 loop-less : tie.Need-loop-less Inv-loop μ-loop
 loop-less c = search needs
 
--- src/text.rt:120:5
 loop-again : tie.Need-loop-again Inv-loop μ-loop
 loop-again c =
     let the-if1 = c .before .before .before .before .before .before .before .before .if1 in
@@ -97,7 +86,6 @@ loop-again c =
       ),
     )
 
--- src/text.rt:109:1
 returns-5 : tie.Need-returns-5 Inv-loop μ-loop
 returns-5 c =
     let the-if1 = c .before .before .before .if1 in

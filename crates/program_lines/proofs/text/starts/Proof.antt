@@ -16,25 +16,20 @@ Inv-loop line text i₀ i = (i ≤ length text) × (startsWith (drop i line) (dr
 abbrev μ-loop : tie.MeasureT-loop
 μ-loop line text i₀ i = length text - i
 
--- src/text.rt:24:9
 returns : tie.Need-returns Inv-loop μ-loop
 returns c =
     let the-if1 = c .if1 in
     starts-short _ _ (the-if1 .taken)
 
--- src/text.rt:27:5
 loop-holds : tie.Need-loop-holds Inv-loop μ-loop
 loop-holds c = (omega arith, refl)
 
--- src/text.rt:28:12
 shared-slice-read-if2 : tie.Need-shared-slice-read-if2 Inv-loop μ-loop
 shared-slice-read-if2 c = search needs
 
--- src/text.rt:28:23
 shared-slice-read-if2-2 : tie.Need-shared-slice-read-if2-2 Inv-loop μ-loop
 shared-slice-read-if2-2 c = search needs
 
--- src/text.rt:29:13
 returns-2 : tie.Need-returns-2 Inv-loop μ-loop
 returns-2 c =
     let the-if1 = c .before .before .before .before .before .if1 in
@@ -43,15 +38,12 @@ returns-2 c =
     let the-if2 = c .if2 in
     starts-no _ _ _ (the-loop .inv .1) (the-loop-test .taken) (the-if1 .left) (the-if2 .taken)
 
--- src/text.rt:31:13
 add-i : tie.Need-add-i Inv-loop μ-loop
 add-i c = search needs
 
--- src/text.rt:27:5
 loop-less : tie.Need-loop-less Inv-loop μ-loop
 loop-less c = search needs
 
--- src/text.rt:27:5
 loop-again : tie.Need-loop-again Inv-loop μ-loop
 loop-again c =
     let the-if1 = c .before .before .before .before .before .if1 in
@@ -60,7 +52,6 @@ loop-again c =
     let the-if2 = c .if2 in
     (omega arith, starts-more _ _ _ (the-loop .inv .1) (the-loop-test .taken) (the-if1 .left) (the-if2 .left))
 
--- src/text.rt:20:1
 returns-3 : tie.Need-returns-3 Inv-loop μ-loop
 returns-3 c =
     let the-loop = c .before .loop in
