@@ -47,8 +47,8 @@ as-calls {o = o} {l = l} (call x u r e f rest) a p (h, (k, n)) =
     let g : u ≡ tickAt o (laterTime a (x .time)) = e ∙ ap (λ (t : ℕ). laterOf t (tickAt o (x .time))) p ∙ later-time o a (x .time) h k in
     said.call _ r (f ∙ ap (λ (t : ℕ). shows l t (x .happened)) g) (as-calls rest (laterTime a (x .time)) g n)
 
--- THE PROMISE for ticks out of order, over every list of showings from the start s up to the present z, none half the range away from the latest before it: if each
--- is shown at the tick that `later` gives, then all that is promised holds of the latest times.
+-- THE PROMISE for ticks out of order, over every list of showings from the start s up to the present z, none half the range away from the latest before it: if
+-- each is shown at the tick that `later` gives, then all that is promised holds of the latest times.
 pub promise-later : {o s z : ℕ} {xs : List Showing} {rs : List Answer} {l′ : Link}
     → Near s xs → LaterCalls o (tickAt o s) (begun (tickAt o s)) xs rs l′ → Often s (ordered s xs) z → Promised s z (ordered s xs) rs
 promise-later {s = s} n k often = promise (as-calls k s refl n) often

@@ -1,5 +1,5 @@
--- For hosts that cannot promise order: of two ticks the later one, by the shorter way round, so that a tick that is behind by half the range at most counts as no
--- time passed. And the words of the promise for them.
+-- For hosts that cannot promise order: of two ticks the later one, by the shorter way round, so that a tick that is behind by half the range at most counts as
+-- no time passed. And the words of the promise for them.
 use Prim.Native.Nat.{ℕ, _+_, _≤_, _<_}
 use mathlib.Core.List.{List, [], _∷_}
 use mathlib.Core.Path.{_≡_}
@@ -34,7 +34,8 @@ abbrev pub Near : ℕ → List Showing → Type 0
 Near a [] = Unit {0}
 Near a (x ∷ xs) = (x .time < a + half) × ((a ≤ x .time + half) × Near (laterTime a (x .time)) xs)
 
--- Calls one after another: of `later`, with the tick that it gave before, and of `show`, with the tick that it gives now. What they give is what their contracts say.
+-- Calls one after another: of `later`, with the tick that it gave before, and of `show`, with the tick that it gives now. What they give is what their
+-- contracts say.
 pub data LaterCalls : ℕ → ℕ → Link → List Showing → List Answer → Link → Type 0 where
   none : {o t : ℕ} {l : Link} → LaterCalls o t l [] [] l
   call : {o t : ℕ} {l l′ : Link} {xs : List Showing} {rs : List Answer} (x : Showing) (u : ℕ) (r : Shown)
