@@ -1,6 +1,6 @@
--- THE CLAIM for `ember_turn`: whatever list of its calls is made, refused ones among them, from a fresh session's words, any store of the right length and a desk
--- in any legal state, what they answer and leave tells what the rules tell for the bytes consumed so far, and keeps what they keep. (Calls.antt ties it to the
--- contract of `ember_turn`.)
+-- THE CLAIM for `ember_turn`: whatever list of its calls is made, refused ones among them, from a fresh session's words, any store of the right length and a
+-- desk in any legal state, what they answer and leave tells what the rules tell for the bytes consumed so far, and keeps what they keep. (Calls.antt ties it to
+-- the contract of `ember_turn`.)
 use Prim.Native.Nat.{ℕ, zero, suc}
 use mathlib.Core.Bool.{Bool, true, false, true≢false}
 use mathlib.Core.List.{List, [], _∷_, _++_}

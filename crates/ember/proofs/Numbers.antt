@@ -64,7 +64,8 @@ desk-call-numbers fs path root rows n s lent cells words =
 after-number : (r : Called) (d : Desk) (table : Rows) (lent a : List ℕ) → turnAfter r d table lent a .number ≡ r .number
 after-number r d table lent a = go (eqb (r .number) 1)
   where
-    go : (b : Bool) → pick b (turn r (left none lent table (d .crosspoints)) a) (told r (next (r .number) (take (getD (r .answer) 2 0) (r .store)) d table)) .number
+    go : (b : Bool)
+        → pick b (turn r (left none lent table (d .crosspoints)) a) (told r (next (r .number) (take (getD (r .answer) 2 0) (r .store)) d table)) .number
         ≡ r .number
     go true = refl
     go false = refl

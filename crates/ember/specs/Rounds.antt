@@ -33,8 +33,8 @@ pub data Rounds (rows : ℕ) (fs path : List ℕ) : List ℕ → List ℕ → Ce
       → Rounds rows fs path (x .session ++ drop i ws) (x .store ++ drop j t) (x .crosspoints ++ drop k cells) (c ++ later) xs ws″ t″ cells″ rest″
       → Rounds rows fs path ws t cells (c ++ later) (record { offered = c; left = x } ∷ xs) ws″ t″ cells″ rest″
 
--- What a call was offered, answered and left is what a turn tells: the bytes offered, the event's number, the store, what came after with the answers, the table
--- and the crosspoints, and the nine words.
+-- What a call was offered, answered and left is what a turn tells: the bytes offered, the event's number, the store, what came after with the answers, the
+-- table and the crosspoints, and the nine words.
 pub record Tells (r : Round) (y : claim.Turn) : Type 0 where
   pub offered-is : r .offered ≡ y .offered
   pub store-is : r .left .store ≡ y .store

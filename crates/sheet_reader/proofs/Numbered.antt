@@ -114,7 +114,8 @@ open-number w f path mode = rw (eq-eqb _ _ (clear-length (w * w))) (go (pathFits
     go false v z = refl
 
 module _ (es : List Item) (operations : Operations (asksOf es)) where
-  applied-numbers : (f : Figures) (path : List ℕ) (cells : Cells) → deskLegal side f path cells ≡ true → Numbered (applied f path (handled side f path es cells))
+  applied-numbers : (f : Figures) (path : List ℕ) (cells : Cells) → deskLegal side f path cells ≡ true
+      → Numbered (applied f path (handled side f path es cells))
   unfolding applied handled allIn has
   applied-numbers f path cells h =
       let ns = handled side f path es cells .answers in

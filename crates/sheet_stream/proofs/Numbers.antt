@@ -29,7 +29,8 @@ step-number s b h =
 -- from 10 up
 fault-of : (n : ℕ) → OneOf feedNumbers n → 10 ≤ n → OneOf faultNumbers n
 fault-of n o h =
-    ⊎-elim (λ (e : n ≡ 0). absurd (omega (arith, e, h))) (⊎-elim (λ (e : n ≡ 1). absurd (omega (arith, e, h))) (⊎-elim (λ (e : n ≡ 2). absurd (omega (arith, e, h)))
+    ⊎-elim (λ (e : n ≡ 0). absurd (omega (arith, e, h))) (⊎-elim (λ (e : n ≡ 1). absurd (omega (arith, e, h)))
+    (⊎-elim (λ (e : n ≡ 2). absurd (omega (arith, e, h)))
     (⊎-elim (λ (e : n ≡ 3). absurd (omega (arith, e, h))) (⊎-elim (λ (e : n ≡ 4). absurd (omega (arith, e, h)))
     (⊎-elim (λ (e : n ≡ 5). absurd (omega (arith, e, h))) (λ (r : OneOf faultNumbers n). r)))))) o
 

@@ -48,7 +48,8 @@ ran [] s t i = record { d = 0; counted = omega arith; store-is = refl }
 ran (x ∷ xs) s t i = go (eqb (step s x .said .number) 0) (ran xs (step s x .next) (kept (step s x) t) (i + 1))
   where
     go : (u : Bool) → Ran xs (step s x .next) (kept (step s x) t) (i + 1) (run xs (step s x .next) (kept (step s x) t) (i + 1))
-        → Ran (x ∷ xs) s t i (pick u (run xs (step s x .next) (kept (step s x) t) (i + 1)) (whole (step s x .said) (i + 1) (step s x .next) (kept (step s x) t)))
+        → Ran (x ∷ xs) s t i
+        (pick u (run xs (step s x .next) (kept (step s x) t) (i + 1)) (whole (step s x .said) (i + 1) (step s x .next) (kept (step s x) t)))
     go true r = record { d = suc (r .d); counted = omega (arith, r .counted); store-is = r .store-is }
     go false r = record { d = 1; counted = refl; store-is = refl }
 
