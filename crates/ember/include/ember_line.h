@@ -194,7 +194,7 @@ static inline uint64_t ember_line_sheet_write(const struct ember_line *line, uin
 }
 
 /* Reads a route sheet into the line's desk: EMBER_DONE, and the desk is the sheet's; or the first refusal, and the desk is as it was.
- * ember_sheet_line says where. It takes 17 KB of stack.
+ * ember_sheet_line says where. It takes some 180 KB of stack.
  * Never touches the stream: an open frame or message stays. */
 static inline uint64_t ember_line_sheet_read(struct ember_line *line, const uint8_t *text, size_t text_bytes)
 {
