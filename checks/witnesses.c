@@ -55,15 +55,15 @@ static void stores(void)
     static const uint8_t stray[] = {0x00};
     static uint8_t longest[1 + 1025 + 1];
     fed("a keep-alive", alive, sizeof alive, EMBER_REQUEST, NULL, 0, alive + 1, 6);
-    fed("a wrong CRC", bad_crc, sizeof bad_crc, EMBER_CRC, NULL, 0, bad_crc + 1, 6);
+    fed("a wrong CRC", bad_crc, sizeof bad_crc, EMBER_BAD_CRC, NULL, 0, bad_crc + 1, 6);
     fed("bytes past a fault", faulty, sizeof faulty, EMBER_BAD_BYTE, NULL, 0, faulty + 1, 2);
     fed("an escape left open", open_escape, sizeof open_escape, EMBER_DONE, NULL, 0, open_escape + 1, 1);
     fed("a message", piece, sizeof piece, EMBER_MESSAGE, piece + 10, 2, piece + 1, 13);
-    fed("a stray byte", stray, sizeof stray, EMBER_STRAY, NULL, 0, NULL, 0);
+    fed("a stray byte", stray, sizeof stray, EMBER_BAD_STRAY, NULL, 0, NULL, 0);
     memset(longest, 0x55, sizeof longest);
     longest[0] = 0xfe;
     longest[sizeof longest - 1] = 0xff;
-    fed("the 1,025th byte", longest, sizeof longest, EMBER_LONG, NULL, 0, longest + 1, 1024);
+    fed("the 1,025th byte", longest, sizeof longest, EMBER_BAD_LONG, NULL, 0, longest + 1, 1024);
 }
 
 /* Every word of a session that is one too high, or a length where nothing is open: EMBER_SETUP, and everything as it was. */
@@ -113,7 +113,7 @@ static void openings(void)
     static const uint64_t path[17] = {1, 1, 1, 1, 1, 1, 1, 1, 1, 1, 1, 1, 1, 1, 1, 1, 1}, zero[3] = {1, 2, 0}, over[3] = {1, 2, 2147483648u};
     static uint8_t cells[EMBER_CROSSPOINTS + 1], same[EMBER_CROSSPOINTS + 1];
     for (int more = -1; more <= 1; more++) {
-        uint64_t wanted = more == 0 ? EMBER_DESK : EMBER_SETUP;
+        uint64_t wanted = more == 0 ? EMBER_BAD_DESK : EMBER_SETUP;
         memset(cells, 1, sizeof cells);
         memcpy(same, cells, sizeof cells);
         expect("a path of none", ember_desk_open(figures, 7, 0, path, 0, cells, (size_t)(EMBER_CROSSPOINTS + more)), wanted);
@@ -130,11 +130,52 @@ static void openings(void)
     }
 }
 
+/* One turn on the frames of a message, or on a keep-alive if there is none: all nine words, marked before, and the 256 answers, of which none is given. */
+static void turned(const char *what, const uint8_t *message, size_t message_bytes, size_t rows, uint64_t number, const uint64_t *wanted)
+{
+    static const uint64_t figures[EMBER_FIGURES_WORDS] = {EMBER_N_TO_N, 2, 2, 0, 0, 0, 0}, path[1] = {1};
+    static ember_row table[1];
+    static uint8_t frames[EMBER_FRAME_MAX], cells[EMBER_CROSSPOINTS], answers[EMBER_ANSWERS_MAX];
+    uint64_t words[EMBER_TURN_WORDS], count = 0;
+    expect("the desk", ember_desk_open(figures, EMBER_FIGURES_WORDS, 0, path, 1, cells, sizeof cells), EMBER_DONE);
+    expect("ember_start", ember_start(session, EMBER_SESSION_WORDS), EMBER_DONE);
+    if (message == NULL)
+        expect("a keep-alive", ember_write_request(frames, sizeof frames, &count), EMBER_DONE);
+    else
+        expect("the frames", ember_write_message(message, message_bytes, frames, sizeof frames, &count), EMBER_DONE);
+    memset(words, 0x77, sizeof words);
+    memset(answers, 0x77, sizeof answers);
+    expect(what, ember_turn(session, EMBER_SESSION_WORDS, store, EMBER_STORE_BYTES, frames, count, table, rows, figures, EMBER_FIGURES_WORDS, path, 1, cells,
+                            sizeof cells, answers, words, EMBER_TURN_WORDS), number);
+    for (size_t at = 0; at < EMBER_TURN_WORDS; at++)
+        expect(what, words[at], at == EMBER_CONSUMED ? count : wanted[at]);
+    for (size_t at = 0; at < sizeof answers; at++)
+        expect(what, answers[at], 0);
+}
+
+static void turns(void)
+{
+    static const uint8_t command[] = {0x60, 0x0b, 0x6b, 0x09, 0xa0, 0x07, 0x62, 0x05, 0xa0, 0x03, 0x02, 0x01, 0x20};
+    static const uint8_t streams[] = {0x60, 0x02, 0x65, 0x00};
+    static const uint8_t node[] = {0x60, 0x0b, 0x6b, 0x09, 0xa0, 0x07, 0x63, 0x05, 0xa0, 0x03, 0x02, 0x01, 0x00};
+    static const uint64_t nothing[EMBER_TURN_WORDS] = {0};
+    static const uint64_t one[EMBER_TURN_WORDS] = {0, 0, sizeof command, EMBER_DONE, 0, 1, EMBER_ELEMENTS, EMBER_DONE, 0};
+    static const uint64_t none[EMBER_TURN_WORDS] = {0, 0, sizeof streams, EMBER_DONE, 0, 0, EMBER_STREAMS, EMBER_DONE, 0};
+    static const uint64_t no_room[EMBER_TURN_WORDS] = {0, 0, sizeof command, EMBER_NO_ROOM, 0, 1, 0, 0, 0};
+    static const uint64_t refused[EMBER_TURN_WORDS] = {0, 0, sizeof node, EMBER_BAD_NUMBER, 10, 0, 0, 0, 0};
+    turned("a turn on a keep-alive", NULL, 0, 1, EMBER_REQUEST, nothing);
+    turned("a turn on a command", command, sizeof command, 1, EMBER_MESSAGE, one);
+    turned("a turn on no streams", streams, sizeof streams, 1, EMBER_MESSAGE, none);
+    turned("a turn without room", command, sizeof command, 0, EMBER_MESSAGE, no_room);
+    turned("a turn on a number out of range", node, sizeof node, 1, EMBER_MESSAGE, refused);
+}
+
 int main(void)
 {
     stores();
     sessions();
     readings();
     openings();
+    turns();
     return wrong;
 }
