@@ -404,8 +404,9 @@ uint64_t ember_desk_call(const uint64_t *figures, size_t figures_words, const ui
  * again. EMBER_SETUP for what ember_feed refuses, figures that are none, a table over 256 rows, path_words not 1 to 16,
  * crosspoint_bytes not 4,096, or answer_words not 9: nothing was consumed or changed then. Else `answers` are those of this turn,
  * all zeros where the desk was not called.
- * Over any calls on one line and one legal desk, refused ones among them, on whatever chunks: what they tell is what the rules of
- * framing, tree and desk tell for the bytes consumed, each event once and in order, and what they keep is what the rules keep.
+ * Over any calls on one line and one legal desk with one count of table_rows, refused ones among them, on whatever chunks: what they
+ * tell is what the rules of framing, tree and desk tell for the bytes consumed, each event once and in order, and what they keep is
+ * what the rules keep.
  * Never changes table or crosspoints at any event but EMBER_MESSAGE, nor then unless the tree reader gives EMBER_DONE. */
 uint64_t ember_turn(uint64_t *session, size_t session_words, uint8_t *store, size_t store_bytes, const uint8_t *chunk,
                     size_t chunk_bytes, uint64_t (*table)[EMBER_ROW_WORDS], size_t table_rows, const uint64_t *figures,

@@ -101,8 +101,8 @@ uint64_t supervision_start(uint64_t *link, size_t link_words, uint32_t tick);
 uint64_t supervision_show(uint64_t *link, size_t link_words, uint32_t tick, uint64_t number);
 
 /* For hosts that cannot promise order: of the latest tick shown so far, at first that of supervision_start, and this one, the later, by the
- * shorter way round. So a tick that is behind by half the range at most, 24 days, counts as no time passed. What is promised of
- * supervision_show holds then of the latest ticks.
+ * shorter way round. So a tick that is behind by half the range at most, 24 days, counts as no time passed. Shown the
+ * latest in place of each tick, supervision_show is shown ticks that never go back, which is what its promise asks for.
  * Never goes back. */
 uint32_t supervision_later(uint32_t latest, uint32_t tick);
 
