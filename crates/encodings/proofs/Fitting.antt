@@ -1,4 +1,4 @@
--- A member's value: what `Fits` allows after what `Says` says is what forest's `suits` and `pathOf` have, by which the reader was proved.
+-- A member's value: what `Fits` allows after what `Says` says is what glow_trees' `suits` and `pathOf` have, by which the reader was proved.
 use Prim.Native.Nat.{ℕ, suc, _+_, _-_, _≤_, _<_}
 use mathlib.Core.Path.{_≡_, refl, sym, ap, subst, _∙_}
 use mathlib.Core.List.{List, [], _∷_, _++_}

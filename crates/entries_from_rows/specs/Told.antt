@@ -1,5 +1,5 @@
 -- What the structs of the kinds of entry (crates/glow_entries) are to make of an entry that the reader read. These are the words of `rows-told`
--- (proofs/Theorems.antt). Of `records` they name the structs and what its functions answer, and none of its numbers.
+-- (proofs/Theorems.antt). Of `glow_entries` they name the structs and what its functions answer, and none of its numbers.
 use Prim.Native.Nat.{ℕ, suc, _+_}
 use mathlib.Core.Path.{_≡_}
 use mathlib.Core.Bool.{Bool, true, false}
