@@ -2,3 +2,4 @@ pub mod Words
 pub mod Calls
 pub mod Rounds
 pub mod Steps
+pub mod Vectors

@@ -1,0 +1,30 @@
+-- Words of the answers of ember.h, those that say nothing among them, and the lengths of a turn, by computation.
+use Prim.Native.Nat.{ℕ}
+use mathlib.Core.Path.{_≡_, refl}
+use mathlib.Core.Bool.{Bool, true, false}
+use mathlib.Core.List.{List, [], _∷_, map}
+use Rattle.glow_reader.specs.declared.Answer.{Answer}
+use Rattle.glow_reader.specs.declared.Answer.the-variants.{Refused, Room}
+use Rattle.desk_calls.specs.Calls.{outcome}
+use Rattle.turns.specs.Turns.{Later, none, read, desk}
+use Rattle.ember.specs.Calls.{lengthsFit, laterWords}
+
+-- After the session's three words: the tree's number, its place, its count and Root's kind, the desk's number and its count of answers.
+pub v-words : map laterWords (none ∷ read (Refused 34 12) [] ∷ read (Room 257) [] ∷ desk 3 5 [] (outcome 1 7 [] []) ∷ desk 0 2 [] (outcome 0 1 [] []) ∷ [])
+    ≡ (0 ∷ 0 ∷ 0 ∷ 0 ∷ 0 ∷ 0 ∷ [])
+    ∷ (34 ∷ 12 ∷ 0 ∷ 0 ∷ 0 ∷ 0 ∷ [])
+    ∷ (38 ∷ 0 ∷ 257 ∷ 0 ∷ 0 ∷ 0 ∷ [])
+    ∷ (0 ∷ 0 ∷ 5 ∷ 3 ∷ 1 ∷ 7 ∷ [])
+    ∷ (0 ∷ 0 ∷ 2 ∷ 0 ∷ 0 ∷ 1 ∷ [])
+    ∷ []
+v-words = refl
+
+-- Each length of a turn at its limit, and one beside it: rows, crosspoints, the path's numbers, the answer's words.
+pub v-lengths : lengthsFit 256 4096 16 9 ∷ lengthsFit 0 4096 1 9 ∷ [] ≡ true ∷ true ∷ []
+unfolding lengthsFit
+v-lengths = refl
+
+pub v-other-lengths : lengthsFit 257 4096 16 9 ∷ lengthsFit 256 4095 16 9 ∷ lengthsFit 256 4097 16 9 ∷ lengthsFit 256 4096 0 9 ∷ lengthsFit 256 4096 17 9
+    ∷ lengthsFit 256 4096 16 8 ∷ lengthsFit 256 4096 16 10 ∷ [] ≡ false ∷ false ∷ false ∷ false ∷ false ∷ false ∷ false ∷ []
+unfolding lengthsFit
+v-other-lengths = refl
