@@ -11,16 +11,17 @@ use lib.Dec.{eqb}
 use lib.ListN.{length, getD, take, drop, take-append-drop}
 use Rattle.ber_integers.specs.Digits.{pick}
 use Rattle.ber_integers.proofs.Radix.{Below}
-use Rattle.framing.specs.declared.Event.{Event}
-use Rattle.framing.specs.declared.Event.the-variants as ev
-use Rattle.framing.specs.declared.Fed.{Fed}
-use Rattle.framing.specs.declared.Session.{Session}
-use Rattle.framing.specs.Numbers.{storeLength}
-use Rattle.framing.specs.Rules.{begin}
-use Rattle.framing.specs.Session.{sessionOf, saidBy, legal, Legal, Whole, answers, feeds}
+use Rattle.framing_session.specs.declared.Event.{Event}
+use Rattle.framing_session.specs.declared.Event.the-variants as ev
+use Rattle.framing_session.specs.declared.Fed.{Fed}
+use Rattle.framing_session.specs.declared.Session.{Session}
+use Rattle.framing_content.specs.Numbers.{storeLength}
+use Rattle.framing_session.specs.Rules.{begin}
+use Rattle.framing_session.specs.Session.{sessionOf, saidBy, legal, Legal, Whole, answers, feeds}
 use Rattle.framing.proofs.Calls.{some-call}
 use Rattle.framing_words.specs.Words.{wordsOf, sessionAt, isSession}
-use Rattle.framing_c.specs.Calls.{Called, accepts, told as framed, calls}
+use Rattle.framing_answers.specs.Answers.{accepts}
+use Rattle.framing_c.specs.Calls.{Called, told as framed, calls}
 use Rattle.framing_words.proofs.Laws.{words-back}
 use Rattle.glow_rows.specs.Entry.{Rows}
 use Rattle.desk_crosspoints.specs.Figures.{both}
@@ -30,7 +31,7 @@ use Rattle.turns.specs.Rules.{Desk, isLegal}
 use Rattle.turns.specs.Turns as claim
 use Rattle.turns.specs.Turns.{none as no-more}
 use Rattle.turns.specs.Whole.{deskAt, Left, left, laterAt, laterOf, gave}
-use Rattle.framing.proofs.Laws.{number-apart, legal-true}
+use Rattle.framing_session.proofs.Laws.{number-apart, legal-true}
 use Rattle.framing.proofs.Sayable.{legal-answered}
 use Rattle.turns.proofs.Comes.{said-at, function-turn}
 use Rattle.turns.proofs.Claim.{claim as rules-claim}

@@ -26,7 +26,7 @@ use Rattle.turns.specs.declared.After.the-variants as after
 use Rattle.turns.specs.Rules.{Desk}
 use Rattle.turns.specs.Turns.{none}
 use Rattle.turns.specs.Whole.{deskAt, Left, left, unasked, readTo, laterOf, gave}
-use Rattle.framing_writer.specs.Written.{Outcome as Wrote}
+use Rattle.framing_packets.specs.Written.{Outcome as Wrote}
 use Rattle.sheet_writer.specs.declared.Answer as written
 use Rattle.sheet_writer.specs.declared.Answer.the-variants as writtens
 use Rattle.sheet_writer.specs.Calls.{writesSheet, told as wroteAs}

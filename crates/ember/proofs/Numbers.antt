@@ -10,7 +10,7 @@ use lib.ListN.{length, getD, take}
 use Rattle.ber_integers.specs.Digits.{pick}
 use Rattle.ber_containers.proofs.Heads.{pick-by}
 use Rattle.glow_rows.specs.Entry.{Rows}
-use Rattle.framing.specs.Numbers.{feedNumbers}
+use Rattle.framing_content.specs.Numbers.{feedNumbers}
 use Rattle.framing_c.specs.Calls.{Called, calls}
 use Rattle.framing_c.proofs.Calls.{feed-numbers}
 use Rattle.desk_crosspoints.specs.Figures.{side, both}
@@ -22,8 +22,8 @@ use Rattle.desk_calls.proofs.Numbers.{open-numbers, request-numbers, call-numbe
 use Rattle.turns.specs.Rules.{Desk}
 use Rattle.turns.specs.Turns.{none}
 use Rattle.turns.specs.Whole.{deskAt, left}
-use Rattle.framing_writer.specs.Written.{into}
-use Rattle.framing_writer.specs.Written.{Outcome as Wrote}
+use Rattle.framing_packets.specs.Written.{into}
+use Rattle.framing_packets.specs.Written.{Outcome as Wrote}
 use Rattle.sheet_rules.specs.Sheet.{desk, sheetOf}
 use Rattle.sheet_writer.specs.Calls.{writesSheet}
 use Rattle.sheet_reader.specs.Calls.{sheetNumbers}

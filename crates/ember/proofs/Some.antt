@@ -8,18 +8,19 @@ use native.Mathlib.Omega.{arith}
 use lib.Dec.{leb, eqb}
 use lib.ListN.{length}
 use Rattle.ber_integers.proofs.Radix.{Below}
-use Rattle.framing.specs.declared.Fed.{Fed}
-use Rattle.framing.specs.declared.Session.{Session}
-use Rattle.framing.specs.Numbers.{storeLength}
-use Rattle.framing.specs.Rules.{begin}
-use Rattle.framing.specs.Session.{stateOf, sessionOf, saidBy, legal as isFit, Legal, Whole, answers, feeds}
+use Rattle.framing_session.specs.declared.Fed.{Fed}
+use Rattle.framing_session.specs.declared.Session.{Session}
+use Rattle.framing_content.specs.Numbers.{storeLength}
+use Rattle.framing_session.specs.Rules.{begin}
+use Rattle.framing_session.specs.Session.{stateOf, sessionOf, saidBy, legal as isFit, Legal, Whole, answers, feeds}
 use Rattle.framing.specs.Offers as offers
-use Rattle.framing.proofs.Laws.{true-legal}
+use Rattle.framing_session.proofs.Laws.{true-legal}
 use Rattle.framing.proofs.Sayable.{legal-answered}
 use Rattle.framing.proofs.Chunks.{call-ran, fresh-legal}
 use Rattle.framing.proofs.Calls as framing
 use Rattle.framing_words.specs.Words.{wordsOf, sessionAt}
-use Rattle.framing_c.specs.Calls.{accepts, told as framed, calls}
+use Rattle.framing_answers.specs.Answers.{accepts}
+use Rattle.framing_c.specs.Calls.{told as framed, calls}
 use Rattle.framing_words.proofs.Laws.{words-back, words-session}
 use Rattle.glow_rows.specs.Entry.{Rows}
 use Rattle.desk_crosspoints.specs.declared.Figures.{Figures}

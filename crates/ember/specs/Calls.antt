@@ -17,7 +17,7 @@ use Rattle.desk_calls.specs.Calls.{deskLegal, deskOpened, Outcome, called}
 use Rattle.turns.specs.Rules.{Desk}
 use Rattle.turns.specs.Turns.{Later, none, read, desk}
 use Rattle.turns.specs.Whole.{deskAt, Left, left, unasked, readTo}
-use Rattle.framing_writer.specs.Written.{Outcome as Wrote}
+use Rattle.framing_packets.specs.Written.{Outcome as Wrote}
 use Rattle.sheet_writer.specs.Calls.{writesSheet}
 use Rattle.sheet_reader.specs.Calls as sheet
 use Rattle.sheet_reader.specs.Calls.{sheetRead}

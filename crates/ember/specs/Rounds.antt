@@ -4,8 +4,8 @@ use mathlib.Core.Bool.{cond}
 use mathlib.Core.List.{List, [], _∷_, _++_}
 use mathlib.Core.Path.{_≡_}
 use lib.ListN.{length, getD, take, drop}
-use Rattle.framing.specs.Rules.{Said}
-use Rattle.framing.specs.Session.{saidBy}
+use Rattle.framing_session.specs.Rules.{Said}
+use Rattle.framing_session.specs.Session.{saidBy}
 use Rattle.glow_rows.specs.Entry.{Rows}
 use Rattle.desk_crosspoints.specs.Crosspoints.{Cells}
 use Rattle.turns.specs.declared.After.{After}

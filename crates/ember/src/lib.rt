@@ -12,7 +12,7 @@ ghost use mathlib.Core.Path.{_≡_};
 ghost use mathlib.Core.List.{List, [], _∷_};
 ghost use Prim.Native.Nat.{ℕ, _≤_};
 ghost use lib.ListN.{length, take};
-ghost use Rattle.framing_writer.specs.Written.{frame, requestBody, responseBody, into, frameInto, messageInto};
+ghost use Rattle.framing_packets.specs.Written.{frame, requestBody, responseBody, into, frameInto, messageInto};
 ghost use Rattle.framing_c.specs.Calls.{starts, calls, puts};
 ghost use Rattle.glow_c.specs.Calls.{call, calls as readCalls, writing, writeCalls, acceptCalls};
 ghost use Rattle.desk_crosspoints.specs.Crosspoints.{Cells, answer as answered};

@@ -6,11 +6,11 @@ use mathlib.Core.List.{List, [], _∷_}
 use native.Mathlib.Omega.{arith}
 use lib.Dec.{eqb}
 use lib.ListN.{length}
-use Rattle.framing.specs.declared.Event.the-variants as ev
-use Rattle.framing.specs.declared.Session.{Session}
-use Rattle.framing.specs.Numbers.{pick}
-use Rattle.framing.specs.Rules.{State, step}
-use Rattle.framing.specs.Session.{saidBy, stateOf, legal, kept, Whole, whole, run, feeds}
+use Rattle.framing_session.specs.declared.Event.the-variants as ev
+use Rattle.framing_session.specs.declared.Session.{Session}
+use Rattle.framing_content.specs.Numbers.{pick}
+use Rattle.framing_session.specs.Rules.{State, step}
+use Rattle.framing_session.specs.Session.{saidBy, stateOf, legal, kept, Whole, whole, run, feeds}
 
 run-consumed : (bs : List ℕ) (s : State) (t : List ℕ) (n : ℕ) → run bs s t n .consumed ≤ n + length bs
 unfolding run

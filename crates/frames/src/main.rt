@@ -12,7 +12,7 @@ use libc::STDOUT_FILENO;
 ghost use mathlib.Core.Path.{_≡_};
 ghost use Prim.Native.Nat.{_+_, _≤_, min};
 ghost use lib.ListN.{length};
-ghost use Rattle.framing.specs.Session.{saidBy};
+ghost use Rattle.framing_session.specs.Session.{saidBy};
 ghost use Rattle.framing_lines.specs.Text.{wrote, badLineText, eventText, endText, lineRoom};
 
 // What is kept from chunk to chunk: the session, the count of bytes consumed, how many bytes of output wait, and

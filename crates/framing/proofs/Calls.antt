@@ -18,18 +18,18 @@ use lib.Seq.{drop-append-le, drop-at}
 use Rattle.framing.proofs.feed
 use Rattle.framing.proofs.feed.Kinds as feed-kinds
 use Rattle.framing.proofs.feed.Reads as feed-reads
-use Rattle.framing.proofs.start
-use Rattle.framing.proofs.start.Kinds as start-kinds
-use Rattle.framing.proofs.start.Reads as start-reads
-use Rattle.framing.specs.declared.Event.the-variants as ev
-use Rattle.framing.specs.declared.Fed.{Fed}
-use Rattle.framing.specs.declared.Session.{Session}
-use Rattle.framing.specs.Numbers.{storeLength, feedNumbers, pick}
-use Rattle.framing.specs.Rules.{State, Said, begin, Happening, noted, happens, after}
-use Rattle.framing.specs.Session.{saidBy, stateOf, sessionOf, legal, Legal, Whole, answers, run, feeds}
+use Rattle.framing_session.proofs.start
+use Rattle.framing_session.proofs.start.Kinds as start-kinds
+use Rattle.framing_session.proofs.start.Reads as start-reads
+use Rattle.framing_session.specs.declared.Event.the-variants as ev
+use Rattle.framing_session.specs.declared.Fed.{Fed}
+use Rattle.framing_session.specs.declared.Session.{Session}
+use Rattle.framing_content.specs.Numbers.{storeLength, feedNumbers, pick}
+use Rattle.framing_session.specs.Rules.{State, Said, begin, Happening, noted, happens, after}
+use Rattle.framing_session.specs.Session.{saidBy, stateOf, sessionOf, legal, Legal, Whole, answers, run, feeds}
 use Rattle.framing.specs.Offers.{Turn, Turns, none, turn, eaten, told, joined, Serves, done, whole, part, Consumed}
-use Rattle.framing.proofs.Laws.{pick-by, legal-true, bounded-state, event-numbered}
-use Rattle.framing.proofs.Stream.{Ran}
+use Rattle.framing_session.proofs.Laws.{pick-by, legal-true, bounded-state, event-numbered}
+use Rattle.framing.proofs.OneCall.{Ran}
 use Rattle.framing.proofs.Sayable.{Sayable, run-sayable, run-other}
 use Rattle.framing.proofs.Chunks.{call-ran, as-rules, fresh-legal}
 

@@ -8,14 +8,15 @@ use native.Mathlib.Omega.{arith}
 use lib.Dec.{eqb}
 use lib.ListN.{length, take, drop, take-append-drop}
 use lib.Seq.{length-take-le, drop-append-le}
-use Rattle.framing.specs.declared.Fed.{Fed}
-use Rattle.framing.specs.declared.Session.{Session}
-use Rattle.framing.specs.Numbers.{storeLength}
-use Rattle.framing.specs.Rules.{State, Said, begin, Happening, noted, happens, after}
-use Rattle.framing.specs.Session.{saidBy, stateOf, sessionOf, Legal, Whole, answers, run, feeds}
+use Rattle.framing_session.specs.declared.Fed.{Fed}
+use Rattle.framing_session.specs.declared.Session.{Session}
+use Rattle.framing_content.specs.Numbers.{storeLength}
+use Rattle.framing_session.specs.Rules.{State, Said, begin, Happening, noted, happens, after}
+use Rattle.framing_session.specs.Session.{saidBy, stateOf, sessionOf, Legal, Whole, answers, run, feeds}
 use Rattle.framing.specs.Offers.{Turn, Turns, none, turn, eaten, told, EndsWith, Stops, AsRules}
-use Rattle.framing.proofs.Laws.{true-legal, bounded-state, session-back}
-use Rattle.framing.proofs.Stream.{Ran, ran, noted-append, happens-append, after-append}
+use Rattle.framing_session.proofs.Laws.{true-legal, bounded-state, session-back}
+use Rattle.framing_session.proofs.Stream.{noted-append, happens-append, after-append}
+use Rattle.framing.proofs.OneCall.{Ran, ran}
 
 -- the run that a call with a legal session makes
 pub call-ran : {s : Session} {t c : List ℕ} (r : Fed) {t′ : List ℕ} → feeds s t c ≡ answers r t′ → Legal s t

@@ -1,7 +1,6 @@
--- Laws of the definitions (Lists, Laws, Stream, Sayable); the claim over every list of offers (Chunks); its calls, and that there are such lists (Calls).
-pub mod Lists
-pub mod Laws
-pub mod Stream
+-- What one call makes of the stream (OneCall), and what can be said (Sayable); the claim over every list of offers (Chunks); its calls, and that there are such
+-- lists (Calls).
+pub mod OneCall
 pub mod Chunks
 pub mod Sayable
 pub mod Calls

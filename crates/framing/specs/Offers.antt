@@ -5,10 +5,10 @@ use mathlib.Core.List.{List, [], _∷_, _++_}
 use mathlib.Core.Path.{_≡_}
 use lib.Dec.{eqb}
 use lib.ListN.{length, take, drop}
-use Rattle.framing.specs.declared.Fed.{Fed}
-use Rattle.framing.specs.declared.Session.{Session}
-use Rattle.framing.specs.Rules.{State, Said, Happening, noted, step, happens, after}
-use Rattle.framing.specs.Session.{saidBy, stateOf, Legal, answers, feeds}
+use Rattle.framing_session.specs.declared.Fed.{Fed}
+use Rattle.framing_session.specs.declared.Session.{Session}
+use Rattle.framing_session.specs.Rules.{State, Said, Happening, noted, step, happens, after}
+use Rattle.framing_session.specs.Session.{saidBy, stateOf, Legal, answers, feeds}
 
 -- One call: what was offered, what it gave, and the store as it left it.
 pub record Turn : Type 0 where

@@ -15,24 +15,26 @@ use lib.Dec.{eqb}
 use lib.ListN.{length, take, drop, take-append-drop, drop-of-length-le}
 use lib.Seq.{take-all}
 use types.Run.{OneOf, hit}
-use Rattle.framing.specs.declared.Fed.{Fed}
-use Rattle.framing.specs.declared.Session.{Session}
-use Rattle.framing.specs.Numbers.{storeLength, messageLimit, feedNumbers, pick}
+use Rattle.framing_session.specs.declared.Fed.{Fed}
+use Rattle.framing_session.specs.declared.Session.{Session}
+use Rattle.framing_content.specs.Numbers.{storeLength, messageLimit, feedNumbers, pick}
 use Rattle.framing.specs.Offers as offers
-use Rattle.framing.specs.Rules.{begin, happens, after}
-use Rattle.framing.specs.Session.{saidBy, stateOf, sessionOf, legal, Legal, Whole, answers, feeds}
-use Rattle.framing.proofs.Laws.{true-legal, pick-by}
+use Rattle.framing_session.specs.Rules.{begin, happens, after}
+use Rattle.framing_session.specs.Session.{saidBy, stateOf, sessionOf, legal, Legal, Whole, answers, feeds}
+use Rattle.framing_session.proofs.Laws.{true-legal, pick-by}
 use Rattle.framing.proofs.Sayable.{legal-answered}
 use Rattle.framing.proofs.Chunks as chunks
 use Rattle.framing.proofs.Calls as framing
-use Rattle.framing_writer.specs.Written.{bodyLimit, frame, requestBody, responseBody, Outcome, writeNumbers, into, frameInto, messageInto}
-use Rattle.framing_writer.specs.Written.{frameRoom, messageRoom}
-use Rattle.framing_writer.proofs.Calls as writer
-use Rattle.framing_writer.proofs.Sizes.{frame-fits, message-fits}
+use Rattle.framing_packets.specs.Written.{bodyLimit, frame, requestBody, responseBody, Outcome, writeNumbers, into, frameInto, messageInto}
+use Rattle.framing_packets.specs.Written.{frameRoom, messageRoom}
+use Rattle.framing_read_back.proofs.Calls as writer
+use Rattle.framing_packets.proofs.Sizes.{frame-fits, message-fits}
 use Rattle.framing_words.specs.Words.{wordsOf, sessionAt}
-use Rattle.framing_c.specs.Calls.{Started, starts, Called, accepts, told as toldBy, calls, Put, puts}
+use Rattle.framing_answers.specs.Answers.{accepts}
+use Rattle.framing_c.specs.Calls.{Started, starts, Called, told as toldBy, calls, Put, puts}
 use Rattle.framing_c.specs.Offers.{startNumbers, Turn, consumed, Turns, none, turn, eaten, told, Serves, done, whole, part}
-use Rattle.framing_c.proofs.Laws.{accepts-legal, calls-setup, calls-words}
+use Rattle.framing_answers.proofs.Laws.{accepts-legal}
+use Rattle.framing_c.proofs.Laws.{calls-setup, calls-words}
 use Rattle.framing_c.proofs.Claim.{as-rules}
 use Rattle.framing_c.proofs.framing_start
 use Rattle.framing_c.proofs.framing_start.Kinds as start-kinds

@@ -10,24 +10,25 @@ use native.Mathlib.Nat.{add-zero}
 use borrow.Author.Tests.{eq-eqb}
 use lib.Dec.{eqb}
 use lib.ListN.{length, take, drop, take-append-drop}
-use Rattle.framing.specs.declared.Event.{Event}
-use Rattle.framing.specs.declared.Event.the-variants as ev
-use Rattle.framing.specs.declared.Fed.{Fed}
-use Rattle.framing.specs.declared.Session.{Session}
-use Rattle.framing.specs.Numbers.{storeLength, pick}
+use Rattle.framing_session.specs.declared.Event.{Event}
+use Rattle.framing_session.specs.declared.Event.the-variants as ev
+use Rattle.framing_session.specs.declared.Fed.{Fed}
+use Rattle.framing_session.specs.declared.Session.{Session}
+use Rattle.framing_content.specs.Numbers.{storeLength, pick}
 use Rattle.framing.specs.Offers as offers
 use Rattle.framing.specs.Offers.{EndsWith}
-use Rattle.framing.specs.Rules.{State, Said, Happening, quiet, begin, noted, happens, after}
-use Rattle.framing.specs.Session.{saidBy, stateOf, sessionOf, legal, Legal, Whole, answers, feeds}
-use Rattle.framing.proofs.Laws.{true-legal, legal-true}
+use Rattle.framing_session.specs.Rules.{State, Said, Happening, quiet, begin, noted, happens, after}
+use Rattle.framing_session.specs.Session.{saidBy, stateOf, sessionOf, legal, Legal, Whole, answers, feeds}
+use Rattle.framing_session.proofs.Laws.{true-legal, legal-true}
 use Rattle.framing.proofs.Sayable.{legal-answered}
 use Rattle.framing.proofs.Chunks as chunks
 use Rattle.framing.proofs.Calls as framing
 use Rattle.framing_words.specs.Words.{wordsOf, sessionAt}
 use Rattle.framing_words.proofs.Laws.{words-back}
-use Rattle.framing_c.specs.Calls.{Started, starts, Called, accepts, told as toldBy, calls}
+use Rattle.framing_answers.specs.Answers.{accepts}
+use Rattle.framing_c.specs.Calls.{Started, starts, Called, told as toldBy, calls}
 use Rattle.framing_c.specs.Offers.{Turn, consumed, taken, says, Turns, none, turn, eaten, told, Stopped, Stops, AsRules}
-use Rattle.framing_c.proofs.Laws.{accepts-session, accepts-legal, accepts-words}
+use Rattle.framing_answers.proofs.Laws.{accepts-session, accepts-legal, accepts-words}
 
 -- ---- what the answer's words say
 

@@ -6,12 +6,13 @@ use mathlib.Core.List.{List, [], _∷_, _++_}
 use mathlib.Core.Path.{_≡_}
 use lib.Dec.{eqb}
 use lib.ListN.{length, getD, take, drop}
-use Rattle.framing.specs.Numbers.{pick}
+use Rattle.framing_content.specs.Numbers.{pick}
 use Rattle.framing.specs.Offers.{EndsWith}
-use Rattle.framing.specs.Rules.{State, Said, Happening, quiet, noted, happens, after}
-use Rattle.framing.specs.Session.{stateOf}
+use Rattle.framing_session.specs.Rules.{State, Said, Happening, quiet, noted, happens, after}
+use Rattle.framing_session.specs.Session.{stateOf}
 use Rattle.framing_words.specs.Words.{sessionAt}
-use Rattle.framing_c.specs.Calls.{Called, accepts, calls}
+use Rattle.framing_answers.specs.Answers.{accepts}
+use Rattle.framing_c.specs.Calls.{Called, calls}
 
 -- The rows of "Numbers answered" that framing_start may give. (framing_feed: feedNumbers; the writers: writeNumbers.)
 abbrev pub startNumbers : List ℕ

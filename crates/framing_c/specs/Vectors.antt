@@ -4,15 +4,16 @@ use mathlib.Core.Bool.{Bool, true, false}
 use mathlib.Core.Path.{_≡_, refl}
 use mathlib.Core.List.{List, [], _∷_, _++_, map}
 use lib.ListN.{replicate}
-use Rattle.framing.specs.Checksum.{table, crcStep, crcFrom, checksum}
-use Rattle.framing.specs.Content.{packetOf, commandOf, bodyOf, contentOf}
-use Rattle.framing.specs.Rules.{adds, pieces, ends, faulted, cuts, inPlace, step}
-use Rattle.framing.specs.Session.{kept, run, feeds}
-use Rattle.framing_writer.specs.Written.{Outcome}
-use Rattle.framing_writer.specs.declared.Written.{Written}
-use Rattle.framing_writer.specs.declared.Written.the-variants.{Done, Out}
+use Rattle.framing_checksum.specs.Checksum.{table, crcStep, crcFrom, checksum}
+use Rattle.framing_content.specs.Content.{packetOf, commandOf, bodyOf, contentOf}
+use Rattle.framing_session.specs.Rules.{adds, pieces, ends, faulted, cuts, inPlace, step}
+use Rattle.framing_session.specs.Session.{kept, run, feeds}
+use Rattle.framing_packets.specs.Written.{Outcome}
+use Rattle.framing_packets.specs.declared.Written.{Written}
+use Rattle.framing_packets.specs.declared.Written.the-variants.{Done, Out}
 use Rattle.framing_words.specs.Words.{frameAt, pendingAt, isFrame, isPending, isSession}
-use Rattle.framing_c.specs.Calls.{Started, starts, Called, accepts, told, calls, Told, tells, Put, puts}
+use Rattle.framing_answers.specs.Answers.{accepts, Told, tells}
+use Rattle.framing_c.specs.Calls.{Started, starts, Called, told, calls, Put, puts}
 
 abbrev four : ℕ → ℕ → ℕ → ℕ → List ℕ
 four a b c d = a ∷ b ∷ c ∷ d ∷ []

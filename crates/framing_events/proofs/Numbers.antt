@@ -7,10 +7,10 @@ use mathlib.Core.Path.{_≡_, refl}
 use native.Mathlib.Omega.{arith}
 use borrow.Author.Tests.{le-leb, lt-leb, lt-ltb, le-ltb}
 use lib.ListN.{length}
-use Rattle.framing.specs.Checksum.{table, crcStep, crcFrom, checksum}
-use Rattle.framing.specs.Content.{packetOf, commandOf, bodyOf, contentOf}
-use Rattle.framing.specs.Numbers.{EOF, contentLimit, messageLimit}
-use Rattle.framing.specs.Rules.{inside, tooLong, Message, part, Happening, begin, adds, pieces, ends, faulted, cuts, inPlace, step, happens}
+use Rattle.framing_checksum.specs.Checksum.{table, crcStep, crcFrom, checksum}
+use Rattle.framing_content.specs.Content.{packetOf, commandOf, bodyOf, contentOf}
+use Rattle.framing_content.specs.Numbers.{EOF, contentLimit, messageLimit}
+use Rattle.framing_session.specs.Rules.{inside, tooLong, Message, part, Happening, begin, adds, pieces, ends, faulted, cuts, inPlace, step, happens}
 
 abbrev numbersOf : List ℕ → List ℕ
 numbersOf bytes = map (λ (h : Happening). h .said .number) (happens begin 0 bytes)

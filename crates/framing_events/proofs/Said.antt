@@ -4,11 +4,11 @@ use mathlib.Core.List.{List, []}
 use Prim.Native.Nat.{ℕ}
 use lib.ListN.{take}
 use types.Run.{OneOf}
-use Rattle.framing.specs.declared.Event.{Event}
-use Rattle.framing.specs.declared.Event.the-variants as ev
-use Rattle.framing.specs.Numbers.{feedNumbers}
-use Rattle.framing.specs.Session.{saidBy}
-use Rattle.framing.proofs.Laws.{event-numbered}
+use Rattle.framing_session.specs.declared.Event.{Event}
+use Rattle.framing_session.specs.declared.Event.the-variants as ev
+use Rattle.framing_content.specs.Numbers.{feedNumbers}
+use Rattle.framing_session.specs.Session.{saidBy}
+use Rattle.framing_session.proofs.Laws.{event-numbered}
 use Rattle.framing_events.specs.Events.{lengthOf}
 
 pub said-is : (e : Event) (t : List ℕ)

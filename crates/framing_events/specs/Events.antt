@@ -1,7 +1,7 @@
 -- What an event says, apart from the store.
 use Prim.Native.Nat.{ℕ}
-use Rattle.framing.specs.declared.Event.{Event}
-use Rattle.framing.specs.declared.Event.the-variants as ev
+use Rattle.framing_session.specs.declared.Event.{Event}
+use Rattle.framing_session.specs.declared.Event.the-variants as ev
 
 -- how many of the store's first bytes are the message
 abbrev pub lengthOf : Event → ℕ

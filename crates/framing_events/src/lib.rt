@@ -1,11 +1,11 @@
 // What an event says, as numbers: document 01's number, whether an unfinished message was thrown away, and how many
 // bytes at the store's start are the message.
-use framing::Event;
-use framing::Fault;
+use framing_content::Fault;
+use framing_session::Event;
 ghost use mathlib.Core.Path.{_≡_};
 ghost use mathlib.Core.List.{[]};
-ghost use Rattle.framing.specs.Numbers.{number as faultNumber};
-ghost use Rattle.framing.specs.Session.{saidBy};
+ghost use Rattle.framing_content.specs.Numbers.{number as faultNumber};
+ghost use Rattle.framing_session.specs.Session.{saidBy};
 ghost use Rattle.framing_events.specs.Events.{lengthOf};
 
 fn fault_number(fault: Fault) -> u64

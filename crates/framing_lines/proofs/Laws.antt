@@ -9,12 +9,12 @@ use borrow.Author.Tests.{lt-ltb, le-ltb, le-leb, lt-leb, eq-eqb, ne-eqb}
 use lib.Dec.{leb}
 use lib.ListN.{length, take, drop, getD, set, length-append}
 use lib.Seq.{sets, drop-cons}
-use Rattle.framing.specs.declared.Event.{Event}
+use Rattle.framing_session.specs.declared.Event.{Event}
 use Rattle.framing_events.specs.Events.{lengthOf}
 use Rattle.framing_events.proofs.Said.{said-is}
-use Rattle.framing.proofs.Lists.{sets-append}
-use Rattle.framing.specs.Numbers.{storeLength}
-use Rattle.framing.specs.Session.{saidBy}
+use Rattle.framing_session.proofs.Lists.{sets-append}
+use Rattle.framing_content.specs.Numbers.{storeLength}
+use Rattle.framing_session.specs.Session.{saidBy}
 use Rattle.framing_lines.specs.declared.line.Stop.the-variants.{Input, Fault}
 use Rattle.framing_lines.specs.Lines.{Whole, digitOf, stops, lineEnds, scanned}
 use Rattle.framing_lines.specs.Text.{Wrote, wrote, lineRoom, wroteLine, wroteEvent, space, newline, glyphOf, hexText, wordText, dash, decimalText, headText, eventText}

@@ -4,7 +4,7 @@ use mathlib.Core.Bool.{Bool, true, false}
 use mathlib.Core.List.{List, [], _∷_}
 use lib.Dec.{ltb, eqb}
 use lib.ListN.{set}
-use Rattle.framing.specs.Numbers.{pick}
+use Rattle.framing_content.specs.Numbers.{pick}
 use Rattle.framing_lines.specs.declared.line.Scanned.{Scanned}
 use Rattle.framing_lines.specs.declared.line.Stop.{Stop}
 use Rattle.framing_lines.specs.declared.line.Stop.the-variants.{Input, Line, Fault}

@@ -5,15 +5,15 @@ use mathlib.Core.List.{List, [], _∷_, _++_}
 use lib.Dec.{ltb, leb, eqb}
 use lib.ListN.{length}
 use lib.Seq.{sets}
-use Rattle.framing.specs.declared.Event.{Event}
-use Rattle.framing.specs.declared.Frame.{Frame}
-use Rattle.framing.specs.declared.Frame.the-variants.{Outside, Stray, Inside, Escaped, BadByte, TooLong}
-use Rattle.framing.specs.declared.Pending.{Pending}
-use Rattle.framing.specs.declared.Pending.the-variants.{Nothing, Part}
-use Rattle.framing.specs.declared.Session.{Session}
-use Rattle.framing.specs.Numbers.{pick, storeLength}
-use Rattle.framing.specs.Rules.{Said}
-use Rattle.framing.specs.Session.{saidBy}
+use Rattle.framing_session.specs.declared.Event.{Event}
+use Rattle.framing_session.specs.declared.Frame.{Frame}
+use Rattle.framing_session.specs.declared.Frame.the-variants.{Outside, Stray, Inside, Escaped, BadByte, TooLong}
+use Rattle.framing_session.specs.declared.Pending.{Pending}
+use Rattle.framing_session.specs.declared.Pending.the-variants.{Nothing, Part}
+use Rattle.framing_session.specs.declared.Session.{Session}
+use Rattle.framing_content.specs.Numbers.{pick, storeLength}
+use Rattle.framing_session.specs.Rules.{Said}
+use Rattle.framing_session.specs.Session.{saidBy}
 
 -- Text put into an output from a place on, and the place after it.
 pub record Wrote : Type 0 where

@@ -9,7 +9,7 @@ ghost use mathlib.Core.Bool.{cond};
 ghost use lib.Dec.{leb};
 ghost use mathlib.Core.List.{[], _∷_, _++_};
 ghost use lib.ListN.{length, take};
-ghost use Rattle.framing.specs.Session.{saidBy};
+ghost use Rattle.framing_session.specs.Session.{saidBy};
 ghost use Rattle.framing_lines.specs.Text.{wrote, glyphOf, hexText, wordText, decimalText, frameText, pendingText, space, headText, badLineText, eventText, endText, lineRoom, wroteLine, wroteEvent};
 
 // More than any line has.

@@ -3,11 +3,11 @@ use Prim.Native.Nat.{ℕ}
 use mathlib.Core.Bool.{Bool, true, false}
 use mathlib.Core.Path.{_≡_, refl}
 use mathlib.Core.List.{List, [], _∷_, map}
-use Rattle.framing.specs.declared.Frame.{Frame}
-use Rattle.framing.specs.declared.Frame.the-variants.{Outside, Stray, Inside, Escaped, BadByte, TooLong}
-use Rattle.framing.specs.declared.Pending.{Pending}
-use Rattle.framing.specs.declared.Pending.the-variants.{Nothing, Part}
-use Rattle.framing.specs.declared.Session.{Session}
+use Rattle.framing_session.specs.declared.Frame.{Frame}
+use Rattle.framing_session.specs.declared.Frame.the-variants.{Outside, Stray, Inside, Escaped, BadByte, TooLong}
+use Rattle.framing_session.specs.declared.Pending.{Pending}
+use Rattle.framing_session.specs.declared.Pending.the-variants.{Nothing, Part}
+use Rattle.framing_session.specs.declared.Session.{Session}
 use Rattle.framing_words.specs.Words.{wordsOf, sessionPut, frameAt, pendingAt, sessionAt, isFrame, isPending, isSession}
 
 abbrev at : Frame → Pending → Session

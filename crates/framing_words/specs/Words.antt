@@ -5,13 +5,13 @@ use mathlib.Core.Bool.{Bool, false}
 use mathlib.Core.List.{List, [], _∷_}
 use lib.Dec.{leb, ltb, eqb}
 use lib.ListN.{length, getD}
-use Rattle.framing.specs.declared.Frame.{Frame}
-use Rattle.framing.specs.declared.Frame.the-variants.{Outside, Stray, Inside, Escaped, BadByte, TooLong}
-use Rattle.framing.specs.declared.Pending.{Pending}
-use Rattle.framing.specs.declared.Pending.the-variants.{Nothing, Part}
-use Rattle.framing.specs.declared.Session.{Session}
-use Rattle.framing.specs.Numbers.{pick}
-use Rattle.framing.specs.Session.{frameLength, messageLength}
+use Rattle.framing_session.specs.declared.Frame.{Frame}
+use Rattle.framing_session.specs.declared.Frame.the-variants.{Outside, Stray, Inside, Escaped, BadByte, TooLong}
+use Rattle.framing_session.specs.declared.Pending.{Pending}
+use Rattle.framing_session.specs.declared.Pending.the-variants.{Nothing, Part}
+use Rattle.framing_session.specs.declared.Session.{Session}
+use Rattle.framing_content.specs.Numbers.{pick}
+use Rattle.framing_session.specs.Session.{frameLength, messageLength}
 
 abbrev pub placeWord : Frame → ℕ
 placeWord Outside = 0

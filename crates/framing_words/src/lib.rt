@@ -1,7 +1,7 @@
 // A session as four words of a lent slice, and back.
-use framing::Frame;
-use framing::Pending;
-use framing::Session;
+use framing_session::Frame;
+use framing_session::Pending;
+use framing_session::Session;
 ghost use mathlib.Core.Path.{_≡_};
 ghost use lib.ListN.{getD};
 ghost use Rattle.framing_words.specs.Words.{placeWord, openWord, frameAt, pendingAt, sessionAt, isFrame, isPending, isSession, sessionPut};
@@ -130,7 +130,7 @@ pub fn put_session(words: &mut [u64], session: Session)
     let frame = session.frame;
     let message = session.message;
     words[0] = place_word(frame);
-    words[1] = word(framing::frame_length(frame));
+    words[1] = word(framing_session::frame_length(frame));
     words[2] = open_word(message);
-    words[3] = word(framing::message_length(message));
+    words[3] = word(framing_session::message_length(message));
 }

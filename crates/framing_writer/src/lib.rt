@@ -1,27 +1,18 @@
 // The S101 writer: frames, keep-alives and messages as packets, into a lent output.
-use framing::BOF;
-use framing::CE;
-use framing::EOF;
-use framing::MESSAGE_LIMIT;
-use framing::checksum;
+pub use framing_packets::BODY_LIMIT;
+pub use framing_packets::PAYLOAD_LIMIT;
+pub use framing_packets::Written;
+use framing_session::BOF;
+use framing_session::CE;
+use framing_session::EOF;
+use framing_session::MESSAGE_LIMIT;
 ghost use mathlib.Core.Path.{_≡_};
 ghost use Prim.Native.Nat.{_+_, _*_, _/_, _%_, _≤_, _<_};
 ghost use mathlib.Core.List.{[], _∷_, _++_};
 ghost use lib.ListN.{length};
-ghost use Rattle.framing.specs.Numbers.{messageLimit, pick};
-ghost use Rattle.framing_writer.specs.Written.{escape, escapes, frame, bodyLimit, requestBody, responseBody, flags, packet, payloadLimit, inPackets, outcome, into, frameInto, messageInto};
-ghost use Rattle.framing_writer.specs.Stores.{wrote, room};
-
-// The content of a frame without its CRC, and the payload of a packet.
-pub const BODY_LIMIT: usize = 1022;
-
-pub const PAYLOAD_LIMIT: usize = 1013;
-
-// What a call answers; specs/Written.antt gives each case its number and values.
-pub enum Written {
-    Done { length: usize },
-    Out,
-}
+ghost use Rattle.framing_content.specs.Numbers.{messageLimit, pick};
+ghost use Rattle.framing_packets.specs.Written.{escape, escapes, frame, bodyLimit, requestBody, responseBody, flags, packet, payloadLimit, inPackets, outcome, into, frameInto, messageInto};
+ghost use Rattle.framing_packets.specs.Stores.{wrote, room};
 
 // A byte, stored only where the output has a place for it. So over an output of no bytes the functions below count.
 fn emit(out: &mut [u8], at: usize, b: u8) -> usize
@@ -80,7 +71,7 @@ fn emit_frame(out: &mut [u8], at: usize, head: &[u8], rest: &[u8]) -> usize
     ensures { λ r. ⌜ wrote (now (out .entry)) at (frame (now (head .entry) ++ now (rest .entry))) ≡ record { next = r; output = now (out .exit) } ⌝ }
     ensures { λ r. ⌜ r ≤ at + 2050 ⌝ }
 {
-    let crc = 0xffff - checksum::crc_from(checksum::crc_from(0xffff, head), rest);
+    let crc = 0xffff - framing_checksum::crc_from(framing_checksum::crc_from(0xffff, head), rest);
     let opened = emit(out, at, BOF);
     let headed = emit_slice(out, opened, head);
     let filled = emit_slice(out, headed, rest);

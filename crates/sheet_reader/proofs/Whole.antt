@@ -6,7 +6,7 @@ use mathlib.Core.Bool.{Bool, true, false}
 use borrow.Author.Tests.{eq-eqb, ne-eqb}
 use lib.Dec.{eqb}
 use lib.ListN.{length, take}
-use Rattle.framing.specs.Numbers.{storeLength}
+use Rattle.framing_content.specs.Numbers.{storeLength}
 use Rattle.desk_crosspoints.specs.Figures.{both}
 use Rattle.sheet_rules.specs.Lines.{linesIn}
 use Rattle.sheet_rules.specs.Reading.{Held, refusal, message, heldIn, ofHeld, ofMessage, readSheet}

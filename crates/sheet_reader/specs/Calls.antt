@@ -6,7 +6,7 @@ use mathlib.Core.Bool.{Bool}
 use lib.ListN.{length, drop}
 use lib.Dec.{eqb}
 use Rattle.ber_integers.specs.Digits.{pick}
-use Rattle.framing.specs.Numbers.{storeLength}
+use Rattle.framing_content.specs.Numbers.{storeLength}
 use Rattle.desk_crosspoints.specs.declared.Figures.{Figures}
 use Rattle.desk_crosspoints.specs.Figures.{both}
 use Rattle.desk_crosspoints.specs.Crosspoints.{Cells}

@@ -7,19 +7,19 @@ use native.Mathlib.Omega.{arith}
 use lib.ListN.{length, take, drop, length-take, length-drop}
 use lib.Dec.{leb, eqb}
 use Rattle.ber_integers.specs.Digits.{pick}
-use Rattle.framing.specs.declared.Fault.the-variants.{Big}
-use Rattle.framing.specs.declared.Content.{Content}
-use Rattle.framing.specs.declared.Content.the-variants.{Refused, Request, Response, Piece}
-use Rattle.framing.specs.Content.{contentOf, payload}
-use Rattle.framing.specs.Numbers as framing
-use Rattle.framing.specs.Numbers.{messageLimit}
+use Rattle.framing_content.specs.declared.Fault.the-variants.{Big}
+use Rattle.framing_content.specs.declared.Content.{Content}
+use Rattle.framing_content.specs.declared.Content.the-variants.{Refused, Request, Response, Piece}
+use Rattle.framing_content.specs.Content.{contentOf, payload}
+use Rattle.framing_content.specs.Numbers as framing
+use Rattle.framing_content.specs.Numbers.{messageLimit}
 use Rattle.framing.specs.Offers.{joined}
-use Rattle.framing.specs.Rules.{outside, Message, none, part, State, Said, Step, Happening, refuses, joins, pieces, reads, ends, happens, after}
-use Rattle.framing.proofs.Stream.{happens-append, after-append}
-use Rattle.framing_writer.specs.Read.{Bytes, Gives, happening}
-use Rattle.framing_writer.specs.Written.{sealed, frame, requestBody, responseBody, flags, header, packetBody, packet, payloadLimit}
-use Rattle.framing_writer.proofs.Reading.{state, opens-outside}
-use Rattle.framing_writer.proofs.Back.{frame-back, request-back, response-back}
+use Rattle.framing_session.specs.Rules.{outside, Message, none, part, State, Said, Step, Happening, refuses, joins, pieces, reads, ends, happens, after}
+use Rattle.framing_session.proofs.Stream.{happens-append, after-append}
+use Rattle.framing_packets.specs.Read.{Bytes, Gives, happening}
+use Rattle.framing_packets.specs.Written.{sealed, frame, requestBody, responseBody, flags, header, packetBody, packet, payloadLimit}
+use Rattle.framing_packets.proofs.Reading.{state, opens-outside}
+use Rattle.framing_packets.proofs.Back.{frame-back, request-back, response-back}
 use Rattle.sheet_rules.specs.Lines.{Stream}
 use Rattle.sheet_rules.specs.Reading.{finished, firstFault, ofEvents, heldIn, ofHeld, readSheet}
 use Rattle.sheet_rules.specs.KeepAlives.{Lines}

@@ -11,17 +11,17 @@ use lib.Bits.{bitXor, xor-block, xor-zero-r}
 use lib.Dec.{eqb}
 use Rattle.ber_integers.specs.Digits.{pick}
 use Rattle.ber_integers.proofs.Radix.{lt-or-le}
-use Rattle.framing.specs.Numbers as framing
-use Rattle.framing.specs.Numbers.{messageLimit}
-use Rattle.framing.specs.Checksum.{checksum, octetsOf}
+use Rattle.framing_content.specs.Numbers as framing
+use Rattle.framing_content.specs.Numbers.{messageLimit}
+use Rattle.framing_checksum.specs.Checksum.{checksum, octetsOf}
 use Rattle.framing.specs.Offers.{joined}
-use Rattle.framing.specs.Rules.{none, State, begin, after, Happening}
-use Rattle.framing_writer.specs.Written.{escape, escapes, sealed, frame, flags, header, packetBody, packet, packets}
-use Rattle.framing_writer.specs.Written.{payloadLimit, earlier, inPackets}
-use Rattle.framing_writer.proofs.Laws.{escape-plain, escape-high}
-use Rattle.framing_writer.specs.Read.{Bytes, packetEvents, messageEvents}
-use Rattle.framing_writer.proofs.Reading.{opens-outside}
-use Rattle.framing_writer.proofs.Back.{message-back}
+use Rattle.framing_session.specs.Rules.{none, State, begin, after, Happening}
+use Rattle.framing_packets.specs.Written.{escape, escapes, sealed, frame, flags, header, packetBody, packet, packets}
+use Rattle.framing_packets.specs.Written.{payloadLimit, earlier, inPackets}
+use Rattle.framing_packets.proofs.Laws.{escape-plain, escape-high}
+use Rattle.framing_packets.specs.Read.{Bytes, packetEvents, messageEvents}
+use Rattle.framing_packets.proofs.Reading.{opens-outside}
+use Rattle.framing_packets.proofs.Back.{message-back}
 use Rattle.sheet_rules.specs.Sheet.{glyphOf, hexText, lineOf, packetLines, messageLines}
 use Rattle.sheet_rules.specs.Lines.{digitOf, Stream, bad, stream, push, fresh, pairs, half, linesFrom, linesIn}
 use Rattle.sheet_rules.specs.KeepAlives.{Digits, nothing, pair, Lines, over, line, last, packetFrames}

@@ -10,8 +10,8 @@ use borrow.Author.Tests.{le-ltb}
 use lib.ListN.{length}
 use Rattle.ber_integers.proofs.Radix.{Below}
 use Rattle.glow_trees.specs.Written.{writtenReal}
-use Rattle.framing_writer.specs.Read.{Bytes}
-use Rattle.framing_writer.specs.Written.{frame, requestBody, payloadLimit, earlier}
+use Rattle.framing_packets.specs.Read.{Bytes}
+use Rattle.framing_packets.specs.Written.{frame, requestBody, payloadLimit, earlier}
 use Rattle.glow_walk.specs.Walk.{Walk}
 use Rattle.trees_read_back.proofs.ReadBack.{reads-back, flat-count, written-spells}
 use Rattle.desk_crosspoints.specs.declared.Figures.{Figures}

@@ -5,8 +5,8 @@ use mathlib.Core.Bool.{Bool, true, false}
 use mathlib.Core.List.{List, [], _∷_, _++_}
 use mathlib.Core.Path.{_≡_}
 use lib.ListN.{length, take, drop}
-use Rattle.framing_writer.specs.Read.{Bytes}
-use Rattle.framing_writer.specs.Written.{bodyLimit, frame, requestBody, responseBody, packet, payloadLimit, earlier}
+use Rattle.framing_packets.specs.Read.{Bytes}
+use Rattle.framing_packets.specs.Written.{bodyLimit, frame, requestBody, responseBody, packet, payloadLimit, earlier}
 use Rattle.sheet_rules.specs.Sheet.{Desk, sheetMessage}
 use Rattle.sheet_rules.specs.Lines.{digitOf}
 

@@ -14,7 +14,7 @@ use Rattle.glow_rows.specs.Entry.{Entries}
 use Rattle.glow_grammar.specs.Grammar.{qualifiedMatrix, connection}
 use Rattle.glow_trees.specs.Content.{Content, nothing, word, bytes, wrong, Item, itemsOf}
 use Rattle.glow_walk.specs.Walk.{Walk, walk}
-use Rattle.framing.specs.Rules.{Place, outside, stray, inside, escaped, badByte, tooLong, Message, isOpen, State, Happening, begin, happens, after}
+use Rattle.framing_session.specs.Rules.{Place, outside, stray, inside, escaped, badByte, tooLong, Message, isOpen, State, Happening, begin, happens, after}
 use Rattle.desk_crosspoints.specs.declared.Limit.{Limit}
 use Rattle.desk_crosspoints.specs.declared.Limit.the-variants.{Absent, Most}
 use Rattle.desk_crosspoints.specs.declared.Figures.{Figures}

@@ -11,7 +11,7 @@ use Rattle.glow_grammar.specs.Grammar.{qualifiedMatrix, connection}
 use Rattle.glow_trees.specs.Content.{Content, nothing, word, bytes}
 use Rattle.glow_trees.specs.Trees.{Trees, none, tree}
 use Rattle.glow_trees.specs.Written.{messageOctets, writtenReal}
-use Rattle.framing_writer.specs.Written.{packet, payloadLimit, earlier, Outcome, limited}
+use Rattle.framing_packets.specs.Written.{packet, payloadLimit, earlier, Outcome, limited}
 use Rattle.desk_crosspoints.specs.declared.Limit.{Limit}
 use Rattle.desk_crosspoints.specs.declared.Limit.the-variants.{Absent, Most}
 use Rattle.desk_crosspoints.specs.declared.Figures.{Figures}

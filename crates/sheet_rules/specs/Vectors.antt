@@ -13,10 +13,10 @@ use Rattle.glow_trees.specs.Content.{Item, item, nothing, word, bytes, intOf}
 use Rattle.glow_trees.specs.Trees.{flat, count}
 use Rattle.glow_trees.specs.Legal.{inner}
 use Rattle.glow_trees.specs.Written.{messageOctets, tagged, spelled, memberOctets, membersOctets, wrapped, own, treesOctets, rootNumber}
-use Rattle.framing.specs.Checksum.{table, crcStep, crcFrom, checksum}
-use Rattle.framing.specs.Rules.{begin, inside, part, none, outside, Happening, happens, after}
-use Rattle.framing_writer.specs.Written.{escape, escapes, frame, packet}
-use Rattle.framing_writer.specs.Read.{happening}
+use Rattle.framing_checksum.specs.Checksum.{table, crcStep, crcFrom, checksum}
+use Rattle.framing_session.specs.Rules.{begin, inside, part, none, outside, Happening, happens, after}
+use Rattle.framing_packets.specs.Written.{escape, escapes, frame, packet}
+use Rattle.framing_packets.specs.Read.{happening}
 use Rattle.desk_crosspoints.specs.declared.Limit.{Limit}
 use Rattle.desk_crosspoints.specs.declared.Limit.the-variants.{Absent, Most}
 use Rattle.desk_crosspoints.specs.declared.Figures.{Figures}

@@ -7,7 +7,7 @@ use borrow.Author.Tests.{eqb-true, eqb-false}
 use lib.Dec.{eqb}
 use lib.ListN.{length}
 use Rattle.ber_integers.specs.Digits.{pick}
-use Rattle.framing.specs.Numbers.{storeLength}
+use Rattle.framing_content.specs.Numbers.{storeLength}
 use Rattle.sheet_rules.specs.Lines.{linesIn}
 use Rattle.sheet_rules.specs.Reading.{Held, heldIn}
 use Rattle.sheet_stream.specs.declared.Found.the-variants.{Setup}

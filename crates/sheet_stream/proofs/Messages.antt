@@ -9,9 +9,9 @@ use lib.Dec.{eqb}
 use lib.ListN.{length}
 use Rattle.ber_integers.specs.Digits.{pick}
 use Rattle.ber_integers.proofs.Radix.{Below}
-use Rattle.framing.specs.Numbers.{messageLimit}
-use Rattle.framing.specs.Rules.{State, begin, step, Happening, noted, happens, after}
-use Rattle.framing.proofs.Laws.{Bounded, bounded-begin, bounded-next, within-step}
+use Rattle.framing_content.specs.Numbers.{messageLimit}
+use Rattle.framing_session.specs.Rules.{State, begin, step, Happening, noted, happens, after}
+use Rattle.framing_session.proofs.Laws.{Bounded, bounded-begin, bounded-next, within-step}
 use Rattle.turns.proofs.Octets.{OctetsIn, happens-octets, begin-octets}
 use Rattle.sheet_rules.specs.Lines.{digitOf, Stream, bad, stream, push, Come, fresh, pairs, half, linesFrom, linesIn}
 use Rattle.sheet_rules.specs.Reading.{Held, refusal, message, finished, firstFault, somethingOpen, oneOf, ofEvents, heldIn}

@@ -8,10 +8,10 @@ use native.Mathlib.Omega.{arith}
 use borrow.Author.Tests.{leb-true, eqb-false}
 use types.Run.{OneOf, hit}
 use lib.Dec.{leb, eqb}
-use Rattle.framing.specs.Numbers.{storeLength, faultNumbers, feedNumbers, pick}
-use Rattle.framing.specs.Rules.{State, Said, begin, step, happens, after}
-use Rattle.framing.specs.Session.{kept}
-use Rattle.framing.proofs.Laws.{Bounded, bounded-begin, bounded-next, within-step, event-numbered}
+use Rattle.framing_content.specs.Numbers.{storeLength, faultNumbers, feedNumbers, pick}
+use Rattle.framing_session.specs.Rules.{State, Said, begin, step, happens, after}
+use Rattle.framing_session.specs.Session.{kept}
+use Rattle.framing_session.proofs.Laws.{Bounded, bounded-begin, bounded-next, within-step, event-numbered}
 use Rattle.framing.proofs.Sayable.{step-sayable}
 use Rattle.desk_crosspoints.specs.Crosspoints.{clear}
 use Rattle.desk_crosspoints.proofs.Counts.{clear-length}

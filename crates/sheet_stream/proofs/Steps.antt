@@ -11,20 +11,20 @@ use denote.Enum.Declared.{tagOf}
 use lib.ListN.{length, take, length-take}
 use lib.Seq.{sets}
 use lib.Dec.{leb, eqb}
-use Rattle.framing.proofs.Event as event
-use Rattle.framing.specs.declared.Event.{Event}
-use Rattle.framing.specs.declared.Event.the-variants as ev
-use Rattle.framing.specs.declared.Fed.{Fed}
-use Rattle.framing.specs.declared.Frame.{Frame}
-use Rattle.framing.specs.declared.Frame.the-variants.{Outside, Stray, Inside, Escaped, BadByte, TooLong}
-use Rattle.framing.specs.declared.Pending.{Pending}
-use Rattle.framing.specs.declared.Pending.the-variants.{Nothing, Part}
-use Rattle.framing.specs.declared.Session.{Session}
-use Rattle.framing.specs.Numbers.{storeLength, messageLimit, contentStart, pick}
-use Rattle.framing.specs.Rules.{Message, none, part, isOpen, State, Step, begin, step, happens, after}
-use Rattle.framing.specs.Session.{saidBy, placeOf, messageOf, stateOf, sessionOf, legal, Legal, content, held, kept, Whole, whole, answers, run, feeds}
-use Rattle.framing.proofs.Lists.{take-sets-le}
-use Rattle.framing.proofs.Laws.{legal-true, true-legal, Bounded, bounded-state, Within, within-step, kept-state, legal-next, number-high}
+use Rattle.framing_session.proofs.Event as event
+use Rattle.framing_session.specs.declared.Event.{Event}
+use Rattle.framing_session.specs.declared.Event.the-variants as ev
+use Rattle.framing_session.specs.declared.Fed.{Fed}
+use Rattle.framing_session.specs.declared.Frame.{Frame}
+use Rattle.framing_session.specs.declared.Frame.the-variants.{Outside, Stray, Inside, Escaped, BadByte, TooLong}
+use Rattle.framing_session.specs.declared.Pending.{Pending}
+use Rattle.framing_session.specs.declared.Pending.the-variants.{Nothing, Part}
+use Rattle.framing_session.specs.declared.Session.{Session}
+use Rattle.framing_content.specs.Numbers.{storeLength, messageLimit, contentStart, pick}
+use Rattle.framing_session.specs.Rules.{Message, none, part, isOpen, State, Step, begin, step, happens, after}
+use Rattle.framing_session.specs.Session.{saidBy, placeOf, messageOf, stateOf, sessionOf, legal, Legal, content, held, kept, Whole, whole, answers, run, feeds}
+use Rattle.framing_session.proofs.Lists.{take-sets-le}
+use Rattle.framing_session.proofs.Laws.{legal-true, true-legal, Bounded, bounded-state, Within, within-step, kept-state, legal-next, number-high}
 use Rattle.sheet_rules.specs.Lines.{Stream, linesIn}
 use Rattle.sheet_rules.specs.Reading.{Held, refusal, message, inFrame, somethingOpen, ofEvents, heldIn}
 use Rattle.sheet_rules.specs.Lines.{isBad}

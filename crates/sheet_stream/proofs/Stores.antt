@@ -6,13 +6,13 @@ use mathlib.Core.Bool.{Bool, true, false}
 use native.Mathlib.Omega.{arith}
 use lib.Dec.{leb, eqb}
 use lib.ListN.{length, take}
-use Rattle.framing.specs.declared.Fed.{Fed}
-use Rattle.framing.specs.declared.Session.{Session}
-use Rattle.framing.specs.Numbers.{storeLength, pick}
-use Rattle.framing.specs.Rules.{State, step, begin, after}
-use Rattle.framing.specs.Session.{stateOf, sessionOf, Legal, kept, Whole, whole, answers, run, feeds}
+use Rattle.framing_session.specs.declared.Fed.{Fed}
+use Rattle.framing_session.specs.declared.Session.{Session}
+use Rattle.framing_content.specs.Numbers.{storeLength, pick}
+use Rattle.framing_session.specs.Rules.{State, step, begin, after}
+use Rattle.framing_session.specs.Session.{stateOf, sessionOf, Legal, kept, Whole, whole, answers, run, feeds}
 use Rattle.framing.specs.Offers.{Turn, Turns, none, turn, eaten}
-use Rattle.framing.proofs.Laws.{true-legal}
+use Rattle.framing_session.proofs.Laws.{true-legal}
 use Rattle.framing.proofs.Chunks.{call-ran, fresh-legal}
 use Rattle.sheet_stream.specs.Finding.{storeFrom, upToFault}
 

@@ -10,16 +10,16 @@ use lib.Bits.{bitXor}
 use lib.Dec.{leb, ltb, eqb}
 use lib.ListN.{length}
 use Rattle.ber_integers.specs.Digits as int
-use Rattle.framing.specs.declared.Content.{Content}
-use Rattle.framing.specs.declared.Content.the-variants.{Refused, Request, Response, Piece}
-use Rattle.framing.specs.declared.Fault.{Fault}
-use Rattle.framing.specs.declared.Fault.the-variants.{Stray, Cut, Byte, Long, Escape, Orphan, Big}
-use Rattle.framing.specs.Content.{contentOf, payload}
-use Rattle.framing.specs.Numbers.{BOF, EOF, CE, contentLimit, messageLimit, number}
-use Rattle.framing.specs.Rules.{Place, outside, stray, inside, escaped, badByte, tooLong, Message, none, part, isOpen, State, Step}
-use Rattle.framing.specs.Rules.{makes, refuses, adds, joins, pieces, reads, ends, faulted, cuts, inPlace, step}
-use Rattle.framing.specs.Session.{held}
-use Rattle.framing.proofs.Laws.{pick-by, number-high, Bounded, within-step}
+use Rattle.framing_content.specs.declared.Content.{Content}
+use Rattle.framing_content.specs.declared.Content.the-variants.{Refused, Request, Response, Piece}
+use Rattle.framing_content.specs.declared.Fault.{Fault}
+use Rattle.framing_content.specs.declared.Fault.the-variants.{Stray, Cut, Byte, Long, Escape, Orphan, Big}
+use Rattle.framing_content.specs.Content.{contentOf, payload}
+use Rattle.framing_content.specs.Numbers.{BOF, EOF, CE, contentLimit, messageLimit, number}
+use Rattle.framing_session.specs.Rules.{Place, outside, stray, inside, escaped, badByte, tooLong, Message, none, part, isOpen, State, Step}
+use Rattle.framing_session.specs.Rules.{makes, refuses, adds, joins, pieces, reads, ends, faulted, cuts, inPlace, step}
+use Rattle.framing_session.specs.Session.{held}
+use Rattle.framing_session.proofs.Laws.{pick-by, number-high, Bounded, within-step}
 use Rattle.sheet_rules.specs.Reading.{refusal, message, inFrame, somethingOpen}
 use Rattle.sheet_stream.specs.Steps.{another, collects}
 

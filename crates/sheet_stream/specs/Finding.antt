@@ -5,9 +5,9 @@ use mathlib.Core.List.{List, [], _∷_}
 use lib.ListN.{length, take}
 use lib.Dec.{leb, eqb}
 use Rattle.ber_integers.specs.Digits.{pick}
-use Rattle.framing.specs.Numbers.{storeLength, faultNumbers}
-use Rattle.framing.specs.Rules.{State, Step, begin, step}
-use Rattle.framing.specs.Session.{kept}
+use Rattle.framing_content.specs.Numbers.{storeLength, faultNumbers}
+use Rattle.framing_session.specs.Rules.{State, Step, begin, step}
+use Rattle.framing_session.specs.Session.{kept}
 use Rattle.sheet_rules.specs.Lines.{Stream, bad, stream, linesIn}
 use Rattle.sheet_rules.specs.Reading.{Held, refusal, message, heldIn}
 use Rattle.sheet_stream.specs.declared.Found.{Found}

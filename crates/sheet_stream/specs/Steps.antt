@@ -6,14 +6,14 @@ use mathlib.Core.List.{List, [], _∷_}
 use lib.ListN.{length, take}
 use lib.Dec.{leb, eqb}
 use Rattle.ber_integers.specs.Digits.{pick}
-use Rattle.framing.specs.declared.Frame.{Frame}
-use Rattle.framing.specs.declared.Frame.the-variants.{Outside, Stray, Inside, Escaped, BadByte, TooLong}
-use Rattle.framing.specs.declared.Pending.{Pending}
-use Rattle.framing.specs.declared.Pending.the-variants.{Nothing, Part}
-use Rattle.framing.specs.declared.Session.{Session}
-use Rattle.framing.specs.Numbers.{messageLimit}
-use Rattle.framing.specs.Rules.{State, Step, step}
-use Rattle.framing.specs.Session.{stateOf, legal}
+use Rattle.framing_session.specs.declared.Frame.{Frame}
+use Rattle.framing_session.specs.declared.Frame.the-variants.{Outside, Stray, Inside, Escaped, BadByte, TooLong}
+use Rattle.framing_session.specs.declared.Pending.{Pending}
+use Rattle.framing_session.specs.declared.Pending.the-variants.{Nothing, Part}
+use Rattle.framing_session.specs.declared.Session.{Session}
+use Rattle.framing_content.specs.Numbers.{messageLimit}
+use Rattle.framing_session.specs.Rules.{State, Step, step}
+use Rattle.framing_session.specs.Session.{stateOf, legal}
 use Rattle.sheet_rules.specs.Lines.{digitOf}
 use Rattle.sheet_rules.specs.Reading.{Held, refusal, message, somethingOpen}
 use Rattle.sheet_stream.specs.declared.Tally.{Tally}

@@ -6,11 +6,11 @@ use mathlib.Core.Bool.{true, false}
 use native.Mathlib.Omega.{arith}
 use lib.ListN.{length}
 use Rattle.ber_integers.proofs.Radix.{Below}
-use Rattle.framing_writer.specs.declared.Written.{Written}
-use Rattle.framing_writer.specs.declared.Written.the-variants as written
-use Rattle.framing_writer.specs.Written.{outcome, into, inPackets}
-use Rattle.framing_writer.specs.Read.{Bytes}
-use Rattle.framing_writer.proofs.Laws.{limited-fits}
+use Rattle.framing_packets.specs.declared.Written.{Written}
+use Rattle.framing_packets.specs.declared.Written.the-variants as written
+use Rattle.framing_packets.specs.Written.{outcome, into, inPackets}
+use Rattle.framing_packets.specs.Read.{Bytes}
+use Rattle.framing_packets.proofs.Laws.{limited-fits}
 use Rattle.desk_crosspoints.specs.declared.Figures.{Figures}
 use Rattle.desk_crosspoints.specs.Crosspoints.{Cells}
 use Rattle.desk_calls.specs.Calls.{deskLegal}

@@ -17,7 +17,7 @@ use Rattle.ber_tags.specs.Write.{septets}
 use Rattle.ber_identifiers.specs.Identifier.{oidOctets, inRange, putOid}
 use Rattle.glow_rows.specs.Cell.{absent, numbersCell}
 use Rattle.glow_rows.specs.Entry.{Entry, Entries, blanks, row, Rows, overlay}
-use Rattle.framing.proofs.Lists.{sets-append}
+use Rattle.framing_session.proofs.Lists.{sets-append}
 use Rattle.glow_trees.specs.Content.{Content, bytes, contentOf, contentsOf, Item, item, itemsOf}
 use Rattle.glow_trees.specs.Rows.{itemsIn}
 use Rattle.glow_trees.specs.Trees.{none, flat, count}

@@ -13,9 +13,9 @@ use Rattle.ber_integers.specs.Digits.{pick}
 use Rattle.glow_rows.specs.declared.Cell.{Cell}
 use Rattle.glow_rows.specs.Cell.{absent, numbersCell}
 use Rattle.glow_rows.specs.Entry.{blanks, words, row, Rows}
-use Rattle.framing_writer.specs.Stores.{wrote}
-use Rattle.framing_writer.specs.Stores as stores
-use Rattle.framing_writer.proofs.Laws.{wrote-none}
+use Rattle.framing_packets.specs.Stores.{wrote}
+use Rattle.framing_packets.specs.Stores as stores
+use Rattle.framing_packets.proofs.Laws.{wrote-none}
 use Rattle.desk_crosspoints.specs.declared.Figures.{Figures}
 use Rattle.desk_crosspoints.specs.Crosspoints.{Cells, rowAt}
 use Rattle.desk_crosspoints.proofs.Under.{take-short}

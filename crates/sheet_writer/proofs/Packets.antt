@@ -6,12 +6,12 @@ use mathlib.Core.Bool.{Bool, true, false}
 use native.Mathlib.Omega.{arith}
 use lib.ListN.{length, take, drop, length-append, take-append-drop}
 use lib.Seq.{take-at}
-use Rattle.framing_writer.specs.declared.Written.{Written}
-use Rattle.framing_writer.specs.declared.Written.the-variants.{Done, Out}
-use Rattle.framing_writer.specs.Written.{packet, payloadLimit, earlier, inPackets}
-use Rattle.framing_writer.specs.Written.{Outcome, outcome, messageInto}
-use Rattle.framing_writer.proofs.Laws.{limited-fits}
-use Rattle.framing_writer.proofs.Sizes.{packet-length, packets-length, into-fits}
+use Rattle.framing_packets.specs.declared.Written.{Written}
+use Rattle.framing_packets.specs.declared.Written.the-variants.{Done, Out}
+use Rattle.framing_packets.specs.Written.{packet, payloadLimit, earlier, inPackets}
+use Rattle.framing_packets.specs.Written.{Outcome, outcome, messageInto}
+use Rattle.framing_packets.proofs.Laws.{limited-fits}
+use Rattle.framing_packets.proofs.Sizes.{packet-length, packets-length, into-fits}
 use Rattle.sheet_rules.specs.Sheet.{hexText, lineOf, packetLines, messageLines}
 
 pub frames-length : (m : List ℕ) → length m ≤ 6144 → length (inPackets m) ≤ 16384

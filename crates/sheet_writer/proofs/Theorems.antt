@@ -7,8 +7,8 @@ use native.Mathlib.Omega.{arith}
 use borrow.Author.Tests.{le-leb}
 use lib.ListN.{length, take, drop}
 use Rattle.ber_integers.specs.Digits.{pick}
-use Rattle.framing_writer.specs.Written.{Outcome, into}
-use Rattle.framing_writer.proofs.Laws.{into-back}
+use Rattle.framing_packets.specs.Written.{Outcome, into}
+use Rattle.framing_packets.proofs.Laws.{into-back}
 use Rattle.desk_crosspoints.specs.declared.Figures.{Figures}
 use Rattle.desk_crosspoints.specs.Figures.{side}
 use Rattle.desk_crosspoints.specs.Crosspoints.{Cells}

@@ -2,7 +2,7 @@
 use Prim.Native.Nat.{ℕ}
 use mathlib.Core.List.{List}
 use Rattle.ber_integers.specs.Digits.{pick}
-use Rattle.framing_writer.specs.Written.{Outcome, into}
+use Rattle.framing_packets.specs.Written.{Outcome, into}
 use Rattle.desk_crosspoints.specs.declared.Figures.{Figures}
 use Rattle.desk_crosspoints.specs.Crosspoints.{Cells}
 use Rattle.desk_calls.specs.Calls.{deskLegal}

@@ -9,8 +9,8 @@ use Rattle.glow_rows.specs.declared.Cell.{Cell}
 use Rattle.glow_rows.specs.Cell.{cell, absent, numbersCell}
 use Rattle.glow_rows.specs.Entry.{Entry, blanks, row, Rows}
 use Rattle.glow_grammar.specs.Grammar.{qualifiedMatrix, connection}
-use Rattle.framing_writer.specs.declared.Written.{Written}
-use Rattle.framing_writer.specs.declared.Written.the-variants as written
+use Rattle.framing_packets.specs.declared.Written.{Written}
+use Rattle.framing_packets.specs.declared.Written.the-variants as written
 use Rattle.desk_crosspoints.specs.declared.Limit.{Limit}
 use Rattle.desk_crosspoints.specs.declared.Limit.the-variants.{Absent, Most}
 use Rattle.desk_crosspoints.specs.declared.Figures.{Figures}

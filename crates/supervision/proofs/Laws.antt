@@ -3,9 +3,9 @@ use Prim.Native.Nat.{ℕ, _≤_, _<_}
 use mathlib.Core.Path.{_≡_, refl}
 use mathlib.Core.List.{[]}
 use borrow.Author.Tests.{le-leb, lt-leb}
-use Rattle.framing.specs.declared.Fault.{Fault}
-use Rattle.framing.specs.declared.Fault.the-variants as fault
-use Rattle.framing.specs.Numbers.{number}
+use Rattle.framing_content.specs.declared.Fault.{Fault}
+use Rattle.framing_content.specs.declared.Fault.the-variants as fault
+use Rattle.framing_content.specs.Numbers.{number}
 use Rattle.supervision.specs.declared.Answer.the-variants as say
 use Rattle.supervision.specs.declared.Happened.{Happened}
 use Rattle.supervision.specs.declared.Happened.the-variants as happened

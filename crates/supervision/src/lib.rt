@@ -3,7 +3,7 @@
 use framing::Event;
 ghost use mathlib.Core.Path.{_≡_};
 ghost use mathlib.Core.List.{[]};
-ghost use Rattle.framing.specs.Session.{saidBy};
+ghost use Rattle.framing_session.specs.Session.{saidBy};
 ghost use Rattle.supervision.specs.Events.{happenedBy};
 ghost use Rattle.supervision.specs.Supervisor.{begun, elapsed, gone, waited, heard, shows};
 ghost use Rattle.supervision.specs.Order.{laterOf};

@@ -15,11 +15,11 @@ use borrow.Fn.Kinds as K
 use lib.Dec.{ltb, eqb}
 use lib.ListN.{length, take, drop, take-append-drop}
 use types.Run.{OneOf, hit}
-use Rattle.framing.specs.declared.Event.{Event as SessionEvent}
-use Rattle.framing.specs.declared.Event.the-variants as ev
-use Rattle.framing.specs.Numbers.{pick}
-use Rattle.framing.specs.Session.{saidBy}
-use Rattle.framing.proofs.Laws.{pick-by}
+use Rattle.framing_session.specs.declared.Event.{Event as SessionEvent}
+use Rattle.framing_session.specs.declared.Event.the-variants as ev
+use Rattle.framing_content.specs.Numbers.{pick}
+use Rattle.framing_session.specs.Session.{saidBy}
+use Rattle.framing_session.proofs.Laws.{pick-by}
 use Rattle.supervision.specs.declared.Answer.{Answer}
 use Rattle.supervision.specs.declared.Answer.the-variants as say
 use Rattle.supervision.specs.declared.Happened.{Happened}

@@ -3,7 +3,7 @@ use Prim.Native.Nat.{ℕ}
 use mathlib.Core.List.{List}
 use lib.Dec.{eqb}
 use lib.ListN.{length}
-use Rattle.framing.specs.Numbers.{pick}
+use Rattle.framing_content.specs.Numbers.{pick}
 use Rattle.supervision.specs.declared.Shown.{Shown}
 use Rattle.supervision.specs.Events.{happenedBy}
 use Rattle.supervision.specs.Supervisor.{begun, shows}

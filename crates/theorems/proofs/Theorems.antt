@@ -28,17 +28,18 @@ use Rattle.ber_values.specs.Value.{valueAt}
 use Rattle.ber_values.specs.Write.{putValue}
 use Rattle.ber_values.proofs.RoundTrip.{Held, moved, octetsOf}
 use Rattle.ber_values.proofs.RoundTrip as values
-use Rattle.framing.specs.declared.Session.{Session}
-use Rattle.framing.specs.Numbers.{storeLength, messageLimit}
-use Rattle.framing.specs.Rules as framing
-use Rattle.framing.specs.Rules.{begin, happens}
-use Rattle.framing.specs.Session.{stateOf, sessionOf}
+use Rattle.framing_session.specs.declared.Session.{Session}
+use Rattle.framing_content.specs.Numbers.{storeLength, messageLimit}
+use Rattle.framing_session.specs.Rules as framing
+use Rattle.framing_session.specs.Rules.{begin, happens}
+use Rattle.framing_session.specs.Session.{stateOf, sessionOf}
 use Rattle.framing.specs.Offers as offers
 use Rattle.framing.proofs.Chunks as framing-chunks
 use Rattle.framing.proofs.Calls as framing-calls
-use Rattle.framing_writer.proofs.Calls as framing-writer
-use Rattle.framing_writer.specs.Written.{inPackets}
-use Rattle.framing_writer.specs.Read.{Bytes, messageEvents}
+use Rattle.framing_read_back.proofs.Calls as framing-writer
+use Rattle.framing_read_back.specs.Calls.{WrittenRead, MessageCall}
+use Rattle.framing_packets.specs.Written.{inPackets}
+use Rattle.framing_packets.specs.Read.{Bytes, messageEvents}
 use Rattle.glow_rows.specs.Entry.{Rows, blank}
 use Rattle.glow_walk.specs.Walk.{walk}
 use Rattle.glow_reader.specs.declared.Answer.the-variants.{Read}
@@ -112,7 +113,7 @@ framing-every-cut = framing-calls.every-cut
 -- What is written is read back: a message that the output has room for is written by some call, and however its bytes are cut, calls of the session tell that
 -- message and nothing else.
 pub framing-read-back : (o t : List ℕ) → length t ≡ storeLength → (m : List ℕ) → Bytes m → length m ≤ messageLimit → length (inPackets m) ≤ length o
-    → framing-writer.WrittenRead (framing-writer.MessageCall m o) t (messageEvents false m 0) begin
+    → WrittenRead (MessageCall m o) t (messageEvents false m 0) begin
 framing-read-back = framing-writer.message-written-read
 
 -- ---- Values

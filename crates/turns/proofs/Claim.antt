@@ -5,11 +5,11 @@ use mathlib.Core.List.{List, [], _∷_, _++_}
 use mathlib.Core.Path.{_≡_, refl, sym, ap, subst, _∙_}
 use lib.ListN.{length}
 use Rattle.ber_integers.proofs.Radix.{Below}
-use Rattle.framing.specs.declared.Session.{Session}
-use Rattle.framing.specs.Numbers.{storeLength}
-use Rattle.framing.specs.Rules as framing
-use Rattle.framing.specs.Rules.{State, Said, begin, Happening}
-use Rattle.framing.specs.Session.{saidBy, stateOf, sessionOf, Legal}
+use Rattle.framing_session.specs.declared.Session.{Session}
+use Rattle.framing_content.specs.Numbers.{storeLength}
+use Rattle.framing_session.specs.Rules as framing
+use Rattle.framing_session.specs.Rules.{State, Said, begin, Happening}
+use Rattle.framing_session.specs.Session.{saidBy, stateOf, sessionOf, Legal}
 use Rattle.framing.specs.Offers as offers
 use Rattle.framing.proofs.Chunks.{as-rules, fresh-legal}
 use Rattle.turns.specs.Rules.{Desk, isLegal, keep, Then, Follow, Told, noted, tells, after}

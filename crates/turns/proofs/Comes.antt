@@ -8,10 +8,10 @@ use lib.ListN.{length, take, drop}
 use Rattle.ber_containers.specs.declared.Onto.{Onto}
 use Rattle.ber_containers.specs.declared.Onto.the-variants.{Next, Refused as Stopped}
 use Rattle.ber_containers.proofs.Heads.{pick-by}
-use Rattle.framing.specs.declared.Event.{Event}
-use Rattle.framing.specs.declared.Event.the-variants as ev
-use Rattle.framing.specs.declared.Session.{Session}
-use Rattle.framing.specs.Session.{answers, feeds}
+use Rattle.framing_session.specs.declared.Event.{Event}
+use Rattle.framing_session.specs.declared.Event.the-variants as ev
+use Rattle.framing_session.specs.declared.Session.{Session}
+use Rattle.framing_session.specs.Session.{answers, feeds}
 use Rattle.glow_rows.specs.Entry.{Entries, Rows}
 use Rattle.glow_reader.specs.declared.Answer.{Answer}
 use Rattle.glow_reader.specs.declared.Answer.the-variants.{Setup, Refused, Room, Read}

@@ -5,9 +5,9 @@ use mathlib.Core.List.{List, [], _∷_}
 use mathlib.Core.Path.{_≡_, refl, sym, ap, _∙_}
 use borrow.Author.Tests.{eqb-true}
 use lib.Dec.{eqb}
-use Rattle.framing.specs.Numbers as numbers
-use Rattle.framing.specs.Rules as framing
-use Rattle.framing.specs.Rules.{State, Said, step, Happening, happens}
+use Rattle.framing_content.specs.Numbers as numbers
+use Rattle.framing_session.specs.Rules as framing
+use Rattle.framing_session.specs.Rules.{State, Said, step, Happening, happens}
 use Rattle.ber_integers.specs.Digits.{pick}
 use Rattle.turns.specs.Rules.{Desk, keep, Follow, follow, nothing, follows, Told, noted, next, tells, after}
 

@@ -8,11 +8,11 @@ use lib.Dec.{eqb}
 use lib.ListN.{length, take}
 use lib.Seq.{take-at}
 use Rattle.ber_integers.proofs.Radix.{Below}
-use Rattle.framing.specs.declared.Event.{Event}
-use Rattle.framing.specs.declared.Event.the-variants as ev
-use Rattle.framing.specs.Rules as framing
-use Rattle.framing.specs.Session.{saidBy}
-use Rattle.framing.proofs.Laws.{number-apart}
+use Rattle.framing_session.specs.declared.Event.{Event}
+use Rattle.framing_session.specs.declared.Event.the-variants as ev
+use Rattle.framing_session.specs.Rules as framing
+use Rattle.framing_session.specs.Session.{saidBy}
+use Rattle.framing_session.proofs.Laws.{number-apart}
 use Rattle.glow_rows.specs.Entry.{Rows}
 use Rattle.glow_reader.specs.declared.Answer.{Answer}
 use Rattle.glow_reader.specs.declared.Answer.the-variants.{Read}

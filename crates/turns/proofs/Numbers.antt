@@ -6,7 +6,7 @@ use mathlib.Core.Bool.{Bool, true, false}
 use lib.ListN.{length, take}
 use lib.Dec.{leb}
 use Rattle.ber_integers.specs.Digits.{pick}
-use Rattle.framing.specs.declared.Event.{Event}
+use Rattle.framing_session.specs.declared.Event.{Event}
 use Rattle.glow_rows.specs.Entry.{Rows}
 use Rattle.glow_grammar.specs.Leaf as leaf
 use Rattle.glow_trees.specs.Content.{Item}

@@ -8,18 +8,18 @@ use lib.Dec.{leb, ltb, eqb}
 use lib.ListN.{length}
 use Rattle.ber_integers.proofs.Radix.{Below}
 use Rattle.ber_integers.proofs.Signs.{below-take, below-drop}
-use Rattle.framing.specs.declared.Content.{Content}
-use Rattle.framing.specs.declared.Content.the-variants.{Refused, Request, Response, Piece}
-use Rattle.framing.specs.declared.Event.{Event}
-use Rattle.framing.specs.declared.Event.the-variants as ev
-use Rattle.framing.specs.declared.Fault.{Fault}
-use Rattle.framing.specs.declared.Fault.the-variants.{Stray, Cut, Byte, Long, Escape, Orphan, Big}
-use Rattle.framing.specs.Content.{contentOf, body, payload}
-use Rattle.framing.specs.Numbers.{BOF, EOF, CE, contentLimit, messageLimit, pick}
-use Rattle.framing.specs.Rules.{Place, outside, stray, inside, escaped, badByte, tooLong, Message, none, part, isOpen, State, Said, Step, begin}
-use Rattle.framing.specs.Rules.{makes, refuses, adds, joins, pieces, reads, ends, faulted, cuts, inPlace, step, Happening, noted, happens}
-use Rattle.framing.specs.Session.{content, held, saidBy}
-use Rattle.framing.proofs.Laws.{pick-by}
+use Rattle.framing_content.specs.declared.Content.{Content}
+use Rattle.framing_content.specs.declared.Content.the-variants.{Refused, Request, Response, Piece}
+use Rattle.framing_session.specs.declared.Event.{Event}
+use Rattle.framing_session.specs.declared.Event.the-variants as ev
+use Rattle.framing_content.specs.declared.Fault.{Fault}
+use Rattle.framing_content.specs.declared.Fault.the-variants.{Stray, Cut, Byte, Long, Escape, Orphan, Big}
+use Rattle.framing_content.specs.Content.{contentOf, body, payload}
+use Rattle.framing_content.specs.Numbers.{BOF, EOF, CE, contentLimit, messageLimit, pick}
+use Rattle.framing_session.specs.Rules.{Place, outside, stray, inside, escaped, badByte, tooLong, Message, none, part, isOpen, State, Said, Step, begin}
+use Rattle.framing_session.specs.Rules.{makes, refuses, adds, joins, pieces, reads, ends, faulted, cuts, inPlace, step, Happening, noted, happens}
+use Rattle.framing_session.specs.Session.{content, held, saidBy}
+use Rattle.framing_session.proofs.Laws.{pick-by}
 
 pub below-append : (xs ys : List ℕ) → Below 256 xs → Below 256 ys → Below 256 (xs ++ ys)
 below-append [] ys h k = k

@@ -4,10 +4,10 @@ use mathlib.Core.List.{List}
 use Prim.Native.Nat.{ℕ}
 use Rattle.ber_integers.specs.Digits.{horner, digits}
 use Rattle.ber_integers.specs.Integer.{signed, nineFree, twos, integer, integerAt, sizeBy, octets, shortest}
-use Rattle.framing.specs.Checksum.{table, crcStep, crcFrom, checksum}
-use Rattle.framing.specs.Content.{contentOf as frameOf, bodyOf, commandOf}
-use Rattle.framing.specs.Rules.{step, inPlace, adds, cuts, ends, happens}
-use Rattle.framing_writer.specs.Written.{escape, escapes, frame}
+use Rattle.framing_checksum.specs.Checksum.{table, crcStep, crcFrom, checksum}
+use Rattle.framing_content.specs.Content.{contentOf as frameOf, bodyOf, commandOf}
+use Rattle.framing_session.specs.Rules.{step, inPlace, adds, cuts, ends, happens}
+use Rattle.framing_packets.specs.Written.{escape, escapes, frame}
 use Rattle.ber_tags.specs.Tag.{stop, cut, longNumber, tagNumber, sized, lengthAt, headAt}
 use Rattle.ber_identifiers.specs.Identifier.{arcIs, arcFrom, arcAt, arcsFrom}
 use Rattle.ber_values.specs.Value.{boolean, boolAt, isListed, kindAt, contentAt}

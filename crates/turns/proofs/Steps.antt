@@ -9,9 +9,9 @@ use types.Run.{OneOf}
 use denote.Enum.Declared.{tagOf}
 use lib.ListN.{length, take}
 use lib.Seq.{take-all, take-length}
-use Rattle.framing.proofs.Event as event
-use Rattle.framing.specs.declared.Event.{Event}
-use Rattle.framing.specs.declared.Event.the-variants as ev
+use Rattle.framing_session.proofs.Event as event
+use Rattle.framing_session.specs.declared.Event.{Event}
+use Rattle.framing_session.specs.declared.Event.the-variants as ev
 use Rattle.glow_rows.specs.Entry.{Rows}
 use Rattle.glow_reader.proofs.Answer as answer
 use Rattle.glow_reader.specs.declared.Answer.{Answer}

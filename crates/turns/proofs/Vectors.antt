@@ -3,9 +3,9 @@ use Prim.Native.Nat.{ℕ, zero, suc}
 use mathlib.Core.Bool.{false}
 use mathlib.Core.Path.{_≡_, refl}
 use mathlib.Core.List.{List, [], _∷_, _++_}
-use Rattle.framing.specs.Checksum.{table, crcStep, crcFrom, checksum}
-use Rattle.framing.specs.Content.{contentOf as frameOf, bodyOf, commandOf, packetOf}
-use Rattle.framing.specs.Rules.{begin, step, inPlace, adds, cuts, ends, pieces}
+use Rattle.framing_checksum.specs.Checksum.{table, crcStep, crcFrom, checksum}
+use Rattle.framing_content.specs.Content.{contentOf as frameOf, bodyOf, commandOf, packetOf}
+use Rattle.framing_session.specs.Rules.{begin, step, inPlace, adds, cuts, ends, pieces}
 use Rattle.ber_integers.specs.Digits.{horner}
 use Rattle.ber_integers.specs.Integer.{signed, nineFree, twos, integer, integerAt}
 use Rattle.ber_tags.specs.Tag.{stop, cut, longNumber, tagNumber, sized, lengthAt, headAt}

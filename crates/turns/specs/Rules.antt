@@ -9,7 +9,7 @@ use lib.ListN.{length}
 use Rattle.ber_integers.specs.Digits.{pick}
 use Rattle.ber_containers.specs.declared.Onto.{Onto}
 use Rattle.ber_containers.specs.declared.Onto.the-variants.{Next, Refused as Stopped}
-use Rattle.framing.specs.Rules.{State, Said, step}
+use Rattle.framing_session.specs.Rules.{State, Said, step}
 use Rattle.glow_reader.specs.declared.Answer.the-variants.{Setup, Refused, Room, Read}
 use Rattle.glow_walk.specs.Walk.{walk}
 use Rattle.glow_reader.specs.Message.{setup, saidBy, Said as TreeSaid}

@@ -6,8 +6,8 @@ use lib.IntN.{ℤ, pos, negsuc}
 use lib.ListN.{length}
 use Rattle.ber_integers.specs.declared.Number.the-variants.{Int}
 use Rattle.ber_integers.specs.Integer.{integer, shortest}
-use Rattle.framing.specs.Rules.{Happening, begin, happens}
-use Rattle.framing_writer.specs.Written.{frame}
+use Rattle.framing_session.specs.Rules.{Happening, begin, happens}
+use Rattle.framing_packets.specs.Written.{frame}
 use Rattle.glow_reader.specs.declared.Answer.the-variants.{Read}
 use Rattle.glow_reader.specs.Message.{result, readAt}
 use Rattle.glow_rows.specs.Cell.{cell}

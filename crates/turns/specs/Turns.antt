@@ -6,12 +6,12 @@ use mathlib.Core.Bool.{Bool, true, false}
 use mathlib.Core.List.{List, [], _∷_, _++_}
 use mathlib.Core.Path.{_≡_}
 use lib.ListN.{length, take, drop}
-use Rattle.framing.specs.declared.Event.{Event}
-use Rattle.framing.specs.declared.Event.the-variants as ev
-use Rattle.framing.specs.declared.Fed.{Fed}
-use Rattle.framing.specs.declared.Session.{Session}
-use Rattle.framing.specs.Rules.{State}
-use Rattle.framing.specs.Session.{saidBy, stateOf, Legal, answers, feeds}
+use Rattle.framing_session.specs.declared.Event.{Event}
+use Rattle.framing_session.specs.declared.Event.the-variants as ev
+use Rattle.framing_session.specs.declared.Fed.{Fed}
+use Rattle.framing_session.specs.declared.Session.{Session}
+use Rattle.framing_session.specs.Rules.{State}
+use Rattle.framing_session.specs.Session.{saidBy, stateOf, Legal, answers, feeds}
 use Rattle.framing.specs.Offers as offers
 use Rattle.glow_rows.specs.Entry.{Rows}
 use Rattle.glow_reader.specs.declared.Answer.{Answer}

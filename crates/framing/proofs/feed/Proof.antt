@@ -1,5 +1,5 @@
 use mathlib.Core.Path.{sym, _∙_}
-use Rattle.framing.specs.Session.{feeds}
+use Rattle.framing_session.specs.Session.{feeds}
 use borrow.Author.Needs.{needs}
 use Rattle.framing.proofs.feed.Statement.{statement}
 use Rattle.framing.proofs.feed.Tie as tie

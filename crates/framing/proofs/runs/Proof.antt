@@ -9,14 +9,15 @@ use borrow.Author.Needs.{needs}
 use types.Run.{OneOf}
 use denote.Enum.Declared.{tagOf}
 use lib.Dec.{eqb}
-use lib.ListN.{length, drop}
-use Rattle.framing.specs.declared.Event.{Event}
-use Rattle.framing.specs.declared.Event.the-variants.{More, Setup, Piece, Message, Request, Response, Refused}
-use Rattle.framing.specs.declared.Session.{Session}
-use Rattle.framing.specs.Session.{saidBy, stateOf, Legal, run}
-use Rattle.framing.proofs.Laws.{legal-true, number-not-zero, turn-legal, turn-event, turn-end, reaches-here, reaches-on, reaches-more}
-use Rattle.framing.specs.Steps.{Reaches}
-use Rattle.framing.proofs.Event as event
+use lib.ListN.{length, drop, getD}
+use Rattle.framing_session.specs.declared.Event.{Event}
+use Rattle.framing_session.specs.declared.Event.the-variants.{More, Setup, Piece, Message, Request, Response, Refused}
+use Rattle.framing_session.specs.declared.Session.{Session}
+use Rattle.framing_session.specs.Rules.{step}
+use Rattle.framing_session.specs.Session.{saidBy, stateOf, Legal, keeps, run}
+use Rattle.framing_session.proofs.Laws.{legal-true, unless-legal, number-not-zero, turn-legal, turn-event, turn-end, reaches-here, reaches-on, reaches-more}
+use Rattle.framing_session.specs.Steps.{gives, Reaches}
+use Rattle.framing_session.proofs.Event as event
 use Rattle.framing.proofs.runs.Statement.{statement}
 use Rattle.framing.proofs.runs.Tie as tie
 
@@ -62,10 +63,14 @@ module _ (c : tie.After-step Inv-loop μ-loop) where
   abbrev t′ : List ℕ
   t′ = c .step .last .1 .1 .0
 
+  -- what the rules say of the byte
+  ensured : keeps (step (stateOf s t) (getD chunk i 0)) t ≡ gives (c .step .result) t′
+  ensured = unless-legal s t (c .before .before .before .before .loop .inv .legal) (c .step .ensures)
+
   stepped : Legal (c .step .result .session) t′
   stepped =
       turn-legal chunk i s t (c .step .result) t′ (c .before .before .before .before .loop .inv .legal) (c .before .before .before .loop-test .taken)
-      (c .step .ensures)
+      ensured
 
   -- an event ends the call
   ended : OneOf (1 ∷ 2 ∷ 3 ∷ 4 ∷ 5 ∷ 6 ∷ []) (tagOf event.the-type (c .step .result .event))
@@ -73,13 +78,13 @@ module _ (c : tie.After-step Inv-loop μ-loop) where
       ≡ record { said = saidBy (c .step .result .event) t′; consumed = i + 1; session = c .step .result .session; store = t′ }
   ended h =
       turn-event chunk i s t (c .step .result) t′ (c .before .before .before .before .loop .inv .legal) (c .before .before .before .loop-test .taken)
-      (c .step .ensures) (loud (c .step .result .event) t′ h)
+      ensured (loud (c .step .result .event) t′ h)
 
   -- no event: the call goes on
   goes-on : c .step .result .event ≡ More → Reaches chunk i s t (i + 1) (c .step .result .session) t′
   goes-on e =
       reaches-more chunk i s t (c .step .result) t′ (c .before .before .before .before .loop .inv .legal) (c .before .before .before .loop-test .taken)
-      (c .step .ensures) e
+      ensured e
 
 loop-holds : tie.Need-loop-holds Inv-loop μ-loop
 loop-holds c =
@@ -90,7 +95,7 @@ shared-slice-read-step : tie.Need-shared-slice-read-step Inv-loop μ-loop
 shared-slice-read-step c = omega arith
 
 step-requires : tie.Need-step-requires Inv-loop μ-loop
-step-requires c κs = let l = c .before .before .before .loop .inv .legal in (l .room, (l .frame, l .message))
+step-requires c κs = search needs
 
 add-i : tie.Need-add-i Inv-loop μ-loop
 add-i c = omega arith
@@ -110,22 +115,27 @@ returns c =
     step .before .before .before .before .loop .inv .rest ∙ ended step (c .match .keys2)
 
 strides-requires : tie.Need-strides-requires Inv-loop μ-loop
-strides-requires c κs =
-    let known = c .before in
-    let step = known .before .before .before .before .before in
-    let m = goes-on step (known .enum-told .given .1) in
-    (m .legal, m .inside)
+strides-requires c κs = search needs
+
+-- after a stride
+module _ (c : tie.After-strides Inv-loop μ-loop) where
+  abbrev loop-step : tie.After-step Inv-loop μ-loop
+  loop-step = c .before .before .before .before .before .before .before
+
+  stepped-on : Reaches (chunk loop-step) (i loop-step) (s loop-step) (t loop-step) (i loop-step + 1) (loop-step .step .result .session) (t′ loop-step)
+  stepped-on = goes-on loop-step (c .before .before .enum-told .given .1)
+
+  strode : Reaches (chunk loop-step) (i loop-step + 1) (loop-step .step .result .session) (t′ loop-step) (c .strides .result .at) (c .strides .result .session)
+      (c .strides .last .1 .1 .0)
+  strode = c .strides .ensures .on (stepped-on .legal) (stepped-on .inside)
 
 loop-less : tie.Need-loop-less Inv-loop μ-loop
-loop-less c = let p = c .before .before .before .strides .ensures in omega (arith, p .forward, p .inside)
+loop-less c = let p = strode (c .before .before .before) in omega (arith, p .forward, p .inside)
 
 loop-again : tie.Need-loop-again Inv-loop μ-loop
 loop-again c =
     let strides = c .before .before .before in
-    let known = strides .before .before in
-    let step = known .before .before .before .before .before in
-    let loop = step .before .before .before .before .loop in
-    reaches-on (loop .inv) (reaches-on (goes-on step (known .enum-told .given .1)) (strides .strides .ensures))
+    reaches-on (loop-step strides .before .before .before .before .loop .inv) (reaches-on (stepped-on strides) (strode strides))
 
 same-length-2 : tie.Need-same-length-2 Inv-loop μ-loop
 same-length-2 c = c .before .loop .inv .legal .room ∙ sym (begun (c .before .before .before .before) .room)

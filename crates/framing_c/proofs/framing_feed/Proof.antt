@@ -1,7 +1,5 @@
-use Prim.Native.Nat.{ℕ, min}
-use lib.ListN
-use mathlib.Core.Path.{sym, ap, _∙_}
-use Rattle.framing_c.proofs.Laws.{accepts-answer, calls-setup, calls-taken}
+use mathlib.Core.Path.{sym, _∙_}
+use Rattle.framing_c.proofs.Laws.{calls-setup, calls-taken}
 use borrow.Author.Needs.{needs}
 use Rattle.framing_c.proofs.framing_feed.Statement.{statement}
 use Rattle.framing_c.proofs.framing_feed.Tie as tie
@@ -18,26 +16,8 @@ feed-requires c κs = search needs
 put-session-requires : tie.Need-put-session-requires
 put-session-requires c κs = search needs
 
-message-length-requires : tie.Need-message-length-requires
-message-length-requires c κs = search needs
-
-least-requires : tie.Need-least-requires
-least-requires c κs = search needs
-
-is-discarded-requires : tie.Need-is-discarded-requires
-is-discarded-requires c κs = search needs
-
-bit-requires : tie.Need-bit-requires
-bit-requires c κs = search needs
-
-word-requires : tie.Need-word-requires
-word-requires c κs = search needs
-
-word-requires-2 : tie.Need-word-requires-2
-word-requires-2 c κs = search needs
-
 put-answer-requires : tie.Need-put-answer-requires
-put-answer-requires c κs = accepts-answer _ _ _ (sym (c .before .before .before .before .before .before .before .before .before .before .before .before .before .before .before .before .before .before .before .accepts .ensures) ∙ c .before .before .before .before .before .before .before .before .before .before .before .before .before .before .before .before .before .before .if1 .taken)
+put-answer-requires c κs = search needs
 
 number-requires : tie.Need-number-requires
 number-requires c κs = search needs
@@ -54,30 +34,20 @@ same-length-3 c = search needs
 returns : tie.Need-returns
 returns c =
     let answer = c .before .before .before in
-    let length = answer .before in
-    let consumed = length .before in
-    let bit = consumed .before in
-    let discarded = bit .before in
-    let least = discarded .before .before in
-    let message = least .before in
-    let session = message .before .before .before in
+    let session = answer .before .before .before .before in
     let fed = session .before .before .before .before .before in
     let opened = fed .before .before in
     let test = opened .before .before in
     let accepted = test .before in
     let a = accepted .before .before .before .before .before .before .args in
     let store = fed .feed .last .1 .0 in
-    calls-taken (a .session .now) (a .store .now) (a .chunk .now) (a .answer .now) (opened .session-at .result) (fed .feed .result) (session .put-session .last .0) store (answer .put-answer .last .0)
-    (bit .bit .result) (consumed .word .result) (length .word2 .result) (discarded .is-discarded .result)
+    calls-taken (a .session .now) (a .store .now) (a .chunk .now) (a .answer .now) (opened .session-at .result) (fed .feed .result)
+    (session .put-session .last .0) store (answer .put-answer .last .0)
     (sym (accepted .accepts .ensures) ∙ test .if1 .taken)
     (opened .session-at .ensures)
     (fed .feed .ensures)
     (session .put-session .ensures)
     (answer .put-answer .ensures)
-    (bit .bit .ensures)
-    (discarded .is-discarded .ensures)
-    (consumed .word .ensures)
-    (length .word2 .ensures ∙ least .least .ensures ∙ ap (λ (n : ℕ). min n (lib.ListN.length store)) (message .message-length .ensures))
     ∙ rw (c .number .ensures)
 
 same-length-4 : tie.Need-same-length-4
@@ -94,12 +64,6 @@ framing-feed-spec =
     session-at-requires
     feed-requires
     put-session-requires
-    message-length-requires
-    least-requires
-    is-discarded-requires
-    bit-requires
-    word-requires
-    word-requires-2
     put-answer-requires
     number-requires
     same-length

@@ -1,7 +1,7 @@
 use mathlib.Core.Path.{_∙_}
 use native.Mathlib.Omega.{arith}
 use borrow.Author.Needs.{needs}
-use Rattle.framing_writer.proofs.Laws.{wrote-then, escape-plain, escape-high}
+use Rattle.framing_packets.proofs.Laws.{wrote-then, escape-plain, escape-high}
 use Rattle.framing_writer.proofs.emit_escaped.Statement.{statement}
 use Rattle.framing_writer.proofs.emit_escaped.Tie as tie
 

@@ -1,8 +1,8 @@
 use mathlib.Core.Path.{ap, _∙_}
 use native.Mathlib.Omega.{arith}
 use borrow.Author.Needs.{needs}
-use Rattle.framing.specs.Checksum.{crcFrom}
-use Rattle.framing_writer.proofs.Laws.{wrote-then, frame-parts}
+use Rattle.framing_checksum.specs.Checksum.{crcFrom}
+use Rattle.framing_packets.proofs.Laws.{wrote-then, frame-parts}
 use Rattle.framing_writer.proofs.emit_frame.Statement.{statement}
 use Rattle.framing_writer.proofs.emit_frame.Tie as tie
 

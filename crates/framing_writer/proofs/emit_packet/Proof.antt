@@ -1,6 +1,6 @@
 use native.Mathlib.Omega.{arith}
 use borrow.Author.Needs.{needs}
-use Rattle.framing_writer.proofs.Laws.{packet-frame}
+use Rattle.framing_packets.proofs.Laws.{packet-frame}
 use Rattle.framing_writer.proofs.emit_packet.Statement.{statement}
 use Rattle.framing_writer.proofs.emit_packet.Tie as tie
 

@@ -1,5 +1,5 @@
 use borrow.Author.Needs.{needs}
-use Rattle.framing_writer.specs.Written.{limited}
+use Rattle.framing_packets.specs.Written.{limited}
 use Rattle.framing_writer.proofs.write_request.Statement.{statement}
 use Rattle.framing_writer.proofs.write_request.Tie as tie
 

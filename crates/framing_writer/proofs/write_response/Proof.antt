@@ -1,5 +1,5 @@
 use borrow.Author.Needs.{needs}
-use Rattle.framing_writer.specs.Written.{limited}
+use Rattle.framing_packets.specs.Written.{limited}
 use Rattle.framing_writer.proofs.write_response.Statement.{statement}
 use Rattle.framing_writer.proofs.write_response.Tie as tie
 

@@ -1,5 +1,5 @@
 use Rattle.sheet_rules.proofs.Laws.{broken-last, broken-inner}
-use Rattle.framing_writer.proofs.Laws.{wrote-then}
+use Rattle.framing_packets.proofs.Laws.{wrote-then}
 use native.Mathlib.Omega.{arith}
 use mathlib.Core.Path.{_∙_, ap, sym}
 use borrow.Author.Needs.{needs}

@@ -1,4 +1,4 @@
-use Rattle.framing_writer.proofs.Laws.{limited-fits, limited-over, into-done, into-short}
+use Rattle.framing_packets.proofs.Laws.{limited-fits, limited-over, into-done, into-short}
 use native.Mathlib.Omega.{arith}
 use mathlib.Core.Path.{_∙_}
 use borrow.Author.Needs.{needs}

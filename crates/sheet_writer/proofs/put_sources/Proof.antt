@@ -1,6 +1,6 @@
 use Rattle.sheet_writer.proofs.Laws.{sources-more, sources-end}
-use Rattle.framing_writer.proofs.Laws.{wrote-none, wrote-then}
-use Rattle.framing_writer.specs.Stores.{wrote}
+use Rattle.framing_packets.proofs.Laws.{wrote-none, wrote-then}
+use Rattle.framing_packets.specs.Stores.{wrote}
 use Rattle.sheet_rules.specs.Sheet.{sourcesFrom}
 use lib.ListN.{length, drop}
 use native.Mathlib.Omega.{arith}

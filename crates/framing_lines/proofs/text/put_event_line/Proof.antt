@@ -4,11 +4,11 @@ use mathlib.Core.Path.{_≡_, sym, ap, _∙_}
 use native.Mathlib.Omega.{arith}
 use types.Run.{OneOf}
 use denote.Enum.Declared.{tagOf}
-use Rattle.framing.proofs.Event as event
-use Rattle.framing.specs.declared.Event.{Event}
-use Rattle.framing.specs.declared.Event.the-variants as ev
-use Rattle.framing.proofs.Laws.{number-high}
-use Rattle.framing.specs.Session.{saidBy}
+use Rattle.framing_session.proofs.Event as event
+use Rattle.framing_session.specs.declared.Event.{Event}
+use Rattle.framing_session.specs.declared.Event.the-variants as ev
+use Rattle.framing_session.proofs.Laws.{number-high}
+use Rattle.framing_session.specs.Session.{saidBy}
 use Rattle.framing_events.specs.Events.{lengthOf}
 use Rattle.framing_lines.proofs.Laws.{wrote-then, event-plain, event-message}
 use borrow.Author.Needs.{needs}

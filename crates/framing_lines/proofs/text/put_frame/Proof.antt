@@ -1,4 +1,4 @@
-use Rattle.framing.specs.declared.Frame.the-variants.{Outside, Stray, Inside, Escaped, BadByte, TooLong}
+use Rattle.framing_session.specs.declared.Frame.the-variants.{Outside, Stray, Inside, Escaped, BadByte, TooLong}
 use mathlib.Core.Path.{_≡_}
 use native.Mathlib.Omega.{arith}
 use borrow.Author.Needs.{needs}

@@ -1,0 +1,4 @@
+pub mod Written
+pub mod Read
+pub mod Vectors
+pub mod Stores

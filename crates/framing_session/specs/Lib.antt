@@ -1,0 +1,4 @@
+pub mod Rules
+pub mod Session
+pub mod Vectors
+pub mod Steps

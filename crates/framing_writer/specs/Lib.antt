@@ -1,4 +1,0 @@
-pub mod Written
-pub mod Stores
-pub mod Read
-pub mod Vectors
