@@ -2,10 +2,8 @@
 // each event and one at the end.
 use framing::Event;
 use framing::Session;
-use framing_lines::line;
-use framing_lines::line::Line;
-use framing_lines::line::Stop;
-use framing_lines::text;
+use framing_digits::Line;
+use framing_digits::Stop;
 use libc::STDERR_FILENO;
 use libc::STDIN_FILENO;
 use libc::STDOUT_FILENO;
@@ -55,7 +53,7 @@ fn put_event(out: &mut [u8], at: usize, offset: u64, event: Event, store: &[u8])
     ensures { λ r. ⌜ wrote (now (out .entry)) at (eventText offset (saidBy event (now (store .entry)))) ≡ record { next = r; output = now (out .exit) } ⌝ }
     ensures { λ r. ⌜ r ≤ at + lineRoom ⌝ }
 {
-    text::put_event(out, at, offset, event, store)
+    framing_lines::put_event(out, at, offset, event, store)
 }
 
 fn put_bad_line(out: &mut [u8], at: usize) -> usize
@@ -63,7 +61,7 @@ fn put_bad_line(out: &mut [u8], at: usize) -> usize
     ensures { λ r. ⌜ wrote (now (out .entry)) at badLineText ≡ record { next = r; output = now (out .exit) } ⌝ }
     ensures { λ r. ⌜ r ≤ at + lineRoom ⌝ }
 {
-    text::put_bad_line(out, at)
+    framing_lines::put_bad_line(out, at)
 }
 
 fn put_end(out: &mut [u8], at: usize, offset: u64, session: Session) -> usize
@@ -71,7 +69,7 @@ fn put_end(out: &mut [u8], at: usize, offset: u64, session: Session) -> usize
     ensures { λ r. ⌜ wrote (now (out .entry)) at (endText offset session) ≡ record { next = r; output = now (out .exit) } ⌝ }
     ensures { λ r. ⌜ r ≤ at + lineRoom ⌝ }
 {
-    text::put_end(out, at, offset, session)
+    framing_lines::put_end(out, at, offset, session)
 }
 
 // Puts an event's line to the output that waits.
@@ -172,7 +170,7 @@ fn take_block(run: Run, block: &[u8], chunk: &mut [u8], store: &mut [u8], out: &
     let mut line = run.line;
     let mut from = 0;
     while from < block.len() {
-        let s = line::scan(block, from, line, chunk);
+        let s = framing_digits::scan(block, from, line, chunk);
         let count = s.count;
         let next = s.line;
         let stop = s.stop;
@@ -243,7 +241,7 @@ fn main() {
         waiting: 0,
         done: false,
     };
-    let mut line = line::start();
+    let mut line = framing_digits::start();
     // A proved loop has to end, and nothing says that an input does: it counts down from a number that no run uses up.
     let mut turns = u64::MAX;
     while turns > 0 {

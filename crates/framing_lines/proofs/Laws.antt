@@ -15,8 +15,6 @@ use Rattle.framing_events.proofs.Said.{said-is}
 use Rattle.framing_session.proofs.Lists.{sets-append}
 use Rattle.framing_content.specs.Numbers.{storeLength}
 use Rattle.framing_session.specs.Session.{saidBy}
-use Rattle.framing_lines.specs.declared.line.Stop.the-variants.{Input, Fault}
-use Rattle.framing_lines.specs.Lines.{Whole, digitOf, stops, lineEnds, scanned}
 use Rattle.framing_lines.specs.Text.{Wrote, wrote, lineRoom, wroteLine, wroteEvent, space, newline, glyphOf, hexText, wordText, dash, decimalText, headText, eventText}
 
 -- ---- text put into an output
@@ -83,15 +81,6 @@ hex-end [] (suc i) h = refl
 hex-end (x ∷ s) zero h = absurd (omega arith)
 hex-end (x ∷ s) (suc i) h = hex-end s i (omega arith)
 
-pub rest-more : (s : List ℕ) (i : ℕ) → i < length s → drop i s ≡ (getD s i 0 ∷ []) ++ drop (i + 1) s
-rest-more s i h = rw (add-one i, drop-cons s i 0 h)
-
-pub rest-end : (s : List ℕ) (i : ℕ) → length s ≤ i → drop i s ≡ []
-rest-end [] zero h = refl
-rest-end [] (suc i) h = refl
-rest-end (x ∷ s) zero h = absurd (omega arith)
-rest-end (x ∷ s) (suc i) h = rest-end s i (omega arith)
-
 pub word-none : (s : List ℕ) → length s ≡ 0 → wordText s ≡ dash
 unfolding wordText
 word-none s h = simp (eq-eqb _ _ h)
@@ -134,35 +123,3 @@ module _ (o : ℕ) (e : Event) (t : List ℕ) (n : ℕ) (d : Bool) (isNumber : n
   pub event-message : n ≡ 3 → eventText o (saidBy e t) ≡ headText o n d ++ ((space ++ wordText (take (lengthOf e) t)) ++ newline)
   unfolding eventText
   event-message h = rw (said-is e t, ← isNumber, ← isBit) (simp (eq-eqb _ _ h))
-
--- ---- lines
-
-module _ (s : List ℕ) (i h : ℕ) (g : Bool) (c : List ℕ) (n : ℕ) where
-  pub scan-end : length s ≤ i → scanned (drop i s) i h g c n ≡ record { answer = stops Input i h g n; chunk = c }
-  unfolding scanned
-  scan-end p = rw (rest-end s i p)
-
-  module _ (below : i < length s) where
-    pub scan-line : getD s i 0 ≡ 10 → scanned (drop i s) i h g c n ≡ record { answer = lineEnds (i + 1) h g n; chunk = c }
-    unfolding scanned
-    scan-line p = rw (drop-cons s i 0 below) (simp (eq-eqb _ _ p))
-
-    module _ (d : ℕ) (is : d ≡ digitOf (getD s i 0)) (no : getD s i 0 ≡ 10 → ⊥) where
-      pub scan-fault : d ≡ 16 → scanned (drop i s) i h g c n ≡ record { answer = stops Fault (i + 1) 16 false n; chunk = c }
-      unfolding scanned
-      scan-fault p = rw (drop-cons s i 0 below) (simp (ne-eqb _ _ no, ← is, eq-eqb _ _ p))
-
-      pub scan-high : (d ≡ 16 → ⊥) → h ≡ 16 → scanned (drop i s) i h g c n ≡ scanned (drop (i + 1) s) (i + 1) d true c n
-      unfolding scanned
-      scan-high p q = rw (rest-more s i below) (simp (ne-eqb _ _ no, ← is, ne-eqb _ _ p, eq-eqb _ _ q))
-
-      pub scan-pair : (d ≡ 16 → ⊥) → (h ≡ 16 → ⊥) → scanned (drop i s) i h g c n ≡ scanned (drop (i + 1) s) (i + 1) 16 true (set c n (h * 16 + d)) (n + 1)
-      unfolding scanned
-      scan-pair p q = rw (rest-more s i below) (simp (ne-eqb _ _ no, ← is, ne-eqb _ _ p, ne-eqb _ _ q))
-
--- a number that is no digit counts as 16
-pub scan-first : (bs : List ℕ) (at high first : ℕ) (g : Bool) (c : List ℕ) {w : Whole}
-    → first ≡ min high 16
-    → scanned bs at first g c 0 ≡ w
-    → scanned bs at (min high 16) g c 0 ≡ w
-scan-first bs at high first g c is e = rw (← is) e

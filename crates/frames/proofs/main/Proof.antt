@@ -2,7 +2,7 @@ use Prim.Native.Nat.{_≤_, _-_}
 use mathlib.Core.Path.{ap}
 use native.Mathlib.Omega.{arith}
 use borrow.Author.Needs.{needs}
-use Rattle.framing_lines.specs.declared.line.Line.{Line}
+use Rattle.framing_digits.specs.declared.Line.{Line}
 use Rattle.frames.proofs.main.Statement.{statement}
 use Rattle.frames.proofs.main.Tie as tie
 
