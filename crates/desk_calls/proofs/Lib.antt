@@ -1,8 +1,5 @@
-pub mod Sets
-pub mod Sources
 pub mod Served
 pub mod Setup
 pub mod Claims
 pub mod Numbers
 pub mod Vectors
-pub mod Openings

@@ -1,6 +1,6 @@
 -- With which numbers each call answers.
-use Prim.Native.Nat.{ℕ, _*_, _≤_}
-use mathlib.Core.Path.{_≡_, refl, sym, ap, subst, _∙_}
+use Prim.Native.Nat.{ℕ, _≤_}
+use mathlib.Core.Path.{_≡_, refl, sym, subst}
 use mathlib.Core.List.{List, [], _∷_}
 use mathlib.Core.Bool.{Bool, true, false, true≢false}
 use native.Mathlib.Omega.{arith}
@@ -10,41 +10,33 @@ use lib.Dec.{leb, eqb}
 use Rattle.ber_integers.specs.Digits.{pick}
 use Rattle.glow_rows.specs.Entry.{Rows}
 use Rattle.glow_trees.specs.Rows.{itemsIn}
-use Rattle.desk_crosspoints.specs.declared.Figures.{Figures}
-use Rattle.desk_crosspoints.specs.Figures.{both, figuresFit}
-use Rattle.desk_crosspoints.specs.Crosspoints.{Cells, clear, rowAt, legal, opened, Answer, answer}
-use Rattle.desk_requests.specs.Request.{allBelow, result, many, overTotal, judged, asked, requested}
+use Rattle.desk_crosspoints.specs.Figures.{both, figuresFit, cellsOf}
+use Rattle.desk_crosspoints.specs.Crosspoints.{Cells, clear, legal}
+use Rattle.desk_crosspoints.specs.Desk.{Desk, withCells, pathFits, Answer, answer, deskOpened}
+use Rattle.desk_requests.specs.Lists.{has}
+use Rattle.desk_requests.specs.Request.{Request, result, checks, judged, asked, requested}
+use Rattle.desk_requests.proofs.Checks.{first-by}
 use Rattle.desk_requests.proofs.Claims.{request-legal, request-not-setup}
 use Rattle.desk_connections.specs.Connections.{Ask, same}
 use Rattle.desk_connections.proofs.Operations.{Operations}
-use Rattle.desk_calls.specs.Calls.{requests, pathFits, deskOpened, answered, served, handled, laid, unserved, isReady, called}
-use Rattle.desk_calls.specs.Steps.{has}
+use Rattle.desk_calls.specs.Calls.{requestOf, answered, served, handled, laid, unserved, isReady, called}
 use Rattle.desk_calls.specs.Numbers.{openNumbers, requestNumbers, callNumbers, answerNumbers, allHas}
-use Rattle.desk_calls.proofs.Claims.{answered-keeps}
+use Rattle.desk_calls.proofs.Claims.{Lawful, answered-keeps}
 
 -- "request": 0, 1, 41 to 44
-module _ (w : ℕ) (f : Figures) (target : ℕ) (l : List ℕ) (operation : ℕ) (cells : Cells) where
-  told-numbers : has requestNumbers (judged w f target l operation cells) ≡ true
-  unfolding judged has
+module _ (d : Desk) (req : Request) where
+  told-numbers : has requestNumbers (judged d req) ≡ true
+  unfolding judged checks has
   told-numbers =
-      go (leb (f .targets) target) (allBelow (f .sources) l) (eqb operation 2) (many w f l operation (rowAt w cells target))
-      (overTotal w f target l operation cells)
-    where
-      go : (a b c d e : Bool) → has requestNumbers (pick a 41 (pick b (pick c 0 (pick d 43 (pick e 44 0))) 42)) ≡ true
-      go true b c d e = refl
-      go false false c d e = refl
-      go false true true d e = refl
-      go false true false true e = refl
-      go false true false false true = refl
-      go false true false false false = refl
+      first-by (λ (n : ℕ). has requestNumbers n ≡ true) (checks d req) refl (λ e. refl, (λ e. refl, (λ e. refl, (λ e. refl, tt))))
 
-  pub request-numbers : has requestNumbers (requested w f target l operation cells .number) ≡ true
+  pub request-numbers : has requestNumbers (requested d req .number) ≡ true
   unfolding requested asked has
-  request-numbers = go (both (legal w f cells) (leb operation 2)) (eqb (judged w f target l operation cells) 0)
+  request-numbers = go (both (legal (d .figures) (d .crosspoints)) (leb (req .operation) 2)) (eqb (judged d req) 0)
     where
       go : (u v : Bool)
           → has requestNumbers
-          (pick u (pick v (answer 0 (result w f target l operation cells)) (answer (judged w f target l operation cells) cells)) (answer 1 cells) .number)
+          (pick u (pick v (answer 0 (result d req)) (answer (judged d req) (d .crosspoints))) (answer 1 (d .crosspoints)) .number)
           ≡ true
       go false v = refl
       go true true = refl
@@ -85,57 +77,54 @@ number-small n h = go (eqb 1 n) refl
     go true q = omega (arith, eqb-true 1 n q)
     go false q = omega (arith, has-small n (few-numbers n h (λ z. eqb-false 1 n q (sym z))))
 
-module _ (w : ℕ) (f : Figures) (path : List ℕ) where
+module _ (d : Desk) where
   -- whatever a connection asks, its answer is a byte
-  pub answered-small : (a : Ask) (cells : Cells) (x : ℕ) (after : Cells) → answered (requests w f) path a cells ≡ answer x after → x ≤ 255
+  pub answered-small : (a : Ask) (x : ℕ) (after : Cells) → answered d a ≡ answer x after → x ≤ 255
   unfolding answered
-  answered-small a cells x after e =
-      subst (λ (z : Answer). z .number ≤ 255) e (go (same (a .matrix) path))
+  answered-small a x after e = subst (λ (z : Answer). z .number ≤ 255) e (go (same (a .matrix) (d .path)))
     where
-      go : (u : Bool) → pick u (requests w f (a .target) (a .sources) (a .operation) cells) (answer 40 cells) .number ≤ 255
-      go true = number-small _ (request-numbers w f (a .target) (a .sources) (a .operation) cells)
+      go : (u : Bool) → pick u (requested d (requestOf a)) (answer 40 (d .crosspoints)) .number ≤ 255
+      go true = number-small _ (request-numbers d (requestOf a))
       go false = omega arith
 
   -- the answer to a connection: 0, 40 to 44
-  pub answered-numbers : (a : Ask) (cells : Cells) → legal w f cells ≡ true → a .operation ≤ 2
-      → has answerNumbers (answered (requests w f) path a cells .number) ≡ true
+  pub answered-numbers : (a : Ask) → Lawful d → a .operation ≤ 2 → has answerNumbers (answered d a .number) ≡ true
   unfolding answered has
-  answered-numbers a cells h o = go (same (a .matrix) path)
+  answered-numbers a h o = go (same (a .matrix) (d .path))
     where
-      go : (u : Bool) → has answerNumbers (pick u (requests w f (a .target) (a .sources) (a .operation) cells) (answer 40 cells) .number) ≡ true
-      go true =
-          few-numbers _ (request-numbers w f (a .target) (a .sources) (a .operation) cells)
-          (request-not-setup w f (a .target) (a .sources) (a .operation) cells h o)
+      go : (u : Bool) → has answerNumbers (pick u (requested d (requestOf a)) (answer 40 (d .crosspoints)) .number) ≡ true
+      go true = few-numbers _ (request-numbers d (requestOf a)) (request-not-setup d (requestOf a) h o)
       go false = refl
 
-  -- .. and to each of a message's
-  pub served-numbers : (l : List Ask) (cells : Cells) → legal w f cells ≡ true → Operations l
-      → allHas answerNumbers (served (requests w f) path l cells .answers) ≡ true
-  unfolding allHas served
-  served-numbers [] cells h o = refl
-  served-numbers (a ∷ later) cells h o =
-      let k = answered-keeps (requests w f) path (λ (c : Cells). legal w f c ≡ true) (λ t l o c. request-legal w f t l o c) a cells h in
-      rw (answered-numbers a cells h (o .0)) (served-numbers later (answered (requests w f) path a cells .cells) k (o .1))
-
   -- "open": 0, 1, 45
-  pub open-numbers : (mode : ℕ) (cells : Cells) → has openNumbers (deskOpened w f path mode cells .number) ≡ true
-  unfolding deskOpened opened has
-  open-numbers mode cells = go (pathFits path) (eqb (length cells) (w * w)) (both (figuresFit w f) (eqb mode 0))
+  pub open-numbers : (mode : ℕ) → has openNumbers (deskOpened d mode .number) ≡ true
+  unfolding deskOpened has
+  open-numbers mode =
+      go (figuresFit (d .figures)) (eqb (length (d .crosspoints)) (cellsOf (d .figures))) (both (eqb mode 0) (pathFits (d .path)))
     where
       go : (a b c : Bool)
           → has openNumbers
-          (pick a (pick b (pick c (answer 0 (clear (w * w))) (answer 45 cells)) (answer 1 cells)) (pick b (answer 45 cells) (answer 1 cells)) .number) ≡ true
+          (pick a (pick b (pick c (answer 0 (clear (cellsOf (d .figures)))) (answer 45 (d .crosspoints))) (answer 1 (d .crosspoints)))
+          (answer 45 (d .crosspoints)) .number)
+          ≡ true
       go true true true = refl
       go true true false = refl
       go true false c = refl
-      go false true c = refl
-      go false false c = refl
+      go false b c = refl
 
   -- "call": 0 or 1 (the answers: `call-answers`, crates/turns/proofs/Numbers.antt)
-  pub call-numbers : (root : ℕ) (rows : Rows) (n : ℕ) (s : List ℕ) (cells : Cells) → has callNumbers (called w f path root rows n s cells .number) ≡ true
+  pub call-numbers : (root : ℕ) (rows : Rows) (n : ℕ) (s : List ℕ) → has callNumbers (called d root rows n s .number) ≡ true
   unfolding called laid has
-  call-numbers root rows n s cells = go (isReady w f path root rows n s cells)
+  call-numbers root rows n s = go (isReady d root rows n s)
     where
-      go : (u : Bool) → has callNumbers (pick u (laid (handled w f path (itemsIn s rows n) cells)) (unserved cells) .number) ≡ true
+      go : (u : Bool) → has callNumbers (pick u (laid (handled d (itemsIn s rows n))) (unserved (d .crosspoints)) .number) ≡ true
       go true = refl
       go false = refl
+
+-- the answers to a message's connections
+pub served-numbers : (d : Desk) (l : List Ask) → Lawful d → Operations l → allHas answerNumbers (served d l .answers) ≡ true
+unfolding allHas served
+served-numbers d [] h o = refl
+served-numbers d (a ∷ later) h o =
+    let k = answered-keeps Lawful (λ x r z. request-legal x r z) d a h in
+    rw (answered-numbers d a h (o .0)) (served-numbers (withCells d (answered d a .cells)) later k (o .1))

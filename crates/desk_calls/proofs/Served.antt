@@ -12,14 +12,13 @@ use Rattle.glow_rows.specs.declared.Cell.{Cell}
 use Rattle.glow_trees.specs.Content.{Item, contentOf}
 use Rattle.glow_trees.specs.Rows.{itemsIn}
 use Rattle.glow_sizes.specs.Sizes.{rowCell}
-use Rattle.desk_crosspoints.specs.declared.Figures.{Figures}
-use Rattle.desk_crosspoints.specs.Crosspoints.{Cells, Answer, answer}
-use Rattle.desk_connections.specs.Connections.{numberOf, octetsOf, numbersIn, nobody, fullPath, askOf, asksIn, memberOf, same}
-use Rattle.desk_calls.specs.Calls.{Request, requests, answered, Served, answers, served, handled, outcome}
-use Rattle.desk_calls.specs.Steps.{laidOver, laidAt, answeredAt, servedIn, leftFrom, Takes}
-use Rattle.desk_crosspoints.specs.Figures.{side}
+use Rattle.desk_crosspoints.specs.Crosspoints.{Cells}
+use Rattle.desk_crosspoints.specs.Desk.{Desk, withCells, Answer, answer}
+use Rattle.desk_connections.specs.Connections.{numberOf, nobody, fullPath, askOf, asksIn, memberOf, same}
 use Rattle.desk_connections.proofs.Items.{in-length, in-kind, in-parent, in-first, in-second, in-third}
-use Rattle.desk_calls.proofs.Sources.{append-again}
+use Rattle.desk_sources.proofs.Sources.{append-again}
+use Rattle.desk_calls.specs.Calls.{answered, Served, answers, served, handled, outcome}
+use Rattle.desk_calls.specs.Steps.{laidOver, laidAt, askedOf, answeredAt, servedIn, leftFrom, Takes}
 
 -- the answers, over those lent
 pub laid-start : (z : Served) (lent : List ℕ) → laidOver z lent ≡ laidAt 0 z lent
@@ -41,11 +40,11 @@ unfolding laidAt
 laid-end n cells lent = let d : n + 0 ≡ n = omega arith in rw (d, take-append-drop n lent)
 
 -- the connections from place i on
-module _ (request : Request) (path : List ℕ) (es : List Item) (i : ℕ) (cells : Cells) where
+module _ (d : Desk) (es : List Item) (i : ℕ) where
   abbrev from : Served
-  from = served request path (asksIn es (drop i es)) cells
+  from = served d (asksIn es (drop i es))
 
-  pub serve-none : length es ≤ i → from ≡ answers [] cells
+  pub serve-none : length es ≤ i → from ≡ answers [] (d .crosspoints)
   unfolding asksIn served
   serve-none h = rw (drop-of-length-le es h)
 
@@ -53,49 +52,49 @@ module _ (request : Request) (path : List ℕ) (es : List Item) (i : ℕ) (cells
     first : drop i es ≡ getD es i nobody ∷ drop (i + 1) es
     first = let d : suc i ≡ i + 1 = omega arith in drop-cons es i nobody h ∙ ap (λ (j : ℕ). getD es i nobody ∷ drop j es) d
 
-    pub serve-other : (getD es i nobody .kind ≡ 8 → ⊥) → from ≡ served request path (asksIn es (drop (i + 1) es)) cells
+    pub serve-other : (getD es i nobody .kind ≡ 8 → ⊥) → from ≡ served d (asksIn es (drop (i + 1) es))
     unfolding asksIn
     serve-other k = rw (first, ne-eqb _ _ k)
 
-    pub serve-one : getD es i nobody .kind ≡ 8 → (x : ℕ) (after : Cells) → answered request path (askOf es (getD es i nobody)) cells ≡ answer x after
-        → from ≡ answers (x ∷ served request path (asksIn es (drop (i + 1) es)) after .answers)
-        (served request path (asksIn es (drop (i + 1) es)) after .cells)
+    pub serve-one : getD es i nobody .kind ≡ 8 → (x : ℕ) (after : Cells) → answered d (askOf es (getD es i nobody)) ≡ answer x after
+        → from ≡ answers (x ∷ served (withCells d after) (asksIn es (drop (i + 1) es)) .answers)
+        (served (withCells d after) (asksIn es (drop (i + 1) es)) .cells)
     unfolding asksIn served
     serve-one k x after e = rw (first, eq-eqb _ _ k, e)
 
 -- the loop over the entries
-module _ (f : Figures) (path : List ℕ) (rows : Rows) (count : ℕ) (s : List ℕ) (c : count ≤ length rows) where
-  pub serve-start : (lent : List ℕ) (cells : Cells) → servedIn f path rows count s lent cells ≡ laidAt 0 (leftFrom f path rows count s 0 cells) lent
+module _ (rows : Rows) (count : ℕ) (s : List ℕ) (c : count ≤ length rows) where
+  pub serve-start : (d : Desk) (lent : List ℕ) → servedIn d rows count s lent ≡ laidAt 0 (leftFrom d rows count s 0) lent
   unfolding handled
-  serve-start lent cells = laid-start (leftFrom f path rows count s 0 cells) lent
+  serve-start d lent = laid-start (leftFrom d rows count s 0) lent
 
-  module _ (i n : ℕ) (lent : List ℕ) (cells : Cells) where
+  module _ (d : Desk) (i n : ℕ) (lent : List ℕ) where
     abbrev es : List Item
     es = itemsIn s rows count
 
-    pub serve-end : count ≤ i → laidAt n (leftFrom f path rows count s i cells) lent ≡ outcome 0 n lent cells
+    pub serve-end : count ≤ i → laidAt n (leftFrom d rows count s i) lent ≡ outcome 0 n lent (d .crosspoints)
     serve-end k =
-        ap (λ (z : Served). laidAt n z lent) (serve-none (requests side f) path es i cells (omega (arith, k, in-length s rows count c)))
-        ∙ laid-end n cells lent
+        ap (λ (z : Served). laidAt n z lent) (serve-none d es i (omega (arith, k, in-length s rows count c)))
+        ∙ laid-end n (d .crosspoints) lent
 
     module _ (k : i < count) (kind : ℕ) (e : kind ≡ getD (getD rows i []) 0 0) where
       there : i < length es
       there = omega (arith, k, in-length s rows count c)
 
-      pub entry-other : (kind ≡ 8 → ⊥) → Takes f path rows count s i n lent cells n lent cells
-      entry-other d =
+      pub entry-other : (kind ≡ 8 → ⊥) → Takes d rows count s i n lent n lent (d .crosspoints)
+      entry-other k′ =
           ap (λ (z : Served). laidAt n z lent)
-          (serve-other (requests side f) path es i cells there (λ z. d (e ∙ sym (in-kind s rows count c i k) ∙ z)))
+          (serve-other d es i there (λ z. k′ (e ∙ sym (in-kind s rows count c i k) ∙ z)))
 
-      pub entry-asks : kind ≡ 8 → n < length lent → (x : ℕ) (after : Cells) → answeredAt f path rows count s i cells ≡ answer x after
-          → Takes f path rows count s i n lent cells (n + 1) (set lent n x) after
-      entry-asks d l x after a =
+      pub entry-asks : kind ≡ 8 → n < length lent → (x : ℕ) (after : Cells) → answeredAt d rows count s i ≡ answer x after
+          → Takes d rows count s i n lent (n + 1) (set lent n x) after
+      entry-asks k′ l x after a =
           ap (λ (z : Served). laidAt n z lent)
-          (serve-one (requests side f) path es i cells there (in-kind s rows count c i k ∙ sym e ∙ d) x after a)
+          (serve-one d es i there (in-kind s rows count c i k ∙ sym e ∙ k′) x after a)
           ∙ laid-more n x _ _ lent l
 
 -- one connection
-module _ (request : Request) (path : List ℕ) (s : List ℕ) (rows : Rows) (count : ℕ) (c : count ≤ length rows) (i : ℕ) (k : i < count) (cells : Cells) where
+module _ (d : Desk) (s : List ℕ) (rows : Rows) (count : ℕ) (c : count ≤ length rows) (i : ℕ) (k : i < count) where
   abbrev items : List Item
   items = itemsIn s rows count
 
@@ -106,15 +105,15 @@ module _ (request : Request) (path : List ℕ) (s : List ℕ) (rows : Rows) (cou
     matrix-is : fullPath items (here .parent) ≡ fullPath items p
     matrix-is = ap (fullPath items) (in-parent s rows count c i k ∙ sym e)
 
-    pub other-matrix : same (fullPath items p) path ≡ false → answered request path (askOf items here) cells ≡ answer 40 cells
+    pub other-matrix : same (fullPath items p) (d .path) ≡ false → answered d (askOf items here) ≡ answer 40 (d .crosspoints)
     unfolding answered askOf
     other-matrix h = rw (matrix-is, h)
 
-    pub own-matrix : same (fullPath items p) path ≡ true → (target operation : ℕ) (t o v : Cell)
+    pub own-matrix : same (fullPath items p) (d .path) ≡ true → (target operation : ℕ) (t o v : Cell)
         → t ≡ rowCell rows i 0 → o ≡ rowCell rows i 2 → v ≡ rowCell rows i 1
         → numberOf (contentOf s t) ≡ target → numberOf (contentOf s o) ≡ operation
-        → (a : Answer) → request target (numbersIn (octetsOf (contentOf s v))) operation cells ≡ a
-        → answered request path (askOf items here) cells ≡ a
+        → (a : Answer) → askedOf d target s v operation ≡ a
+        → answered d (askOf items here) ≡ a
     unfolding answered askOf
     own-matrix h target operation t o v x y z m n a b =
         let q : numberOf (memberOf here 0) ≡ target = ap numberOf (in-first s rows count c i k ∙ ap (contentOf s) (sym x)) ∙ m in

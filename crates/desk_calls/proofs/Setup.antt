@@ -1,12 +1,11 @@
--- What SETUP's tests tell, and what figures that fit tell of a path.
-use Prim.Native.Nat.{ℕ, zero, suc, _+_, _-_, _*_, _≤_, _<_}
+-- What SETUP's tests tell.
+use Prim.Native.Nat.{ℕ, zero, suc, _-_, _≤_, _<_}
 use mathlib.Core.Path.{_≡_, refl, sym, ap, _∙_}
 use mathlib.Core.List.{List, _++_}
 use mathlib.Core.Bool.{Bool, true, false, true≢false}
 use native.Mathlib.Omega.{arith}
-use borrow.Author.Tests.{le-leb, lt-leb, leb-true, eq-eqb, ne-eqb}
-use lib.ListN.{length, drop, getD, drop-of-length-le}
-use lib.Seq.{drop-cons}
+use borrow.Author.Tests.{le-leb, lt-leb, leb-true}
+use lib.ListN.{length, drop}
 use lib.Dec.{leb}
 use Rattle.ber_integers.specs.Digits.{pick}
 use Rattle.glow_rows.specs.Entry.{Rows}
@@ -15,71 +14,14 @@ use Rattle.glow_trees.specs.Content.{Item}
 use Rattle.glow_trees.specs.Rows.{itemsIn}
 use Rattle.glow_member_sizes.specs.Spelling.{leastReal}
 use Rattle.glow_sizes.specs.Accepted.{accepted, fits, lengthOf, isWhole, octetsOf}
-use Rattle.desk_crosspoints.specs.declared.Figures.{Figures}
 use Rattle.desk_crosspoints.specs.Figures.{both}
-use Rattle.desk_crosspoints.specs.Crosspoints.{Cells, clear, legal, opened, answer}
+use Rattle.desk_crosspoints.specs.Crosspoints.{Cells, clear}
+use Rattle.desk_crosspoints.specs.Desk.{Desk, deskLegal}
 use Rattle.desk_crosspoints.proofs.Laws.{both-left, both-right, both-no, both-yes}
-use Rattle.desk_calls.specs.Calls.{allNumbers, pathFits, deskLegal, deskOpened, Served, handled, Outcome, outcome, filled}
-use Rattle.desk_calls.specs.Calls.{laid, unserved, isReady, called, told}
+use Rattle.desk_calls.specs.Calls.{Served, handled, Outcome, outcome, filled, laid, unserved, isReady, called, told}
 use Rattle.desk_calls.specs.Steps.{laidOver}
 use Rattle.desk_calls.specs.declared.Called.{Called}
 use Rattle.desk_connections.proofs.Items.{in-length}
-
--- a path's numbers from i on
-module _ (path : List ℕ) (i : ℕ) where
-  pub numbers-end : length path ≤ i → allNumbers (drop i path) ≡ true
-  unfolding allNumbers
-  numbers-end h = rw (drop-of-length-le path h)
-
-  module _ (h : i < length path) where
-    pub numbers-under : getD path i 0 < 1 → allNumbers (drop i path) ≡ false
-    unfolding allNumbers
-    numbers-under k = rw (drop-cons path i 0 h, lt-leb _ _ k)
-
-    pub numbers-over : 1 ≤ getD path i 0 → 2147483647 < getD path i 0 → allNumbers (drop i path) ≡ false
-    unfolding allNumbers
-    numbers-over k l = rw (drop-cons path i 0 h, le-leb _ _ k, lt-leb _ _ l)
-
-    pub numbers-more : 1 ≤ getD path i 0 → getD path i 0 ≤ 2147483647 → allNumbers (drop i path) ≡ allNumbers (drop (i + 1) path)
-    unfolding allNumbers
-    numbers-more k l = let d : i + 1 ≡ suc i = omega arith in rw (drop-cons path i 0 h, le-leb _ _ k, le-leb _ _ l, d)
-
-module _ (path : List ℕ) where
-  pub path-none : length path < 1 → pathFits path ≡ false
-  unfolding pathFits
-  path-none h = rw (lt-leb _ _ h)
-
-  pub path-long : 1 ≤ length path → 16 < length path → pathFits path ≡ false
-  unfolding pathFits
-  path-long h k = rw (le-leb _ _ h, lt-leb _ _ k)
-
-  pub path-rest : 1 ≤ length path → length path ≤ 16 → pathFits path ≡ allNumbers path
-  unfolding pathFits
-  path-rest h k = rw (le-leb _ _ h, le-leb _ _ k)
-
-  pub path-short : pathFits path ≡ true → length path ≤ 16
-  unfolding pathFits
-  path-short h =
-      leb-true (length path) 16
-      (both-right (leb 1 (length path)) (leb (length path) 16) (both-left (both (leb 1 (length path)) (leb (length path) 16)) (allNumbers path) h))
-
-module _ (w : ℕ) (f : Figures) (path : List ℕ) (cells : Cells) where
-  pub desk-path : pathFits path ≡ false → deskLegal w f path cells ≡ false
-  unfolding deskLegal
-  desk-path h = both-no (pathFits path) (legal w f cells) h
-
-  pub desk-rest : pathFits path ≡ true → deskLegal w f path cells ≡ legal w f cells
-  unfolding deskLegal
-  desk-rest h = both-yes (pathFits path) (legal w f cells) h
-
-  module _ (h : deskLegal w f path cells ≡ true) where
-    pub desk-fits : pathFits path ≡ true
-    unfolding deskLegal
-    desk-fits = both-left (pathFits path) (legal w f cells) h
-
-    pub desk-legal : legal w f cells ≡ true
-    unfolding deskLegal
-    desk-legal = both-right (pathFits path) (legal w f cells) h
 
 -- the writer's measure
 module _ (real : ℕ → List ℕ) (root rows n : ℕ) (es : List Item) (r : ℕ) (e : lengthOf real root rows n es ≡ r) where
@@ -138,57 +80,57 @@ measure-accepted root s rows n = go (leb n (length rows)) refl
         ap (λ (m : ℕ). leaf.both (leb m 256) (leaf.both (isWhole root (itemsIn s rows n)) (leb (length (octetsOf leastReal root (itemsIn s rows n))) 16384)))
         (in-length s rows n (leb-true n (length rows) e))
 
-module _ (w : ℕ) (f : Figures) (path : List ℕ) (root : ℕ) (rows : Rows) (n : ℕ) (s : List ℕ) (cells : Cells) where
+module _ (d : Desk) (root : ℕ) (rows : Rows) (n : ℕ) (s : List ℕ) where
   abbrev es : List Item
   es = itemsIn s rows n
 
-  pub called-not : isReady w f path root rows n s cells ≡ false → called w f path root rows n s cells ≡ unserved cells
+  pub called-not : isReady d root rows n s ≡ false → called d root rows n s ≡ unserved (d .crosspoints)
   unfolding called
   called-not h = rw h
 
-  pub called-ready : isReady w f path root rows n s cells ≡ true → called w f path root rows n s cells ≡ laid (handled w f path es cells)
+  pub called-ready : isReady d root rows n s ≡ true → called d root rows n s ≡ laid (handled d es)
   unfolding called
   called-ready h = rw h
 
-  pub setup-rows : 256 < length rows → called w f path root rows n s cells ≡ unserved cells
+  pub setup-rows : 256 < length rows → called d root rows n s ≡ unserved (d .crosspoints)
   unfolding isReady
   setup-rows h = called-not (both-no _ _ (lt-leb _ _ h))
 
   module _ (h : length rows ≤ 256) where
-    pub setup-message : 16384 < length s → called w f path root rows n s cells ≡ unserved cells
+    pub setup-message : 16384 < length s → called d root rows n s ≡ unserved (d .crosspoints)
     unfolding isReady
     setup-message l = called-not (both-yes _ _ (le-leb _ _ h) ∙ both-no _ _ (lt-leb _ _ l))
 
     module _ (l : length s ≤ 16384) where
-      ready : isReady w f path root rows n s cells ≡ both (deskLegal w f path cells) (fits leastReal root (length rows) n es)
+      ready : isReady d root rows n s ≡ both (deskLegal d) (fits leastReal root (length rows) n es)
       unfolding isReady
       ready =
           both-yes _ _ (le-leb _ _ h) ∙ both-yes _ _ (le-leb _ _ l)
-          ∙ ap (both (deskLegal w f path cells)) (measure-accepted root s rows n)
+          ∙ ap (both (deskLegal d)) (measure-accepted root s rows n)
 
-      pub setup-desk : deskLegal w f path cells ≡ false → called w f path root rows n s cells ≡ unserved cells
+      pub setup-desk : deskLegal d ≡ false → called d root rows n s ≡ unserved (d .crosspoints)
       setup-desk k = called-not (ready ∙ both-no _ _ k)
 
-      module _ (k : deskLegal w f path cells ≡ true) (r : ℕ) (e : lengthOf leastReal root (length rows) n es ≡ r) where
-        pub setup-entries : 16384 < r → called w f path root rows n s cells ≡ unserved cells
+      module _ (k : deskLegal d ≡ true) (r : ℕ) (e : lengthOf leastReal root (length rows) n es ≡ r) where
+        pub setup-entries : 16384 < r → called d root rows n s ≡ unserved (d .crosspoints)
         setup-entries m = called-not (ready ∙ both-yes _ _ k ∙ measure-no leastReal root (length rows) n es r e m)
 
-        pub not-setup : r ≤ 16384 → called w f path root rows n s cells ≡ laid (handled w f path es cells)
+        pub not-setup : r ≤ 16384 → called d root rows n s ≡ laid (handled d es)
         not-setup m = called-ready (ready ∙ both-yes _ _ k ∙ measure-yes leastReal root (length rows) n es r e m)
 
   -- what a caller has to show: a table and a message that are not too long, a legal desk, entries that stand in the rows and make a tree that the reader
   -- accepts
-  pub ready-from : length rows ≤ 256 → length s ≤ 16384 → deskLegal w f path cells ≡ true → n ≤ length rows → accepted root es ≡ true
-      → isReady w f path root rows n s cells ≡ true
+  pub ready-from : length rows ≤ 256 → length s ≤ 16384 → deskLegal d ≡ true → n ≤ length rows → accepted root es ≡ true
+      → isReady d root rows n s ≡ true
   unfolding isReady
   ready-from h m k l a = rw (le-leb _ _ h, le-leb _ _ m, k, le-leb _ _ l, a)
 
   -- what 0 tells
-  pub ready-tells : isReady w f path root rows n s cells ≡ true → (deskLegal w f path cells ≡ true) × (accepted root es ≡ true)
+  pub ready-tells : isReady d root rows n s ≡ true → (deskLegal d ≡ true) × (accepted root es ≡ true)
   unfolding isReady
   ready-tells e =
       let a = both-right (leb (length s) 16384) _ (both-right (leb (length rows) 256) _ e) in
-      (both-left (deskLegal w f path cells) _ a, both-right (leb n (length rows)) _ (both-right (deskLegal w f path cells) _ a))
+      (both-left (deskLegal d) _ a, both-right (leb n (length rows)) _ (both-right (deskLegal d) _ a))
 
 -- what the call answers for 1
 pub unready-told : (r : Called) (cells : Cells) → r ≡ record { number = 1; count = 0; answers = clear 256 } → unserved cells ≡ told r cells
@@ -206,18 +148,3 @@ unfolding laid laidOver filled
 laid-zeros z lent x e h =
     ap (λ (ns : List ℕ). outcome 0 (length (z .answers)) (z .answers ++ ns) (z .cells)) (sym (drop-clear (length (z .answers)) 256))
     ∙ ap (λ (l : List ℕ). laidOver z l) (sym e) ∙ h
-
--- ---- opening: the path beside the other figures
-
-module _ (w : ℕ) (f : Figures) (path : List ℕ) (mode : ℕ) (cells : Cells) where
-  pub opened-path : pathFits path ≡ true → deskOpened w f path mode cells ≡ opened w f mode cells
-  unfolding deskOpened
-  opened-path h = rw h
-
-  pub opened-not : pathFits path ≡ false → length cells ≡ w * w → deskOpened w f path mode cells ≡ answer 45 cells
-  unfolding deskOpened
-  opened-not h e = rw (h, eq-eqb _ _ e)
-
-  pub opened-count : pathFits path ≡ false → (length cells ≡ w * w → ⊥) → deskOpened w f path mode cells ≡ answer 1 cells
-  unfolding deskOpened
-  opened-count h n = rw (h, ne-eqb _ _ n)

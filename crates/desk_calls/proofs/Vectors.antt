@@ -1,4 +1,4 @@
--- The rules at a small message, by computation: rows of three cells, so at most three targets and three sources. The desk's path is 1.5.2.
+-- The rules at a small message, by computation, on a desk of three targets and three sources. Its path is 1.5.2.
 use Prim.Native.Nat.{ℕ, zero, suc}
 use mathlib.Core.Path.{_≡_, refl}
 use mathlib.Core.List.{List, [], _∷_}
@@ -11,11 +11,13 @@ use Rattle.ber_identifiers.specs.Identifier.{arcIs, arcFrom, arcAt, arcsFrom}
 use Rattle.desk_crosspoints.specs.declared.Limit.the-variants.{Absent, Most}
 use Rattle.desk_crosspoints.specs.declared.Figures.{Figures}
 use Rattle.desk_crosspoints.specs.Figures.{isCount, figuresFit, mostEach, mostTotal}
-use Rattle.desk_crosspoints.specs.Crosspoints.{Cells, bit, count, allBits, clear, rowAt, withRow, holders, takenFrom, mostAt, rowFits, rowsFit, sourcesFit}
-use Rattle.desk_crosspoints.specs.Crosspoints.{kindFits, cellsFit, legal, opened, answer}
-use Rattle.desk_requests.specs.Request.{marked, named, allBelow, replaces, becomes, takes, others, result, many, overTotal, judged, asked, requested}
+use Rattle.desk_crosspoints.specs.Crosspoints.{Cells, bit, count, allBits, clear, rowAt, withRow, holders, takenFrom, rowsFit, sourcesFit}
+use Rattle.desk_crosspoints.specs.Crosspoints.{kindFits, cellsFit, legal}
+use Rattle.desk_crosspoints.specs.Desk.{deskAt, pathFits, allNumbers, deskLegal}
+use Rattle.desk_requests.specs.Request.{marked, named, allBelow, replaces, becomes, takes, others, rowAfter, result}
+use Rattle.desk_requests.specs.Request.{firstOf, many, overTotal, checks, judged, asked, requested}
 use Rattle.desk_connections.specs.Connections.{numbersIn, isQualified, pathUp, fullPath, ask, askOf, asksIn, same}
-use Rattle.desk_calls.specs.Calls.{answered, answers, served, handled, pathFits, allNumbers, deskLegal, deskOpened, outcome, filled, laid, isReady, called}
+use Rattle.desk_calls.specs.Calls.{answered, answers, served, handled, outcome, filled, laid, isReady, called}
 
 abbrev desk : ℕ → Figures
 desk kind = record { kind = kind; targets = 3; sources = 3; total = Absent; each = Absent }
@@ -67,66 +69,55 @@ v-paths = (refl, refl, refl, refl)
 
 -- Every connection is answered in order, also after a refused one, and crosspoints are handed on; other entries ask nothing.
 pub v-order :
-    handled 3 (desk 0) (1 ∷ 5 ∷ 2 ∷ [])
+    handled (deskAt (desk 0) (1 ∷ 5 ∷ 2 ∷ []) (cells9 0 0 0 0 0 0 0 0 1))
     (qualifiedNode (1 ∷ 5 ∷ []) ∷ matrix 1 2 ∷ link 2 0 (from (1 ∷ [])) asIs ∷ link 2 9 (from (1 ∷ [])) asIs
     ∷ link 2 1 (from (9 ∷ [])) asIs ∷ link 2 0 (from (2 ∷ 2 ∷ [])) (operation 1) ∷ [])
-    (cells9 0 0 0 0 0 0 0 0 1)
     ≡ answers (0 ∷ 41 ∷ 42 ∷ 0 ∷ []) (cells9 0 0 1 0 0 0 0 0 1)
 unfolding isCount figuresFit mostEach mostTotal
-    bit count allBits clear rowAt withRow holders takenFrom mostAt rowFits rowsFit sourcesFit kindFits cellsFit legal
-    marked named allBelow replaces becomes takes others result many overTotal judged asked requested
+    bit count allBits clear rowAt withRow holders takenFrom rowsFit sourcesFit kindFits cellsFit legal
+    marked named allBelow replaces becomes takes others rowAfter result firstOf many overTotal checks judged asked requested
     arcIs arcFrom arcAt arcsFrom numbersIn isQualified pathUp askOf asksIn same answered served handled
 v-order = refl
 
 -- "40 MATRIX: other path", before 41; "A missing list is empty", absolute by default; no connections, no answers
 pub v-others :
-    (handled 3 (desk 0) (1 ∷ 5 ∷ 2 ∷ [])
-    (qualifiedMatrix (1 ∷ 5 ∷ 3 ∷ []) ∷ link 1 9 nothing asIs ∷ qualifiedMatrix (1 ∷ 5 ∷ 2 ∷ []) ∷ link 3 2 nothing asIs ∷ []) (cells9 0 0 0 0 0 0 0 0 1)
+    (handled (deskAt (desk 0) (1 ∷ 5 ∷ 2 ∷ []) (cells9 0 0 0 0 0 0 0 0 1))
+    (qualifiedMatrix (1 ∷ 5 ∷ 3 ∷ []) ∷ link 1 9 nothing asIs ∷ qualifiedMatrix (1 ∷ 5 ∷ 2 ∷ []) ∷ link 3 2 nothing asIs ∷ [])
     ≡ answers (40 ∷ 0 ∷ []) (cells9 0 0 0 0 0 0 0 0 0)) ×
     -- a longer path, and a shorter
-    (handled 3 (desk 0) (1 ∷ 5 ∷ 2 ∷ []) (qualifiedMatrix (1 ∷ 5 ∷ 2 ∷ 1 ∷ []) ∷ link 1 2 nothing asIs ∷ []) (cells9 0 0 0 0 0 0 0 0 1)
+    (handled (deskAt (desk 0) (1 ∷ 5 ∷ 2 ∷ []) (cells9 0 0 0 0 0 0 0 0 1))
+    (qualifiedMatrix (1 ∷ 5 ∷ 2 ∷ 1 ∷ []) ∷ link 1 2 nothing asIs ∷ [])
     ≡ answers (40 ∷ []) (cells9 0 0 0 0 0 0 0 0 1)) ×
-    (handled 3 (desk 0) (1 ∷ 5 ∷ 2 ∷ []) (qualifiedMatrix (5 ∷ 2 ∷ []) ∷ link 1 2 nothing asIs ∷ []) (cells9 0 0 0 0 0 0 0 0 1)
+    (handled (deskAt (desk 0) (1 ∷ 5 ∷ 2 ∷ []) (cells9 0 0 0 0 0 0 0 0 1))
+    (qualifiedMatrix (5 ∷ 2 ∷ []) ∷ link 1 2 nothing asIs ∷ [])
     ≡ answers (40 ∷ []) (cells9 0 0 0 0 0 0 0 0 1)) ×
-    (handled 3 (desk 0) (1 ∷ []) (qualifiedMatrix (1 ∷ []) ∷ []) (cells9 0 0 0 0 0 0 0 0 1) ≡ answers [] (cells9 0 0 0 0 0 0 0 0 1))
+    (handled (deskAt (desk 0) (1 ∷ []) (cells9 0 0 0 0 0 0 0 0 1))
+    (qualifiedMatrix (1 ∷ []) ∷ []) ≡ answers [] (cells9 0 0 0 0 0 0 0 0 1))
 unfolding isCount figuresFit mostEach mostTotal
-    bit count allBits clear rowAt withRow holders takenFrom mostAt rowFits rowsFit sourcesFit kindFits cellsFit legal
-    marked named allBelow replaces becomes takes others result many overTotal judged asked requested
+    bit count allBits clear rowAt withRow holders takenFrom rowsFit sourcesFit kindFits cellsFit legal
+    marked named allBelow replaces becomes takes others rowAfter result firstOf many overTotal checks judged asked requested
     arcIs arcFrom arcAt arcsFrom numbersIn isQualified pathUp askOf asksIn same answered served handled
 v-others = (refl, refl, refl, refl)
 
 -- in 1:1 the second connection takes the source from the first one's target
 pub v-moved :
-    handled 3 (desk 1) (7 ∷ []) (matrix 0 7 ∷ link 1 0 (from (2 ∷ [])) (operation 1) ∷ link 1 1 (from (2 ∷ [])) (operation 0) ∷ []) (cells9 0 0 0 0 0 0 0 0 0)
+    handled (deskAt (desk 1) (7 ∷ []) (cells9 0 0 0 0 0 0 0 0 0))
+    (matrix 0 7 ∷ link 1 0 (from (2 ∷ [])) (operation 1) ∷ link 1 1 (from (2 ∷ [])) (operation 0) ∷ [])
     ≡ answers (0 ∷ 0 ∷ []) (cells9 0 0 0 0 0 1 0 0 0)
 unfolding isCount figuresFit mostEach mostTotal
-    bit count allBits clear rowAt withRow holders takenFrom mostAt rowFits rowsFit sourcesFit kindFits cellsFit legal
-    marked named allBelow replaces becomes takes others result many overTotal judged asked requested
+    bit count allBits clear rowAt withRow holders takenFrom rowsFit sourcesFit kindFits cellsFit legal
+    marked named allBelow replaces becomes takes others rowAfter result firstOf many overTotal checks judged asked requested
     arcIs arcFrom arcAt arcsFrom numbersIn isQualified pathUp askOf asksIn same answered served handled
 v-moved = refl
-
--- "A full path has 1 to 16 numbers"; "Numbers are 1 to 2,147,483,647": the desk's own
-abbrev sixteen : List ℕ
-sixteen = 1 ∷ 2 ∷ 3 ∷ 4 ∷ 5 ∷ 6 ∷ 7 ∷ 8 ∷ 9 ∷ 10 ∷ 11 ∷ 12 ∷ 13 ∷ 14 ∷ 15 ∷ 2147483647 ∷ []
-
-pub v-path :
-    (pathFits (1 ∷ []) ≡ true) ×
-    (pathFits sixteen ≡ true) ×
-    (pathFits [] ≡ false) ×
-    (pathFits (1 ∷ sixteen) ≡ false) ×
-    (pathFits (1 ∷ 0 ∷ []) ≡ false) ×
-    (pathFits (1 ∷ 2147483648 ∷ []) ≡ false)
-unfolding pathFits allNumbers
-v-path = (refl, refl, refl, refl, refl, refl)
 
 -- The answers in order, then zeros; 1 leaves all: a desk that is not legal, entries that no row holds.
 pub v-left :
     (laid (answers (0 ∷ 41 ∷ []) (cells9 1 0 0 0 0 0 0 0 0)) ≡ outcome 0 2 (0 ∷ 41 ∷ clear 254) (cells9 1 0 0 0 0 0 0 0 0)) ×
-    (called 3 (desk 0) [] 0 [] 0 [] (cells9 0 0 0 0 0 0 0 0 0) ≡ outcome 1 0 (clear 256) (cells9 0 0 0 0 0 0 0 0 0)) ×
-    (called 3 (desk 0) (1 ∷ []) 0 [] 0 [] (cells9 1 1 0 0 0 0 0 0 0) ≡ outcome 1 0 (clear 256) (cells9 1 1 0 0 0 0 0 0 0)) ×
-    (called 3 (desk 0) (1 ∷ []) 0 [] 1 [] (cells9 0 0 0 0 0 0 0 0 0) ≡ outcome 1 0 (clear 256) (cells9 0 0 0 0 0 0 0 0 0))
+    (called (deskAt (desk 0) [] (cells9 0 0 0 0 0 0 0 0 0)) 0 [] 0 [] ≡ outcome 1 0 (clear 256) (cells9 0 0 0 0 0 0 0 0 0)) ×
+    (called (deskAt (desk 0) (1 ∷ []) (cells9 1 1 0 0 0 0 0 0 0)) 0 [] 0 [] ≡ outcome 1 0 (clear 256) (cells9 1 1 0 0 0 0 0 0 0)) ×
+    (called (deskAt (desk 0) (1 ∷ []) (cells9 0 0 0 0 0 0 0 0 0)) 0 [] 1 [] ≡ outcome 1 0 (clear 256) (cells9 0 0 0 0 0 0 0 0 0))
 unfolding isCount figuresFit mostEach mostTotal
-    bit count allBits clear rowAt withRow holders takenFrom mostAt rowFits rowsFit sourcesFit kindFits cellsFit legal
+    bit count allBits clear rowAt withRow holders takenFrom rowsFit sourcesFit kindFits cellsFit legal
     pathFits allNumbers deskLegal isReady called laid filled
 v-left = (refl, refl, refl, refl)
 
@@ -136,33 +127,22 @@ table zero = []
 table (suc n) = clear 50 ∷ table n
 
 pub v-long :
-    (called 3 (desk 0) (1 ∷ []) 0 (table 257) 0 [] (cells9 0 0 0 0 0 0 0 0 0) ≡ outcome 1 0 (clear 256) (cells9 0 0 0 0 0 0 0 0 0)) ×
-    (called 3 (desk 0) (1 ∷ []) 0 [] 0 (clear 16385) (cells9 0 0 0 0 0 0 0 0 0) ≡ outcome 1 0 (clear 256) (cells9 0 0 0 0 0 0 0 0 0)) ×
-    (isReady 3 (desk 0) (1 ∷ []) 0 (table 256) 0 (clear 16384) (cells9 0 0 0 0 0 0 0 0 0) ≡ accepted 0 [])
+    (called (deskAt (desk 0) (1 ∷ []) (cells9 0 0 0 0 0 0 0 0 0)) 0 (table 257) 0 [] ≡ outcome 1 0 (clear 256) (cells9 0 0 0 0 0 0 0 0 0)) ×
+    (called (deskAt (desk 0) (1 ∷ []) (cells9 0 0 0 0 0 0 0 0 0)) 0 [] 0 (clear 16385) ≡ outcome 1 0 (clear 256) (cells9 0 0 0 0 0 0 0 0 0)) ×
+    (isReady (deskAt (desk 0) (1 ∷ []) (cells9 0 0 0 0 0 0 0 0 0)) 0 (table 256) 0 (clear 16384) ≡ accepted 0 [])
 unfolding isCount figuresFit mostEach mostTotal
-    bit count allBits clear rowAt withRow holders takenFrom mostAt rowFits rowsFit sourcesFit kindFits cellsFit legal
+    bit count allBits clear rowAt withRow holders takenFrom rowsFit sourcesFit kindFits cellsFit legal
     pathFits allNumbers deskLegal isReady called itemsIn entriesOf itemsOf
 v-long = (refl, refl, refl)
 
--- Opening: "45 DESK: opening figures, mode (1) or path out of range"; crosspoints of another count are 1, before 45.
-pub v-open :
-    (deskOpened 3 (desk 0) (1 ∷ []) 0 (cells9 1 0 0 0 0 0 0 0 0) ≡ answer 0 (cells9 0 0 0 0 0 0 0 0 0)) ×
-    (deskOpened 3 (desk 3) (1 ∷ []) 0 (cells9 1 0 0 0 0 0 0 0 0) ≡ answer 45 (cells9 1 0 0 0 0 0 0 0 0)) ×
-    (deskOpened 3 (desk 0) (1 ∷ []) 1 (cells9 1 0 0 0 0 0 0 0 0) ≡ answer 45 (cells9 1 0 0 0 0 0 0 0 0)) ×
-    (deskOpened 3 (desk 0) [] 0 (cells9 1 0 0 0 0 0 0 0 0) ≡ answer 45 (cells9 1 0 0 0 0 0 0 0 0)) ×
-    (deskOpened 3 (desk 0) [] 0 (1 ∷ []) ≡ answer 1 (1 ∷ [])) ×
-    (deskOpened 3 (desk 0) (1 ∷ []) 1 (1 ∷ []) ≡ answer 1 (1 ∷ []))
-unfolding isCount figuresFit mostEach mostTotal clear opened pathFits allNumbers deskOpened
-v-open = (refl, refl, refl, refl, refl, refl)
-
 -- Every number that a connection is answered, in one message: 0, 40 MATRIX, 41 TARGET, 42 SOURCE, 43 MANY, 44 TOTAL.
 pub v-answers :
-    handled 3 (record { kind = 2; targets = 3; sources = 3; total = Most 3; each = Most 2 }) (7 ∷ [])
+    handled (deskAt (record { kind = 2; targets = 3; sources = 3; total = Most 3; each = Most 2 }) (7 ∷ []) (cells9 0 0 0 0 0 0 0 0 0))
     (matrix 0 7 ∷ matrix 0 8 ∷ link 1 0 (from (0 ∷ 1 ∷ [])) asIs ∷ link 2 9 (from (9 ∷ [])) asIs ∷ link 1 3 (from (9 ∷ [])) asIs
-    ∷ link 1 2 (from (3 ∷ [])) asIs ∷ link 1 2 (from (0 ∷ 1 ∷ 2 ∷ [])) asIs ∷ link 1 2 (from (0 ∷ 1 ∷ [])) asIs ∷ []) (cells9 0 0 0 0 0 0 0 0 0)
+    ∷ link 1 2 (from (3 ∷ [])) asIs ∷ link 1 2 (from (0 ∷ 1 ∷ 2 ∷ [])) asIs ∷ link 1 2 (from (0 ∷ 1 ∷ [])) asIs ∷ [])
     ≡ answers (0 ∷ 40 ∷ 41 ∷ 42 ∷ 43 ∷ 44 ∷ []) (cells9 1 1 0 0 0 0 0 0 0)
 unfolding isCount figuresFit mostEach mostTotal
-    bit count allBits clear rowAt withRow holders takenFrom mostAt rowFits rowsFit sourcesFit kindFits cellsFit legal
-    marked named allBelow replaces becomes takes others result many overTotal judged asked requested
+    bit count allBits clear rowAt withRow holders takenFrom rowsFit sourcesFit kindFits cellsFit legal
+    marked named allBelow replaces becomes takes others rowAfter result firstOf many overTotal checks judged asked requested
     arcIs arcFrom arcAt arcsFrom numbersIn isQualified pathUp askOf asksIn same answered served handled
 v-answers = refl

@@ -1,51 +1,28 @@
 -- The desk's call on a message's entries (document 01, "Desk" and "Numbers answered").
-use Prim.Native.Nat.{ℕ, _-_, _*_}
+use Prim.Native.Nat.{ℕ, _-_}
 use mathlib.Core.List.{List, [], _∷_, _++_}
-use mathlib.Core.Bool.{Bool, true, false}
+use mathlib.Core.Bool.{Bool}
 use lib.ListN.{length}
-use lib.Dec.{leb, eqb}
+use lib.Dec.{leb}
 use Rattle.ber_integers.specs.Digits.{pick}
 use Rattle.glow_rows.specs.Entry.{Rows}
 use Rattle.glow_trees.specs.Content.{Item}
 use Rattle.glow_trees.specs.Rows.{itemsIn}
 use Rattle.glow_sizes.specs.Accepted.{accepted}
-use Rattle.desk_crosspoints.specs.declared.Figures.{Figures}
 use Rattle.desk_crosspoints.specs.Figures.{both}
-use Rattle.desk_crosspoints.specs.Crosspoints.{Cells, clear, legal, opened, Answer, answer}
-use Rattle.desk_requests.specs.Request.{requested}
+use Rattle.desk_crosspoints.specs.Crosspoints.{Cells, clear}
+use Rattle.desk_crosspoints.specs.Desk.{Desk, withCells, deskLegal, Answer, answer}
+use Rattle.desk_requests.specs.Request.{Request, request, requested}
 use Rattle.desk_calls.specs.declared.Called.{Called}
 use Rattle.desk_connections.specs.Connections.{Ask, asksOf, same}
 
--- A request on plain numbers: target, sources, operation, and the crosspoints before it. All that the desk holds besides stands in `requests` alone.
-abbrev pub Request : Type 0
-Request = ℕ → List ℕ → ℕ → Cells → Answer
-
-abbrev pub requests : ℕ → Figures → Request
-requests w f = requested w f
-
--- "A full path has 1 to 16 numbers"; "Numbers are 1 to 2,147,483,647"
-unfoldable pub allNumbers : List ℕ → Bool
-allNumbers [] = true
-allNumbers (n ∷ ns) =
-    let rest : Bool = allNumbers ns in
-    pick (both (leb 1 n) (leb n 2147483647)) rest false
-
-unfoldable pub pathFits : List ℕ → Bool
-pathFits path = both (both (leb 1 (length path)) (leb (length path) 16)) (allNumbers path)
-
--- "A desk is legal if its figures could be opened and its crosspoints fit ..": its path is one of the figures
-unfoldable pub deskLegal : ℕ → Figures → List ℕ → Cells → Bool
-deskLegal w f path cells = both (pathFits path) (legal w f cells)
-
--- Opening: "45 DESK: opening figures, mode (1) or path out of range", nothing changed; cells of another count: 1, before 45
-unfoldable pub deskOpened : ℕ → Figures → List ℕ → ℕ → Cells → Answer
-deskOpened w f path mode cells =
-    pick (pathFits path) (opened w f mode cells) (pick (eqb (length cells) (w * w)) (answer 45 cells) (answer 1 cells))
+-- a connection's request: its matrix apart
+abbrev pub requestOf : Ask → Request
+requestOf a = request (a .target) (a .sources) (a .operation)
 
 -- "40 MATRIX: other path", before 41; else what the request gives
-unfoldable pub answered : Request → List ℕ → Ask → Cells → Answer
-answered request path a cells =
-    pick (same (a .matrix) path) (request (a .target) (a .sources) (a .operation) cells) (answer 40 cells)
+unfoldable pub answered : Desk → Ask → Answer
+answered d a = pick (same (a .matrix) (d .path)) (requested d (requestOf a)) (answer 40 (d .crosspoints))
 
 -- The answers in order, and the crosspoints after them.
 pub record Served : Type 0 where
@@ -58,14 +35,14 @@ answers ns cells = record { answers = ns; cells = cells }
 abbrev pub andThen : Answer → (Cells → Served) → Served
 andThen a rest = answers (a .number ∷ rest (a .cells) .answers) (rest (a .cells) .cells)
 
--- "A message's connections are taken in order, each answered, also after a refused one."
-unfoldable pub served : Request → List ℕ → List Ask → Cells → Served
-served request path [] cells = answers [] cells
-served request path (a ∷ later) cells = andThen (answered request path a cells) (λ after. served request path later after)
+-- "A message's connections are taken in order, each answered, also after a refused one.": each on the desk that the one before it left
+unfoldable pub served : Desk → List Ask → Served
+served d [] = answers [] (d .crosspoints)
+served d (a ∷ later) = andThen (answered d a) (λ cells. served (withCells d cells) later)
 
 -- the desk and a message's entries: what the rules give where neither is SETUP's matter
-unfoldable pub handled : ℕ → Figures → List ℕ → List Item → Cells → Served
-handled w f path es cells = served (requests w f) path (asksOf es) cells
+unfoldable pub handled : Desk → List Item → Served
+handled d es = served d (asksOf es)
 
 -- What a call answers, and the crosspoints after it: document 01's number, how many connections were answered, and 256 bytes, which hold an answer for each
 -- of the most entries that there can be.
@@ -91,15 +68,14 @@ unserved cells = outcome 1 0 (clear 256) cells
 
 -- "1 SETUP, first of all: .. table over 256 entries, message over 16,384 bytes, .. desk not legal, entries handed in .. that make no tree the reader accepts":
 -- there are no more entries than rows
-unfoldable pub isReady : ℕ → Figures → List ℕ → ℕ → Rows → ℕ → List ℕ → Cells → Bool
-isReady w f path root rows n s cells =
+unfoldable pub isReady : Desk → ℕ → Rows → ℕ → List ℕ → Bool
+isReady d root rows n s =
     both (leb (length rows) 256) (both (leb (length s) 16384)
-    (both (deskLegal w f path cells) (both (leb n (length rows)) (accepted root (itemsIn s rows n)))))
+    (both (deskLegal d) (both (leb n (length rows)) (accepted root (itemsIn s rows n)))))
 
 -- the call on the first n rows, with the message beside them; "1 leaves everything as it was"
-unfoldable pub called : ℕ → Figures → List ℕ → ℕ → Rows → ℕ → List ℕ → Cells → Outcome
-called w f path root rows n s cells =
-    pick (isReady w f path root rows n s cells) (laid (handled w f path (itemsIn s rows n) cells)) (unserved cells)
+unfoldable pub called : Desk → ℕ → Rows → ℕ → List ℕ → Outcome
+called d root rows n s = pick (isReady d root rows n s) (laid (handled d (itemsIn s rows n))) (unserved (d .crosspoints))
 
 -- what the answer says, with the crosspoints after it
 abbrev pub told : Called → Cells → Outcome

@@ -3,7 +3,7 @@ use Prim.Native.Nat.{ℕ}
 use mathlib.Core.List.{List, [], _∷_}
 use mathlib.Core.Bool.{Bool, true, false}
 use Rattle.ber_integers.specs.Digits.{pick}
-use Rattle.desk_calls.specs.Steps.{has}
+use Rattle.desk_requests.specs.Lists.{has}
 
 -- opening: done, "1 SETUP", "45 DESK"
 abbrev pub openNumbers : List ℕ

@@ -5,7 +5,7 @@ use mathlib.Core.List.{[], _∷_}
 use mathlib.Core.Bool.{Bool, true, false}
 use native.Mathlib.Omega.{arith}
 use borrow.Author.Tests.{eqb-true, eqb-false}
-use lib.ListN.{length, drop, getD}
+use lib.ListN.{length, take, getD}
 use lib.Dec.{eqb}
 use Rattle.desk_crosspoints.specs.Crosspoints.{Cells, bit, count, clear}
 use Rattle.desk_crosspoints.proofs.Laws.{bit-set, bit-clear}
@@ -54,8 +54,8 @@ unfolding clear count
 clear-count zero = refl
 clear-count (suc n) = omega (arith, bit-clear 0 refl, clear-count n)
 
-pub clear-past : (k n : ℕ) → count (drop k (clear n)) ≡ 0
-unfolding clear count
-clear-past zero n = clear-count n
-clear-past (suc k) zero = refl
-clear-past (suc k) (suc n) = clear-past k n
+pub clear-take : (k n : ℕ) → k ≤ n → take k (clear n) ≡ clear k
+unfolding clear
+clear-take zero n h = refl
+clear-take (suc k) zero h = absurd (omega (arith, h))
+clear-take (suc k) (suc n) h = ap (λ (l : Cells). 0 ∷ l) (clear-take k n (omega (arith, h)))

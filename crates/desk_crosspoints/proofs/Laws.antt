@@ -15,17 +15,18 @@ use Rattle.ber_integers.proofs.Radix.{lt-or-le}
 use Rattle.desk_crosspoints.specs.declared.Limit.{Limit}
 use Rattle.desk_crosspoints.specs.declared.Limit.the-variants.{Absent, Most}
 use Rattle.desk_crosspoints.specs.declared.Figures.{Figures}
-use Rattle.desk_crosspoints.specs.Figures.{both, isCount, isLimit, figuresFit, limitOr, mostEach, mostTotal}
-use Rattle.desk_crosspoints.specs.Crosspoints.{Cells, bit, count, allBits, clear, rowAt, holders, mostAt, rowFits, rowsFit, sourcesFit}
-use Rattle.desk_crosspoints.specs.Crosspoints.{kindFits, cellsFit, legal, answer, opened}
+use Rattle.desk_crosspoints.specs.Figures.{side, both, isCount, isLimit, figuresFit, cellsOf, sizeOf, limitOr, mostEach, mostTotal}
+use Rattle.desk_crosspoints.specs.Crosspoints.{Cells, bit, count, allBits, clear, rowAt, holders, rowsFit, sourcesFit}
+use Rattle.desk_crosspoints.specs.Crosspoints.{kindFits, cellsFit, legal}
+use Rattle.desk_crosspoints.specs.Desk.{Desk, pathFits, answer, deskOpened}
 
 -- figures
-module _ (w n : ℕ) where
-  pub is-count-under : n < 1 → isCount w n ≡ false
+module _ (n : ℕ) where
+  pub is-count-under : n < 1 → isCount n ≡ false
   unfolding isCount
   is-count-under h = simp (lt-leb _ _ h)
 
-  pub is-count-rest : 1 ≤ n → isCount w n ≡ leb n w
+  pub is-count-rest : 1 ≤ n → isCount n ≡ leb n side
   unfolding isCount
   is-count-rest h = simp (le-leb _ _ h)
 
@@ -35,21 +36,21 @@ is-limit-under l n e h = rw e (simp (lt-leb 1 n h))
 pub is-limit-rest : (l : Limit) (n : ℕ) → l ≡ Most n → 1 ≤ n → isLimit l ≡ leb n 2147483647
 is-limit-rest l n e h = rw e (simp (le-leb 1 n h))
 
-module _ (w : ℕ) (f : Figures) where
-  pub fit-kind : 2 < f .kind → figuresFit w f ≡ false
+module _ (f : Figures) where
+  pub fit-kind : 2 < f .kind → figuresFit f ≡ false
   unfolding figuresFit
   fit-kind h = simp (lt-leb _ _ h)
 
-  pub fit-targets : f .kind ≤ 2 → isCount w (f .targets) ≡ false → figuresFit w f ≡ false
+  pub fit-targets : f .kind ≤ 2 → isCount (f .targets) ≡ false → figuresFit f ≡ false
   unfolding figuresFit
   fit-targets h t = simp (le-leb _ _ h, t)
 
-  pub fit-sources : f .kind ≤ 2 → isCount w (f .targets) ≡ true → isCount w (f .sources) ≡ false → figuresFit w f ≡ false
+  pub fit-sources : f .kind ≤ 2 → isCount (f .targets) ≡ true → isCount (f .sources) ≡ false → figuresFit f ≡ false
   unfolding figuresFit
   fit-sources h t s = simp (le-leb _ _ h, t, s)
 
-  pub fit-rest : f .kind ≤ 2 → isCount w (f .targets) ≡ true → isCount w (f .sources) ≡ true
-      → figuresFit w f ≡ both (isLimit (f .total)) (isLimit (f .each))
+  pub fit-rest : f .kind ≤ 2 → isCount (f .targets) ≡ true → isCount (f .sources) ≡ true
+      → figuresFit f ≡ both (isLimit (f .total)) (isLimit (f .each))
   unfolding figuresFit
   fit-rest h t s = simp (le-leb _ _ h, t, s)
 
@@ -67,14 +68,6 @@ module _ (f : Figures) where
   pub each-one : (f .kind ≡ 2 → ⊥) → mostEach f ≡ 1
   unfolding mostEach
   each-one h = simp (ne-eqb _ _ h)
-
-  pub at-there : (t : ℕ) → t < f .targets → mostAt f t ≡ mostEach f
-  unfolding mostAt
-  at-there t h = simp (lt-ltb _ _ h)
-
-  pub at-none : (t : ℕ) → f .targets ≤ t → mostAt f t ≡ 0
-  unfolding mostAt
-  at-none t h = simp (le-ltb _ _ h)
 
 pub bit-set : (c : ℕ) → (c ≡ 0 → ⊥) → bit c ≡ 1
 unfolding bit
@@ -123,68 +116,83 @@ count-append [] b = omega arith
 count-append (x ∷ xs) b = omega (arith, count-append xs b)
 
 -- the rows' cells, legality
-module _ (w : ℕ) (f : Figures) (cells : Cells) where
-  pub rows-not : (t n : ℕ) → t ≡ suc n → rowFits f n (rowAt w cells n) ≡ false → rowsFit w f cells t ≡ false
+module _ (w most : ℕ) (cells : Cells) where
+  pub rows-not : (t n : ℕ) → t ≡ suc n → leb (count (rowAt w cells n)) most ≡ false → rowsFit w most cells t ≡ false
   unfolding rowsFit
   rows-not t n k e = rw (k, e)
 
-  pub rows-more : (t n : ℕ) → t ≡ suc n → rowFits f n (rowAt w cells n) ≡ true → rowsFit w f cells t ≡ rowsFit w f cells n
+  pub rows-more : (t n : ℕ) → t ≡ suc n → leb (count (rowAt w cells n)) most ≡ true → rowsFit w most cells t ≡ rowsFit w most cells n
   unfolding rowsFit
   rows-more t n k e = rw (k, e)
 
-  pub rows-end : (t : ℕ) → t ≤ 0 → rowsFit w f cells t ≡ true
+  pub rows-end : (t : ℕ) → t ≤ 0 → rowsFit w most cells t ≡ true
   unfolding rowsFit
   rows-end zero h = refl
   rows-end (suc n) h = absurd (omega arith)
 
-  pub kind-one : f .kind ≡ 1 → kindFits w f cells ≡ sourcesFit w cells w
+  -- what the part handed on tells
+  pub row-says : (n x k : ℕ) (b : Bool) → x ≡ n * w + w → count (take (x - n * w) (drop (n * w) cells)) ≡ k → leb k most ≡ b
+      → leb (count (rowAt w cells n)) most ≡ b
+  unfolding rowAt
+  row-says n x k b q c h =
+      let d : x - n * w ≡ w = omega (arith, q) in
+      ap (λ (y : ℕ). leb (count (take y (drop (n * w) cells))) most) (sym d) ∙ ap (λ (y : ℕ). leb y most) c ∙ h
+
+module _ (f : Figures) (cells : Cells) where
+  pub kind-one : f .kind ≡ 1 → kindFits f cells ≡ sourcesFit (f .sources) (f .targets) cells (f .sources)
   unfolding kindFits
   kind-one h = simp (eq-eqb _ _ h)
 
-  pub kind-many : f .kind ≡ 2 → kindFits w f cells ≡ leb (count cells) (mostTotal f)
+  pub kind-sources : (n w : ℕ) (b : Bool) → f .kind ≡ 1 → n ≡ f .targets → w ≡ f .sources → sourcesFit w n cells w ≡ b → kindFits f cells ≡ b
+  kind-sources n w b k p q h =
+      kind-one k ∙ ap (λ (x : ℕ). sourcesFit (f .sources) x cells (f .sources)) (sym p) ∙ ap (λ (x : ℕ). sourcesFit x n cells x) (sym q) ∙ h
+
+  pub rows-are : (n w most : ℕ) (b : Bool) → n ≡ f .targets → w ≡ f .sources → mostEach f ≡ most → rowsFit w most cells n ≡ b
+      → rowsFit (f .sources) (mostEach f) cells (f .targets) ≡ b
+  rows-are n w most b p q m h =
+      ap (λ (x : ℕ). rowsFit (f .sources) x cells (f .targets)) m ∙ ap (λ (x : ℕ). rowsFit (f .sources) most cells x) (sym p)
+      ∙ ap (λ (x : ℕ). rowsFit x most cells n) (sym q) ∙ h
+
+  pub size-is : (n w : ℕ) → n ≡ f .targets → w ≡ f .sources → length cells ≡ cellsOf f → length cells ≡ n * w
+  size-is n w p q h = h ∙ ap (λ (x : ℕ). x * f .sources) (sym p) ∙ ap (λ (x : ℕ). n * x) (sym q)
+
+  pub kind-many : f .kind ≡ 2 → kindFits f cells ≡ leb (count cells) (mostTotal f)
   unfolding kindFits
   kind-many h = rw h
 
-  pub kind-other : (f .kind ≡ 1 → ⊥) → (f .kind ≡ 2 → ⊥) → kindFits w f cells ≡ true
+  pub kind-other : (f .kind ≡ 1 → ⊥) → (f .kind ≡ 2 → ⊥) → kindFits f cells ≡ true
   unfolding kindFits
   kind-other a b = simp (ne-eqb _ _ a, ne-eqb _ _ b)
 
-  pub cells-count : (length cells ≡ w * w → ⊥) → cellsFit w f cells ≡ false
+  pub cells-count : (length cells ≡ cellsOf f → ⊥) → cellsFit f cells ≡ false
   unfolding cellsFit
-  cells-count h = simp (ne-eqb _ _ h)
+  cells-count h = rw (ne-eqb _ _ h)
 
-  pub cells-bits : length cells ≡ w * w → allBits cells ≡ false → cellsFit w f cells ≡ false
+  pub cells-bits : length cells ≡ cellsOf f → allBits cells ≡ false → cellsFit f cells ≡ false
   unfolding cellsFit
   cells-bits h b = rw (eq-eqb _ _ h, b)
 
-  pub cells-rows : length cells ≡ w * w → allBits cells ≡ true → rowsFit w f cells w ≡ false → cellsFit w f cells ≡ false
+  pub cells-rows : length cells ≡ cellsOf f → allBits cells ≡ true → rowsFit (f .sources) (mostEach f) cells (f .targets) ≡ false
+      → cellsFit f cells ≡ false
   unfolding cellsFit
   cells-rows h b r = rw (eq-eqb _ _ h, b, r)
 
-  pub cells-rest : length cells ≡ w * w → allBits cells ≡ true → rowsFit w f cells w ≡ true → cellsFit w f cells ≡ kindFits w f cells
+  pub cells-rest : length cells ≡ cellsOf f → allBits cells ≡ true → rowsFit (f .sources) (mostEach f) cells (f .targets) ≡ true
+      → cellsFit f cells ≡ kindFits f cells
   unfolding cellsFit
   cells-rest h b r = rw (eq-eqb _ _ h, b, r)
 
-  pub legal-figures : figuresFit w f ≡ false → legal w f cells ≡ false
+  pub legal-figures : figuresFit f ≡ false → legal f cells ≡ false
   unfolding legal
   legal-figures h = rw h
 
-  pub legal-cells : figuresFit w f ≡ true → legal w f cells ≡ cellsFit w f cells
+  pub legal-cells : figuresFit f ≡ true → legal f cells ≡ cellsFit f cells
   unfolding legal
   legal-cells h = rw h
 
 pub row-is : (w : ℕ) (cells : Cells) (t a e : ℕ) → a ≡ t * w → e ≡ t * w + w → take (e - a) (drop a cells) ≡ rowAt w cells t
 unfolding rowAt
 row-is w cells t a e p q = let d : e - a ≡ w = omega (arith, p, q) in rw (d, p)
-
-module _ (f : Figures) (t : ℕ) (r : Cells) where
-  pub row-many : mostAt f t < count r → rowFits f t r ≡ false
-  unfolding rowFits
-  row-many h = simp (lt-leb _ _ h)
-
-  pub row-rest : count r ≤ mostAt f t → rowFits f t r ≡ eqb (count (drop (f .sources) r)) 0
-  unfolding rowFits
-  row-rest h = simp (le-leb _ _ h)
 
 module _ (w : ℕ) (cells : Cells) where
   pub holders-more : (s t n : ℕ) → t ≡ suc n → holders w cells s t ≡ bit (getD cells (n * w + s) 0) + holders w cells s n
@@ -200,33 +208,53 @@ pub both-right : (a b : Bool) → both a b ≡ true → b ≡ true
 both-right true b h = h
 both-right false b h = absurd (true≢false (sym h))
 
-pub count-bound : (w n : ℕ) → isCount w n ≡ true → n ≤ w
+pub count-bound : (n : ℕ) → isCount n ≡ true → n ≤ side
 unfolding isCount
-count-bound w n h = leb-true n w (both-right (leb 1 n) (leb n w) h)
+count-bound n h = leb-true n side (both-right (leb 1 n) (leb n side) h)
 
-module _ (w : ℕ) (f : Figures) (h : figuresFit w f ≡ true) where
+pub count-some : (n : ℕ) → isCount n ≡ true → 1 ≤ n
+unfolding isCount
+count-some n h = leb-true 1 n (both-left (leb 1 n) (leb n side) h)
+
+module _ (f : Figures) (h : figuresFit f ≡ true) where
   pub fit-kind-le : f .kind ≤ 2
   unfolding figuresFit
   fit-kind-le =
       leb-true (f .kind) 2
-      (both-left (leb (f .kind) 2) (both (isCount w (f .targets)) (both (isCount w (f .sources)) (both (isLimit (f .total)) (isLimit (f .each))))) h)
+      (both-left (leb (f .kind) 2) (both (isCount (f .targets)) (both (isCount (f .sources)) (both (isLimit (f .total)) (isLimit (f .each))))) h)
 
-  pub fit-counts : both (isCount w (f .targets)) (both (isCount w (f .sources)) (both (isLimit (f .total)) (isLimit (f .each)))) ≡ true
+  pub fit-counts : both (isCount (f .targets)) (both (isCount (f .sources)) (both (isLimit (f .total)) (isLimit (f .each)))) ≡ true
   unfolding figuresFit
   fit-counts =
       both-right (leb (f .kind) 2)
-      (both (isCount w (f .targets)) (both (isCount w (f .sources)) (both (isLimit (f .total)) (isLimit (f .each))))) h
+      (both (isCount (f .targets)) (both (isCount (f .sources)) (both (isLimit (f .total)) (isLimit (f .each))))) h
 
-  pub fit-targets-le : f .targets ≤ w
+  pub fit-targets-le : f .targets ≤ side
   fit-targets-le =
-      count-bound w (f .targets)
-      (both-left (isCount w (f .targets)) (both (isCount w (f .sources)) (both (isLimit (f .total)) (isLimit (f .each)))) fit-counts)
+      count-bound (f .targets)
+      (both-left (isCount (f .targets)) (both (isCount (f .sources)) (both (isLimit (f .total)) (isLimit (f .each)))) fit-counts)
 
-  pub fit-sources-le : f .sources ≤ w
+  pub fit-sources-le : f .sources ≤ side
   fit-sources-le =
-      count-bound w (f .sources)
-      (both-left (isCount w (f .sources)) (both (isLimit (f .total)) (isLimit (f .each)))
-      (both-right (isCount w (f .targets)) (both (isCount w (f .sources)) (both (isLimit (f .total)) (isLimit (f .each)))) fit-counts))
+      count-bound (f .sources)
+      (both-left (isCount (f .sources)) (both (isLimit (f .total)) (isLimit (f .each)))
+      (both-right (isCount (f .targets)) (both (isCount (f .sources)) (both (isLimit (f .total)) (isLimit (f .each)))) fit-counts))
+
+  pub fit-sources-some : 1 ≤ f .sources
+  fit-sources-some =
+      count-some (f .sources)
+      (both-left (isCount (f .sources)) (both (isLimit (f .total)) (isLimit (f .each)))
+      (both-right (isCount (f .targets)) (both (isCount (f .sources)) (both (isLimit (f .total)) (isLimit (f .each)))) fit-counts))
+
+-- the size
+module _ (f : Figures) where
+  pub size-none : figuresFit f ≡ false → sizeOf f ≡ 0
+  unfolding sizeOf
+  size-none h = rw h
+
+  pub size-fits : figuresFit f ≡ true → sizeOf f ≡ cellsOf f
+  unfolding sizeOf
+  size-fits h = rw h
 
 -- opening
 pub clear-snoc : (n : ℕ) → clear n ++ (0 ∷ []) ≡ clear (suc n)
@@ -248,23 +276,27 @@ wipe-end l i n k a b e =
     let d : i ≡ n = omega (arith, a, b) in
     sym (take-all n l (omega (arith, k))) ∙ ap (λ (j : ℕ). take j l) (sym d) ∙ e ∙ ap clear d
 
-module _ (w : ℕ) (f : Figures) (mode : ℕ) (cells : Cells) where
-  pub open-count : (length cells ≡ w * w → ⊥) → opened w f mode cells ≡ answer 1 cells
-  unfolding opened
-  open-count h = simp (ne-eqb _ _ h)
+module _ (d : Desk) (mode : ℕ) where
+  pub open-figures : figuresFit (d .figures) ≡ false → deskOpened d mode ≡ answer 45 (d .crosspoints)
+  unfolding deskOpened
+  open-figures b = rw b
 
-  pub open-figures : length cells ≡ w * w → figuresFit w f ≡ false → opened w f mode cells ≡ answer 45 cells
-  unfolding opened
-  open-figures h b = rw (eq-eqb _ _ h, b)
+  pub open-count : figuresFit (d .figures) ≡ true → (length (d .crosspoints) ≡ cellsOf (d .figures) → ⊥) → deskOpened d mode ≡ answer 1 (d .crosspoints)
+  unfolding deskOpened
+  open-count b h = rw (b, ne-eqb _ _ h)
 
-  pub open-mode : length cells ≡ w * w → figuresFit w f ≡ true → (mode ≡ 0 → ⊥) → opened w f mode cells ≡ answer 45 cells
-  unfolding opened
-  open-mode h b m = rw (eq-eqb _ _ h, b, ne-eqb _ _ m)
+  module _ (b : figuresFit (d .figures) ≡ true) (h : length (d .crosspoints) ≡ cellsOf (d .figures)) where
+    pub open-mode : (mode ≡ 0 → ⊥) → deskOpened d mode ≡ answer 45 (d .crosspoints)
+    unfolding deskOpened
+    open-mode m = rw (b, eq-eqb _ _ h, ne-eqb _ _ m)
 
-  pub open-done : (after : Cells) → length cells ≡ w * w → figuresFit w f ≡ true → mode ≡ 0 → after ≡ clear (length cells)
-      → opened w f mode cells ≡ answer 0 after
-  unfolding opened
-  open-done after h b m e = rw (eq-eqb _ _ h, b, m) (ap (answer 0) (ap clear (sym h) ∙ sym e))
+    pub open-path : mode ≡ 0 → pathFits (d .path) ≡ false → deskOpened d mode ≡ answer 45 (d .crosspoints)
+    unfolding deskOpened
+    open-path m p = rw (b, eq-eqb _ _ h, m, p)
+
+    pub open-done : (after : Cells) → mode ≡ 0 → pathFits (d .path) ≡ true → after ≡ clear (length (d .crosspoints)) → deskOpened d mode ≡ answer 0 after
+    unfolding deskOpened
+    open-done after m p e = rw (b, eq-eqb _ _ h, m, p) (ap (answer 0) (ap clear (sym h) ∙ sym e))
 
 -- the total limit
 module _ (n a b : ℕ) where
@@ -297,22 +329,6 @@ total-absent f n r e h = rw e h
 pub total-given : (f : Figures) (n m : ℕ) → f .total ≡ Most m → leb n (mostTotal f) ≡ leb n m
 unfolding mostTotal
 total-given f n m e = rw e
-
--- what the parts handed on tell
-pub row-says : (w : ℕ) (f : Figures) (cells : Cells) (n k : ℕ) (b : Bool) → k ≡ n
-    → rowFits f k (take (n * w + w - n * w) (drop (n * w) cells)) ≡ b → rowFits f n (rowAt w cells n) ≡ b
-unfolding rowAt
-row-says w f cells n k b i e =
-    let d : n * w + w - n * w ≡ w = omega arith in
-    ap (λ (j : ℕ). rowFits f n (take j (drop (n * w) cells))) (sym d)
-    ∙ ap (λ (m : ℕ). rowFits f m (take (n * w + w - n * w) (drop (n * w) cells))) (sym i) ∙ e
-
-pub row-none : (f : Figures) (t : ℕ) (r : Cells) (x : ℕ) → count r ≤ mostAt f t
-    → count (take (length r - f .sources) (drop (f .sources) r)) ≡ x → rowFits f t r ≡ eqb x 0
-row-none f t r x h e =
-    row-rest f t r h
-    ∙ ap (λ (l : Cells). eqb (count l) 0) (sym (take-all (length r - f .sources) (drop (f .sources) r) (omega (arith, length-drop (f .sources) r))))
-    ∙ ap (λ (k : ℕ). eqb k 0) e
 
 pub part-length : (w : ℕ) (cells : Cells) (n : ℕ) → n * w + w ≤ length cells → length (take (n * w + w - n * w) (drop (n * w) cells)) ≡ w
 part-length w cells n h =

@@ -129,19 +129,22 @@ module _ (w : ℕ) (cells : Cells) where
           let b : bit (getD (take (to - from) (drop from cells)) s 0) ≡ bit (getD cells (t * w + s) 0) = ap bit c in
           omega (arith, e s, h .each s k, b, holders-more w cells s (t + 1) t (omega arith))
 
-  pub held-all : (t : ℕ) (sums : Cells) → Held t sums → t ≡ w → sourcesFit w cells w ≡ allBits sums
-  held-all t sums h i = go (allBits sums) refl (sourcesFit w cells w) refl
+  pub held-all : (t n : ℕ) (sums : Cells) → Held t sums → t ≤ n → n ≤ t → sourcesFit w n cells w ≡ allBits sums
+  held-all t n sums h a b = go (allBits sums) refl (sourcesFit w n cells w) refl
     where
-      go : (u : Bool) → allBits sums ≡ u → (v : Bool) → sourcesFit w cells w ≡ v → v ≡ u
+      i : t ≡ n
+      i = omega (arith, a, b)
+
+      go : (u : Bool) → allBits sums ≡ u → (v : Bool) → sourcesFit w n cells w ≡ v → v ≡ u
       go true e true d = refl
       go false e false d = refl
-      go true e false d = absurd (true≢false (sym (sources-from w cells w one) ∙ d))
+      go true e false d = absurd (true≢false (sym (sources-from w n cells w one) ∙ d))
         where
-          one : (s : ℕ) → s < w → holders w cells s w ≤ 1
+          one : (s : ℕ) → s < w → holders w cells s n ≤ 1
           one s k = omega (arith, bits-tell sums e s, h .each s k, ap (holders w cells s) i)
       go false e true d = absurd (true≢false (sym (bits-from sums one) ∙ e))
         where
           one : (s : ℕ) → getD sums s 0 ≤ 1
           one s =
-              ⊎-elim (λ (k : s < w). omega (arith, sources-tell w cells w d s k, h .each s k, ap (holders w cells s) i))
+              ⊎-elim (λ (k : s < w). omega (arith, sources-tell w n cells w d s k, h .each s k, ap (holders w cells s) i))
               (λ (k : w ≤ s). omega (arith, List·getD-eq-default sums 0 {n = s} (omega (arith, k, h .room)))) (lt-or-le s w)

@@ -11,8 +11,8 @@ use lib.Seq.{getD-take, getD-drop, getD-append-add, length-take-le}
 use lib.Dec.{leb, eqb}
 use Rattle.ber_integers.specs.Digits.{pick}
 use Rattle.ber_integers.proofs.Radix.{lt-or-le}
-use Rattle.desk_crosspoints.specs.declared.Figures.{Figures}
-use Rattle.desk_crosspoints.specs.Crosspoints.{Cells, bit, count, allBits, rowAt, withRow, holders, mostAt, rowFits, rowsFit, sourcesFit}
+use Rattle.desk_crosspoints.specs.Figures.{side, mostCells}
+use Rattle.desk_crosspoints.specs.Crosspoints.{Cells, bit, count, allBits, rowAt, withRow, holders, rowsFit, sourcesFit}
 use Rattle.desk_crosspoints.proofs.Laws.{bit-le, bit-set, bit-clear, both-left, both-right}
 
 -- a's cells are set only where b's are
@@ -120,6 +120,14 @@ rows-apart zero (suc t) w h = omega arith
 rows-apart (suc a) zero w h = absurd (omega (arith, h))
 rows-apart (suc a) (suc t) w h = omega (arith, rows-apart a t w (omega (arith, h)))
 
+pub rows-le : (a b w : ℕ) → a ≤ b → a * w ≤ b * w
+rows-le zero b w h = omega arith
+rows-le (suc a) zero w h = absurd (omega (arith, h))
+rows-le (suc a) (suc b) w h = omega (arith, rows-le a b w (omega (arith, h)))
+
+pub size-small : (a b : ℕ) → a ≤ side → b ≤ side → a * b ≤ mostCells
+size-small a b h k = omega (arith, rows-le a side b h, k)
+
 -- each test over all cells, rows or sources, to and from its cells, rows or sources
 pub bits-tell : (l : Cells) → allBits l ≡ true → (i : ℕ) → getD l i 0 ≤ 1
 unfolding allBits
@@ -137,53 +145,43 @@ unfolding allBits
 bits-from [] h = refl
 bits-from (x ∷ xs) h = simp (le-leb x 1 (h 0)) (bits-from xs (λ i. h (suc i)))
 
-module _ (f : Figures) (t : ℕ) (r : Cells) where
-  pub fits-from : count r ≤ mostAt f t → count (drop (f .sources) r) ≡ 0 → rowFits f t r ≡ true
-  unfolding rowFits
-  fits-from h k = simp (le-leb _ _ h, k)
-
-  pub fits-most : rowFits f t r ≡ true → count r ≤ mostAt f t
-  unfolding rowFits
-  fits-most h = leb-true (count r) (mostAt f t) (both-left (leb (count r) (mostAt f t)) (eqb (count (drop (f .sources) r)) 0) h)
-
-  pub fits-past : rowFits f t r ≡ true → count (drop (f .sources) r) ≡ 0
-  unfolding rowFits
-  fits-past h =
-      eqb-true (count (drop (f .sources) r)) 0 (both-right (leb (count r) (mostAt f t)) (eqb (count (drop (f .sources) r)) 0) h)
-
-module _ (w : ℕ) (f : Figures) (cells : Cells) where
-  pub rows-tell : (n : ℕ) → rowsFit w f cells n ≡ true → (t : ℕ) → t < n → rowFits f t (rowAt w cells t) ≡ true
+module _ (w most : ℕ) (cells : Cells) where
+  pub rows-tell : (n : ℕ) → rowsFit w most cells n ≡ true → (t : ℕ) → t < n → count (rowAt w cells t) ≤ most
   unfolding rowsFit
   rows-tell zero h t k = absurd (omega (arith, k))
   rows-tell (suc n) h t k =
-      ⊎-elim (λ (l : t < n). rows-tell n (both-right (rowFits f n (rowAt w cells n)) (rowsFit w f cells n) h) t l)
+      let a = leb (count (rowAt w cells n)) most in
+      ⊎-elim (λ (l : t < n). rows-tell n (both-right a (rowsFit w most cells n) h) t l)
       (λ (l : n ≤ t).
       let e : n ≡ t = omega (arith, k, l) in
-      subst (λ (x : ℕ). rowFits f x (rowAt w cells x) ≡ true) e (both-left (rowFits f n (rowAt w cells n)) (rowsFit w f cells n) h))
+      subst (λ (x : ℕ). count (rowAt w cells x) ≤ most) e
+      (leb-true (count (rowAt w cells n)) most (both-left a (rowsFit w most cells n) h)))
       (lt-or-le t n)
 
-  pub rows-from : (n : ℕ) → ((t : ℕ) → t < n → rowFits f t (rowAt w cells t) ≡ true) → rowsFit w f cells n ≡ true
+  pub rows-from : (n : ℕ) → ((t : ℕ) → t < n → count (rowAt w cells t) ≤ most) → rowsFit w most cells n ≡ true
   unfolding rowsFit
   rows-from zero h = refl
-  rows-from (suc n) h = rw (h n (omega arith)) (rows-from n (λ t k. h t (omega (arith, k))))
+  rows-from (suc n) h = rw (le-leb _ _ (h n (omega arith))) (rows-from n (λ t k. h t (omega (arith, k))))
 
-module _ (w : ℕ) (cells : Cells) where
-  pub sources-tell : (n : ℕ) → sourcesFit w cells n ≡ true → (s : ℕ) → s < n → holders w cells s w ≤ 1
+module _ (w t : ℕ) (cells : Cells) where
+  pub sources-tell : (n : ℕ) → sourcesFit w t cells n ≡ true → (s : ℕ) → s < n → holders w cells s t ≤ 1
   unfolding sourcesFit
   sources-tell zero h s k = absurd (omega (arith, k))
   sources-tell (suc n) h s k =
-      ⊎-elim (λ (l : s < n). sources-tell n (both-right (leb (holders w cells n w) 1) (sourcesFit w cells n) h) s l)
+      let a = leb (holders w cells n t) 1 in
+      ⊎-elim (λ (l : s < n). sources-tell n (both-right a (sourcesFit w t cells n) h) s l)
       (λ (l : n ≤ s).
       let e : n ≡ s = omega (arith, k, l) in
-      subst (λ (x : ℕ). holders w cells x w ≤ 1) e
-      (leb-true (holders w cells n w) 1 (both-left (leb (holders w cells n w) 1) (sourcesFit w cells n) h)))
+      subst (λ (x : ℕ). holders w cells x t ≤ 1) e
+      (leb-true (holders w cells n t) 1 (both-left a (sourcesFit w t cells n) h)))
       (lt-or-le s n)
 
-  pub sources-from : (n : ℕ) → ((s : ℕ) → s < n → holders w cells s w ≤ 1) → sourcesFit w cells n ≡ true
+  pub sources-from : (n : ℕ) → ((s : ℕ) → s < n → holders w cells s t ≤ 1) → sourcesFit w t cells n ≡ true
   unfolding sourcesFit
   sources-from zero h = refl
-  sources-from (suc n) h = rw (le-leb (holders w cells n w) 1 (h n (omega arith))) (sources-from n (λ s k. h s (omega (arith, k))))
+  sources-from (suc n) h = rw (le-leb (holders w cells n t) 1 (h n (omega arith))) (sources-from n (λ s k. h s (omega (arith, k))))
 
+module _ (w : ℕ) (cells : Cells) where
   -- a source's targets, no more than in other crosspoints
   pub holders-under : (b : Cells) (s n : ℕ) → ((t : ℕ) → t < n → getD cells (t * w + s) 0 ≤ getD b (t * w + s) 0)
       → holders w cells s n ≤ holders w b s n

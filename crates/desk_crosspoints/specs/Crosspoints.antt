@@ -1,13 +1,13 @@
--- Crosspoints (document 01, "Desk"): a cell for each target and source, that of target t and source s at t * w + s, w the row size. A cell is 1 where
--- the source is connected to the target, else 0.
+-- Crosspoints (document 01, "Desk"): a cell for each target and source and no other, row by row. That of target t and source s stands at t * w + s, w the row
+-- size: the desk's source count. A cell is 1 where the source is connected to the target, else 0.
 use Prim.Native.Nat.{ℕ, zero, suc, _+_, _*_}
 use mathlib.Core.List.{List, [], _∷_, _++_}
 use mathlib.Core.Bool.{Bool, true, false}
 use lib.ListN.{length, take, drop, getD, set}
-use lib.Dec.{leb, ltb, eqb}
+use lib.Dec.{leb, eqb}
 use Rattle.ber_integers.specs.Digits.{pick}
 use Rattle.desk_crosspoints.specs.declared.Figures.{Figures}
-use Rattle.desk_crosspoints.specs.Figures.{oneToOne, nToN, both, figuresFit, mostEach, mostTotal}
+use Rattle.desk_crosspoints.specs.Figures.{oneToOne, nToN, both, figuresFit, cellsOf, mostEach, mostTotal}
 
 abbrev pub Cells : Type 0
 Cells = List ℕ
@@ -51,56 +51,33 @@ unfoldable pub takenFrom : ℕ → Cells → ℕ → ℕ → Cells
 takenFrom w cells s zero = cells
 takenFrom w cells s (suc n) = takenFrom w (set cells (n * w + s) 0) s n
 
--- the most sources of a target: none if there is no such target
-unfoldable pub mostAt : Figures → ℕ → ℕ
-mostAt f t = pick (ltb t (f .targets)) (mostEach f) 0
+-- the first n targets have no more than `most` sources
+unfoldable pub rowsFit : ℕ → ℕ → Cells → ℕ → Bool
+rowsFit w most cells zero = true
+rowsFit w most cells (suc n) =
+    let rest : Bool = rowsFit w most cells n in
+    both (leb (count (rowAt w cells n)) most) rest
 
--- the cells of target t fit: no more than its limit, and none at a source that there is not
-unfoldable pub rowFits : Figures → ℕ → Cells → Bool
-rowFits f t r = both (leb (count r) (mostAt f t)) (eqb (count (drop (f .sources) r)) 0)
-
--- the same of the first n targets
-unfoldable pub rowsFit : ℕ → Figures → Cells → ℕ → Bool
-rowsFit w f cells zero = true
-rowsFit w f cells (suc n) =
-    let rest : Bool = rowsFit w f cells n in
-    both (rowFits f n (rowAt w cells n)) rest
-
--- for 1:1, each of the first n sources is connected to one target at most
-unfoldable pub sourcesFit : ℕ → Cells → ℕ → Bool
-sourcesFit w cells zero = true
-sourcesFit w cells (suc n) =
-    let rest : Bool = sourcesFit w cells n in
-    both (leb (holders w cells n w) 1) rest
+-- for 1:1, each of the first n sources is connected to one target at most, of t targets
+unfoldable pub sourcesFit : ℕ → ℕ → Cells → ℕ → Bool
+sourcesFit w t cells zero = true
+sourcesFit w t cells (suc n) =
+    let rest : Bool = sourcesFit w t cells n in
+    both (leb (holders w cells n t) 1) rest
 
 -- 1:1: no source is connected twice; N:N: no more than the limit in total
-unfoldable pub kindFits : ℕ → Figures → Cells → Bool
-kindFits w f cells =
-    pick (eqb (f .kind) oneToOne) (sourcesFit w cells w)
+unfoldable pub kindFits : Figures → Cells → Bool
+kindFits f cells =
+    pick (eqb (f .kind) oneToOne) (sourcesFit (f .sources) (f .targets) cells (f .sources))
     (pick (eqb (f .kind) nToN) (leb (count cells) (mostTotal f)) true)
 
--- "its crosspoints fit its counts, type and limits": w rows of w cells
-unfoldable pub cellsFit : ℕ → Figures → Cells → Bool
-cellsFit w f cells =
-    both (eqb (length cells) (w * w))
+-- "its crosspoints fit its counts, type and limits"
+unfoldable pub cellsFit : Figures → Cells → Bool
+cellsFit f cells =
+    both (eqb (length cells) (cellsOf f))
     (both (allBits cells)
-    (both (rowsFit w f cells w) (kindFits w f cells)))
+    (both (rowsFit (f .sources) (mostEach f) cells (f .targets)) (kindFits f cells)))
 
--- "A desk is legal if its figures could be opened and its crosspoints fit its counts, type and limits."
-unfoldable pub legal : ℕ → Figures → Cells → Bool
-legal w f cells = both (figuresFit w f) (cellsFit w f cells)
-
--- A number answered, and the crosspoints after it.
-pub record Answer : Type 0 where
-  pub number : ℕ
-  pub cells : Cells
-
-abbrev pub answer : ℕ → Cells → Answer
-answer n cells = record { number = n; cells = cells }
-
--- Opening. "45 DESK: opening figures, mode (1) or path out of range", and nothing changed; else all crosspoints cleared. Cells of another count: 1.
-unfoldable pub opened : ℕ → Figures → ℕ → Cells → Answer
-opened w f mode cells =
-    pick (eqb (length cells) (w * w))
-    (pick (both (figuresFit w f) (eqb mode 0)) (answer 0 (clear (w * w))) (answer 45 cells))
-    (answer 1 cells)
+-- "A desk is legal if its figures could be opened and its crosspoints fit its counts, type and limits.": of these all but the path
+unfoldable pub legal : Figures → Cells → Bool
+legal f cells = both (figuresFit f) (cellsFit f cells)

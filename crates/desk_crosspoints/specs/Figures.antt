@@ -1,4 +1,4 @@
--- A desk's figures (document 01, "Desk"): type, counts and limits. `w` is the row size: the most targets and the most sources of a desk.
+-- A desk's figures (document 01, "Desk"): type, counts and limits.
 use Prim.Native.Nat.{ℕ, _*_}
 use mathlib.Core.Bool.{Bool, true, false}
 use lib.Dec.{leb, eqb}
@@ -7,9 +7,13 @@ use Rattle.desk_crosspoints.specs.declared.Limit.{Limit}
 use Rattle.desk_crosspoints.specs.declared.Limit.the-variants.{Absent, Most}
 use Rattle.desk_crosspoints.specs.declared.Figures.{Figures}
 
--- "1 to 64 targets, 1 to 64 sources"
+-- "1 to 64 targets, 1 to 64 sources": the most of either
 abbrev pub side : ℕ
 side = 64
+
+-- the most cells of a desk
+abbrev pub mostCells : ℕ
+mostCells = side * side
 
 -- the types (001): oneToN 0, oneToOne 1, nToN 2
 abbrev pub oneToN : ℕ
@@ -25,8 +29,8 @@ abbrev pub both : Bool → Bool → Bool
 both true b = b
 both false b = false
 
-unfoldable pub isCount : ℕ → ℕ → Bool
-isCount w n = both (leb 1 n) (leb n w)
+unfoldable pub isCount : ℕ → Bool
+isCount n = both (leb 1 n) (leb n side)
 
 -- "Limits, where given, are at least 1 and kept as given": Glow's numbers, at most 2,147,483,647
 abbrev pub isLimit : Limit → Bool
@@ -34,11 +38,11 @@ isLimit Absent = true
 isLimit (Most n) = both (leb 1 n) (leb n 2147483647)
 
 -- figures in their ranges
-unfoldable pub figuresFit : ℕ → Figures → Bool
-figuresFit w f =
+unfoldable pub figuresFit : Figures → Bool
+figuresFit f =
     both (leb (f .kind) nToN)
-    (both (isCount w (f .targets))
-    (both (isCount w (f .sources))
+    (both (isCount (f .targets))
+    (both (isCount (f .sources))
     (both (isLimit (f .total))
     (isLimit (f .each)))))
 
@@ -49,6 +53,14 @@ limitOr (Most m) n = m
 -- "only N:N heeds them"; "N:N has a limit per target (default the source count)"; a target of 1:N or 1:1 has one source at most
 unfoldable pub mostEach : Figures → ℕ
 mostEach f = pick (eqb (f .kind) nToN) (limitOr (f .each) (f .sources)) 1
+
+-- how many cells a desk has: a row for each target, in it a cell for each source
+abbrev pub cellsOf : Figures → ℕ
+cellsOf f = f .targets * f .sources
+
+-- .. for a host that is to lend them: 0 where the figures are out of range, which have no size
+unfoldable pub sizeOf : Figures → ℕ
+sizeOf f = pick (figuresFit f) (cellsOf f) 0
 
 -- "and in total (default targets times sources)"
 unfoldable pub mostTotal : Figures → ℕ

@@ -1,3 +1,4 @@
 pub mod Figures
 pub mod Crosspoints
+pub mod Desk
 pub mod Vectors

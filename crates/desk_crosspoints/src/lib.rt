@@ -3,11 +3,11 @@ ghost use mathlib.Core.Path.{_≡_};
 ghost use Prim.Native.Nat.{ℕ, _+_, _*_, _≤_, _<_, min};
 ghost use lib.Dec.{leb};
 ghost use lib.ListN.{length, getD};
-ghost use Rattle.desk_crosspoints.specs.Figures.{side, both, isCount, isLimit, figuresFit, limitOr, mostEach, mostTotal};
-ghost use Rattle.desk_crosspoints.specs.Crosspoints.{bit, count, allBits, clear, mostAt, rowFits, rowsFit, sourcesFit};
-ghost use Rattle.desk_crosspoints.specs.Crosspoints.{kindFits, cellsFit, legal, answer, opened};
+ghost use Rattle.desk_crosspoints.specs.Figures.{side, both, isCount, isLimit, figuresFit, cellsOf, sizeOf, limitOr, mostEach, mostTotal};
+ghost use Rattle.desk_crosspoints.specs.Crosspoints.{bit, count, allBits, clear, rowsFit, sourcesFit, kindFits, cellsFit, legal};
+ghost use Rattle.desk_crosspoints.specs.Desk.{deskAt, pathFits, deskLegal, answer, deskOpened};
 
-// "1 to 64 targets, 1 to 64 sources": also the row size of the crosspoints.
+// The most targets and the most sources of a desk.
 pub const SIDE: usize = 64;
 
 // A limit where it was given.
@@ -25,13 +25,19 @@ pub struct Figures {
     pub each: Limit,
 }
 
+fn index(x: u64) -> usize
+    ensures { λ r. ⌜ r ≡ x ⌝ }
+{
+    x as usize
+}
+
 fn is_count(n: u64) -> bool
-    ensures { λ r. ⌜ isCount side n ≡ r ⌝ }
+    ensures { λ r. ⌜ isCount n ≡ r ⌝ }
 {
     if n < 1 {
         return false;
     }
-    n <= 64
+    index(n) <= SIDE
 }
 
 fn is_limit(l: Limit) -> bool
@@ -50,7 +56,7 @@ fn is_limit(l: Limit) -> bool
 
 // Whether figures are in their ranges.
 pub fn figures_fit(f: Figures) -> bool
-    ensures { λ r. ⌜ figuresFit side f ≡ r ⌝ }
+    ensures { λ r. ⌜ figuresFit f ≡ r ⌝ }
 {
     if 2 < f.kind {
         return false;
@@ -88,16 +94,6 @@ pub fn most_each(f: Figures) -> u64
         return limit_or(each, f.sources);
     }
     1
-}
-
-// The most sources of target t: none if there is no such target.
-fn most_at(f: Figures, t: u64) -> u64
-    ensures { λ r. ⌜ mostAt f t ≡ r ⌝ }
-{
-    if t < f.targets {
-        return most_each(f);
-    }
-    0
 }
 
 // 1 for a cell that is set.
@@ -178,12 +174,6 @@ fn all_bits(cells: &[u8]) -> bool
     most <= 1
 }
 
-fn word(x: usize) -> u64
-    ensures { λ r. ⌜ r ≡ x ⌝ }
-{
-    x as u64
-}
-
 // Whether n is no more than a times b, which may be more than a u64 holds.
 fn in_product(n: u64, a: u64, b: u64) -> bool
     ensures { λ r. ⌜ leb n (a * b) ≡ r ⌝ }
@@ -208,30 +198,35 @@ pub fn in_total(f: Figures, n: u64) -> bool
     }
 }
 
-// Whether the cells of target t fit.
-fn row_fits(f: Figures, t: u64, cells: &[u8]) -> bool
-    requires { ⌜ f .sources ≤ length (now cells) ⌝ }
-    ensures { λ r. ⌜ rowFits f t (now (cells .entry)) ≡ r ⌝ }
+// How many cells a desk has.
+fn cells_of(f: Figures) -> usize
+    requires { ⌜ (f .targets ≤ side) × (f .sources ≤ side) ⌝ }
+    ensures { λ r. ⌜ cellsOf f ≡ r ⌝ }
 {
-    if most_at(f, t) < count(cells) {
-        return false;
-    }
-    let s = f.sources as usize;
-    count(&cells[s..]) == 0
+    index(f.targets * f.sources)
 }
 
-// Whether the cells of every target fit.
-fn rows_fit(f: Figures, cells: &[u8]) -> bool
-    requires { ⌜ f .sources ≤ 64 ⌝ }
-    requires { ⌜ length (now cells) ≡ 4096 ⌝ }
-    ensures { λ r. ⌜ rowsFit side f (now (cells .entry)) side ≡ r ⌝ }
+// How many crosspoints a host lends for a desk with these figures: 0 for figures out of range, which no desk has.
+pub fn size(f: Figures) -> usize
+    ensures { λ r. ⌜ sizeOf f ≡ r ⌝ }
 {
-    let mut t = SIDE;
+    if !figures_fit(f) {
+        return 0;
+    }
+    cells_of(f)
+}
+
+// Whether each of n targets, rows of w cells, has no more than `most` sources.
+fn rows_fit(n: usize, w: usize, most: u64, cells: &[u8]) -> bool
+    requires { ⌜ length (now cells) ≡ n * w ⌝ }
+    ensures { λ r. ⌜ rowsFit w most (now (cells .entry)) n ≡ r ⌝ }
+{
+    let mut t = n;
     while 0 < t {
         t -= 1;
-        let from = t * SIDE;
-        let to = from + SIDE;
-        if !row_fits(f, word(t), &cells[from..to]) {
+        let from = t * w;
+        let to = from + w;
+        if most < count(&cells[from..to]) {
             return false;
         }
     }
@@ -260,29 +255,40 @@ fn add_row(sums: &mut [u8], row: &[u8])
     }
 }
 
-// Whether each source is connected to one target at most.
-fn sources_fit(cells: &[u8]) -> bool
-    requires { ⌜ length (now cells) ≡ 4096 ⌝ }
-    ensures { λ r. ⌜ sourcesFit side (now (cells .entry)) side ≡ r ⌝ }
+// Whether each of w sources is connected to one of n targets at most; `sums` is scratch, a cell for each source.
+fn columns_fit(n: usize, w: usize, cells: &[u8], sums: &mut [u8]) -> bool
+    requires { ⌜ length (now cells) ≡ n * w ⌝ }
+    requires { ⌜ now sums ≡ clear w ⌝ }
+    ensures { λ r. ⌜ sourcesFit w n (now (cells .entry)) w ≡ r ⌝ }
 {
-    let mut sums = [0u8; 64];
     let mut t = 0;
-    while t < SIDE {
-        let from = t * SIDE;
-        let to = from + SIDE;
-        add_row(&mut sums, &cells[from..to]);
+    while t < n {
+        let from = t * w;
+        let to = from + w;
+        add_row(sums, &cells[from..to]);
         t += 1;
     }
-    all_bits(&sums)
+    all_bits(sums)
+}
+
+// Whether each source is connected to one of n targets at most.
+fn sources_fit(n: usize, w: usize, cells: &[u8]) -> bool
+    requires { ⌜ w ≤ side ⌝ }
+    requires { ⌜ length (now cells) ≡ n * w ⌝ }
+    ensures { λ r. ⌜ sourcesFit w n (now (cells .entry)) w ≡ r ⌝ }
+{
+    let mut sums = [0u8; SIDE];
+    columns_fit(n, w, cells, &mut sums[..w])
 }
 
 // Whether crosspoints fit the type.
 fn kind_fits(f: Figures, cells: &[u8]) -> bool
-    requires { ⌜ length (now cells) ≡ 4096 ⌝ }
-    ensures { λ r. ⌜ kindFits side f (now (cells .entry)) ≡ r ⌝ }
+    requires { ⌜ f .sources ≤ side ⌝ }
+    requires { ⌜ length (now cells) ≡ cellsOf f ⌝ }
+    ensures { λ r. ⌜ kindFits f (now (cells .entry)) ≡ r ⌝ }
 {
     if f.kind == 1 {
-        return sources_fit(cells);
+        return sources_fit(index(f.targets), index(f.sources), cells);
     }
     if f.kind == 2 {
         return in_total(f, count(cells));
@@ -292,29 +298,62 @@ fn kind_fits(f: Figures, cells: &[u8]) -> bool
 
 // Whether crosspoints fit the counts, the type and the limits.
 fn cells_fit(f: Figures, cells: &[u8]) -> bool
-    requires { ⌜ f .sources ≤ 64 ⌝ }
-    ensures { λ r. ⌜ cellsFit side f (now (cells .entry)) ≡ r ⌝ }
+    requires { ⌜ (f .targets ≤ side) × (f .sources ≤ side) ⌝ }
+    ensures { λ r. ⌜ cellsFit f (now (cells .entry)) ≡ r ⌝ }
 {
-    if cells.len() != 4096 {
+    if cells.len() != cells_of(f) {
         return false;
     }
     if !all_bits(cells) {
         return false;
     }
-    if !rows_fit(f, cells) {
+    if !rows_fit(index(f.targets), index(f.sources), most_each(f), cells) {
         return false;
     }
     kind_fits(f, cells)
 }
 
-// Whether a desk is legal.
+// Whether figures and crosspoints are those of a legal desk.
 pub fn is_legal(f: Figures, crosspoints: &[u8]) -> bool
-    ensures { λ r. ⌜ legal side f (now (crosspoints .entry)) ≡ r ⌝ }
+    ensures { λ r. ⌜ legal f (now (crosspoints .entry)) ≡ r ⌝ }
 {
     if !figures_fit(f) {
         return false;
     }
     cells_fit(f, crosspoints)
+}
+
+// Whether a path has 1 to 16 numbers, each 1 to 2,147,483,647.
+fn path_fits(path: &[u64]) -> bool
+    ensures { λ r. ⌜ pathFits (now (path .entry)) ≡ r ⌝ }
+{
+    if path.len() < 1 {
+        return false;
+    }
+    if 16 < path.len() {
+        return false;
+    }
+    let mut i = 0;
+    while i < path.len() {
+        if path[i] < 1 {
+            return false;
+        }
+        if 2147483647 < path[i] {
+            return false;
+        }
+        i += 1;
+    }
+    true
+}
+
+// Whether a desk is legal, its path among its figures.
+pub fn desk_is_legal(f: Figures, path: &[u64], crosspoints: &[u8]) -> bool
+    ensures { λ r. ⌜ deskLegal (deskAt f (now (path .entry)) (now (crosspoints .entry))) ≡ r ⌝ }
+{
+    if !path_fits(path) {
+        return false;
+    }
+    is_legal(f, crosspoints)
 }
 
 // Clears every cell.
@@ -328,17 +367,21 @@ pub fn wipe(cells: &mut [u8])
     }
 }
 
-// Opens a desk: 0 and its crosspoints cleared; 45, or 1 for crosspoints of another count, and they stay as they were.
-pub fn open(f: Figures, mode: u64, crosspoints: &mut [u8]) -> u64
-    ensures { λ r. ⌜ opened side f mode (now (crosspoints .entry)) ≡ answer r (now (crosspoints .exit)) ⌝ }
+// Opens a desk: 0 and its crosspoints cleared; 45 for figures, mode or path out of range, 1 for crosspoints of another count than the figures' give, and they
+// stay as they were.
+pub fn open(f: Figures, mode: u64, path: &[u64], crosspoints: &mut [u8]) -> u64
+    ensures { λ r. ⌜ deskOpened (deskAt f (now (path .entry)) (now (crosspoints .entry))) mode ≡ answer r (now (crosspoints .exit)) ⌝ }
 {
-    if crosspoints.len() != 4096 {
-        return 1;
-    }
     if !figures_fit(f) {
         return 45;
     }
+    if crosspoints.len() != cells_of(f) {
+        return 1;
+    }
     if mode != 0 {
+        return 45;
+    }
+    if !path_fits(path) {
         return 45;
     }
     wipe(crosspoints);

@@ -68,21 +68,21 @@ pub listed : (n : ℕ) (before after : Cells) (l : List ℕ) (r : Cells) → len
 unfolding named
 listed n before after l r k a e = e ∙ ap (λ (x : Cells). marked 1 x l) (a ∙ ap clear k)
 
-module _ (w : ℕ) (f : Figures) (l : List ℕ) (operation : ℕ) (old : Cells) where
-  pub becomes-less : operation ≡ 2 → becomes w f l operation old ≡ marked 0 old l
+module _ (f : Figures) (l : List ℕ) (operation : ℕ) (old : Cells) where
+  pub becomes-less : operation ≡ 2 → becomes f l operation old ≡ marked 0 old l
   unfolding becomes
   becomes-less h = rw h
 
-  pub becomes-list : (operation ≡ 2 → ⊥) → (operation ≡ 1 → ⊥) → becomes w f l operation old ≡ named w l
+  pub becomes-list : (operation ≡ 2 → ⊥) → (operation ≡ 1 → ⊥) → becomes f l operation old ≡ named (f .sources) l
   unfolding becomes
   becomes-list a b = simp (ne-eqb _ _ a, ne-eqb _ _ b)
 
-  pub becomes-one : (n : ℕ) → operation ≡ 1 → count (named w l) ≡ n → both (ltb (f .kind) 2) (eqb n 1) ≡ true
-      → becomes w f l operation old ≡ named w l
+  pub becomes-one : (n : ℕ) → operation ≡ 1 → count (named (f .sources) l) ≡ n → both (ltb (f .kind) 2) (eqb n 1) ≡ true
+      → becomes f l operation old ≡ named (f .sources) l
   unfolding becomes replaces
   becomes-one n h k e = rw (h, k, e)
 
-  pub becomes-more : (n : ℕ) → operation ≡ 1 → count (named w l) ≡ n → both (ltb (f .kind) 2) (eqb n 1) ≡ false
-      → becomes w f l operation old ≡ marked 1 old l
+  pub becomes-more : (n : ℕ) → operation ≡ 1 → count (named (f .sources) l) ≡ n → both (ltb (f .kind) 2) (eqb n 1) ≡ false
+      → becomes f l operation old ≡ marked 1 old l
   unfolding becomes replaces
   becomes-more n h k e = rw (h, k, e)

@@ -14,21 +14,21 @@ use Rattle.desk_crosspoints.specs.Crosspoints.{Cells, count, rowAt, withRow, ta
 use Rattle.desk_crosspoints.proofs.Laws.{count-le, count-append}
 use Rattle.desk_requests.specs.Request.{named, allBelow, takes, others}
 
-module _ (w : ℕ) (f : Figures) (l : List ℕ) (operation : ℕ) (cells : Cells) where
-  pub others-kind : (f .kind ≡ 1 → ⊥) → others w f l operation cells ≡ cells
+module _ (f : Figures) (l : List ℕ) (operation : ℕ) (cells : Cells) where
+  pub others-kind : (f .kind ≡ 1 → ⊥) → others f l operation cells ≡ cells
   unfolding others takes
   others-kind h = simp (ne-eqb _ _ h)
 
-  pub others-less : f .kind ≡ 1 → 2 ≤ operation → others w f l operation cells ≡ cells
+  pub others-less : f .kind ≡ 1 → 2 ≤ operation → others f l operation cells ≡ cells
   unfolding others takes
   others-less h k = rw (h, le-ltb _ _ k)
 
-  pub others-none : (n : ℕ) → f .kind ≡ 1 → operation < 2 → count (named w l) ≡ n → (n ≡ 1 → ⊥) → others w f l operation cells ≡ cells
+  pub others-none : (n : ℕ) → f .kind ≡ 1 → operation < 2 → count (named (f .sources) l) ≡ n → (n ≡ 1 → ⊥) → others f l operation cells ≡ cells
   unfolding others takes
   others-none n h k e d = rw (h, lt-ltb _ _ k, e, ne-eqb _ _ d)
 
-  pub others-take : (n s : ℕ) → f .kind ≡ 1 → operation < 2 → count (named w l) ≡ n → n ≡ 1 → getD l 0 0 ≡ s
-      → others w f l operation cells ≡ takenFrom w cells s w
+  pub others-take : (n s : ℕ) → f .kind ≡ 1 → operation < 2 → count (named (f .sources) l) ≡ n → n ≡ 1 → getD l 0 0 ≡ s
+      → others f l operation cells ≡ takenFrom (f .sources) cells s (f .targets)
   unfolding others takes
   others-take n s h k e d g = rw (h, lt-ltb _ _ k, e, d, g)
 

@@ -6,14 +6,14 @@ use mathlib.Core.Bool.{Bool, true, false, true≢false}
 use mathlib.Core.Logic.{_⊎_, ⊎-elim}
 use native.Mathlib.Omega.{arith}
 use borrow.Author.Tests.{ltb-true}
-use lib.ListN.{length, drop, getD, set, length-set}
-use lib.Seq.{getD-set-same, drop-set-lt}
+use lib.ListN.{length, getD, set, length-set}
+use lib.Seq.{getD-set-same}
 use lib.Dec.{ltb}
 use Rattle.ber_integers.specs.Digits.{pick}
 use Rattle.ber_integers.proofs.Radix.{lt-or-le}
 use Rattle.desk_crosspoints.specs.Crosspoints.{Cells, count, clear, takenFrom}
 use Rattle.desk_crosspoints.proofs.Under.{Under}
-use Rattle.desk_crosspoints.proofs.Counts.{bit-zero, bit-one, count-one, count-two, clear-cell, clear-length, clear-count, clear-past}
+use Rattle.desk_crosspoints.proofs.Counts.{bit-zero, bit-one, count-one, count-two, clear-cell, clear-length, clear-count}
 use Rattle.desk_requests.specs.Request.{marked, named, allBelow}
 
 -- one cell set
@@ -104,11 +104,6 @@ module _ (n s : ℕ) (ss : List ℕ) (h : allBelow n (s ∷ ss) ≡ true) where
       go true k = k
       go false k = absurd (true≢false (sym k))
 
-pub marked-past : (n v : ℕ) (l : List ℕ) (r : Cells) → allBelow n l ≡ true → drop n (marked v r l) ≡ drop n r
-unfolding marked
-marked-past n v [] r h = refl
-marked-past n v (s ∷ ss) r h = marked-past n v ss (set r s v) (below-later n s ss h) ∙ drop-set-lt n r s v (below-first n s ss h)
-
 -- the list as cells
 pub named-length : (w : ℕ) (l : List ℕ) → length (named w l) ≡ w
 unfolding named
@@ -117,10 +112,6 @@ named-length w l = marked-length 1 l (clear w) ∙ clear-length w
 pub named-bits : (w : ℕ) (l : List ℕ) (j : ℕ) → getD (named w l) j 0 ≤ 1
 unfolding named
 named-bits w l j = marked-bits 1 l (clear w) (omega arith) (λ i. omega (arith, clear-cell w i)) j
-
-pub named-past : (w n : ℕ) (l : List ℕ) → allBelow n l ≡ true → count (drop n (named w l)) ≡ 0
-unfolding named
-named-past w n l h = ap count (marked-past n 1 l (clear w) h) ∙ clear-past n w
 
 pub named-first : (w n s : ℕ) (ss : List ℕ) → n ≤ w → allBelow n (s ∷ ss) ≡ true → getD (named w (s ∷ ss)) s 0 ≡ 1
 unfolding named marked

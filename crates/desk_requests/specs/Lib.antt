@@ -1,2 +1,4 @@
 pub mod Request
+pub mod Lists
+pub mod Steps
 pub mod Vectors

@@ -1,80 +1,87 @@
--- Each rule at a small desk, by computation: rows of three cells, so at most three targets and three sources.
+-- Each rule at a small desk, by computation.
+use Prim.Native.Nat.{ℕ}
 use mathlib.Core.Path.{_≡_, refl}
-use mathlib.Core.List.{[], _∷_}
+use mathlib.Core.List.{List, [], _∷_}
 use Rattle.desk_crosspoints.specs.declared.Limit.the-variants.{Absent, Most}
+use Rattle.desk_crosspoints.specs.declared.Figures.{Figures}
 use Rattle.desk_crosspoints.specs.Figures.{isCount, figuresFit, mostEach, mostTotal}
-use Rattle.desk_crosspoints.specs.Crosspoints.{bit, count, allBits, clear, rowAt, withRow, holders, takenFrom, mostAt, rowFits, rowsFit, sourcesFit}
-use Rattle.desk_crosspoints.specs.Crosspoints.{kindFits, cellsFit, legal, answer}
-use Rattle.desk_crosspoints.specs.Vectors.{figures, desk, cells9}
-use Rattle.desk_requests.specs.Request.{marked, named, allBelow, replaces, becomes, takes, others, result, many, overTotal, judged, asked, requested}
+use Rattle.desk_crosspoints.specs.Crosspoints.{Cells, bit, count, allBits, clear, rowAt, withRow, holders, takenFrom, rowsFit, sourcesFit}
+use Rattle.desk_crosspoints.specs.Crosspoints.{kindFits, cellsFit, legal}
+use Rattle.desk_crosspoints.specs.Desk.{deskAt, Answer, answer}
+use Rattle.desk_crosspoints.specs.Vectors.{figures, desk, cells6, cells9}
+use Rattle.desk_requests.specs.Request.{request, marked, named, allBelow, replaces, becomes, takes, others, rowAfter, result}
+use Rattle.desk_requests.specs.Request.{firstOf, many, overTotal, checks, judged, asked, requested}
+
+abbrev asking : Figures → Cells → ℕ → List ℕ → ℕ → Answer
+asking f cells target sources operation = requested (deskAt f (1 ∷ []) cells) (request target sources operation)
 
 -- "1 SETUP": a desk that is not legal, then an operation that is none.
 pub v-refused :
-    (requested 3 (desk 0) 9 (9 ∷ []) 0 (cells9 1 1 0 0 0 0 0 0 0) ≡ answer 1 (cells9 1 1 0 0 0 0 0 0 0)) ×
-    (requested 3 (desk 0) 9 (9 ∷ []) 3 (cells9 0 0 0 0 0 0 0 0 0) ≡ answer 1 (cells9 0 0 0 0 0 0 0 0 0)) ×
+    (asking (desk 0) (cells9 1 1 0 0 0 0 0 0 0) 9 (9 ∷ []) 0 ≡ answer 1 (cells9 1 1 0 0 0 0 0 0 0)) ×
+    (asking (desk 0) (cells9 0 0 0 0 0 0 0 0 0) 9 (9 ∷ []) 3 ≡ answer 1 (cells9 0 0 0 0 0 0 0 0 0)) ×
     -- "41 TARGET, 42 SOURCE", in this order, also for disconnect
-    (requested 3 (figures 2 2 3 Absent Absent) 2 (9 ∷ []) 0 (cells9 1 0 0 0 0 0 0 0 0) ≡ answer 41 (cells9 1 0 0 0 0 0 0 0 0)) ×
-    (requested 3 (figures 2 2 2 Absent Absent) 1 (1 ∷ 2 ∷ []) 0 (cells9 1 0 0 0 0 0 0 0 0) ≡ answer 42 (cells9 1 0 0 0 0 0 0 0 0)) ×
-    (requested 3 (figures 2 2 2 Absent Absent) 1 (2 ∷ []) 2 (cells9 1 0 0 0 0 0 0 0 0) ≡ answer 42 (cells9 1 0 0 0 0 0 0 0 0))
+    (asking (figures 2 2 3 Absent Absent) (cells6 1 0 0 0 0 0) 2 (9 ∷ []) 0 ≡ answer 41 (cells6 1 0 0 0 0 0)) ×
+    (asking (figures 2 3 2 Absent Absent) (cells6 1 0 0 0 0 0) 1 (1 ∷ 2 ∷ []) 0 ≡ answer 42 (cells6 1 0 0 0 0 0)) ×
+    (asking (figures 2 3 2 Absent Absent) (cells6 1 0 0 0 0 0) 1 (2 ∷ []) 2 ≡ answer 42 (cells6 1 0 0 0 0 0))
 unfolding isCount figuresFit mostEach mostTotal
-    bit count allBits clear rowAt withRow holders takenFrom mostAt rowFits rowsFit sourcesFit kindFits cellsFit legal
-    marked named allBelow replaces becomes takes others result many overTotal judged asked requested
+    bit count allBits clear rowAt withRow holders takenFrom rowsFit sourcesFit kindFits cellsFit legal
+    marked named allBelow replaces becomes takes others rowAfter result firstOf many overTotal checks judged asked requested
 v-refused = (refl, refl, refl, refl, refl)
 
 -- N:N: "absolute .. makes the target's sources the list, connect adds, disconnect removes."
 pub v-many-sources :
-    (requested 3 (desk 2) 1 (2 ∷ 0 ∷ []) 0 (cells9 1 1 1 0 1 0 0 0 0) ≡ answer 0 (cells9 1 1 1 1 0 1 0 0 0)) ×
-    (requested 3 (desk 2) 1 (2 ∷ 0 ∷ []) 1 (cells9 1 1 1 0 1 0 0 0 0) ≡ answer 0 (cells9 1 1 1 1 1 1 0 0 0)) ×
-    (requested 3 (desk 2) 0 (2 ∷ 0 ∷ []) 2 (cells9 1 1 1 0 1 0 0 0 0) ≡ answer 0 (cells9 0 1 0 0 1 0 0 0 0)) ×
+    (asking (desk 2) (cells9 1 1 1 0 1 0 0 0 0) 1 (2 ∷ 0 ∷ []) 0 ≡ answer 0 (cells9 1 1 1 1 0 1 0 0 0)) ×
+    (asking (desk 2) (cells9 1 1 1 0 1 0 0 0 0) 1 (2 ∷ 0 ∷ []) 1 ≡ answer 0 (cells9 1 1 1 1 1 1 0 0 0)) ×
+    (asking (desk 2) (cells9 1 1 1 0 1 0 0 0 0) 0 (2 ∷ 0 ∷ []) 2 ≡ answer 0 (cells9 0 1 0 0 1 0 0 0 0)) ×
     -- "A missing list is empty."
-    (requested 3 (desk 2) 0 [] 0 (cells9 1 1 1 0 1 0 0 0 0) ≡ answer 0 (cells9 0 0 0 0 1 0 0 0 0)) ×
-    (requested 3 (desk 2) 0 [] 1 (cells9 1 1 1 0 1 0 0 0 0) ≡ answer 0 (cells9 1 1 1 0 1 0 0 0 0))
+    (asking (desk 2) (cells9 1 1 1 0 1 0 0 0 0) 0 [] 0 ≡ answer 0 (cells9 0 0 0 0 1 0 0 0 0)) ×
+    (asking (desk 2) (cells9 1 1 1 0 1 0 0 0 0) 0 [] 1 ≡ answer 0 (cells9 1 1 1 0 1 0 0 0 0))
 unfolding isCount figuresFit mostEach mostTotal
-    bit count allBits clear rowAt withRow holders takenFrom mostAt rowFits rowsFit sourcesFit kindFits cellsFit legal
-    marked named allBelow replaces becomes takes others result many overTotal judged asked requested
+    bit count allBits clear rowAt withRow holders takenFrom rowsFit sourcesFit kindFits cellsFit legal
+    marked named allBelow replaces becomes takes others rowAfter result firstOf many overTotal checks judged asked requested
 v-many-sources = (refl, refl, refl, refl, refl)
 
 -- "43 MANY, 44 TOTAL: .. result over the target's or total limit".
 pub v-limits :
-    (requested 3 (figures 2 3 3 (Most 3) (Most 2)) 0 (1 ∷ 2 ∷ []) 1 (cells9 1 0 0 0 0 0 0 0 0) ≡ answer 43 (cells9 1 0 0 0 0 0 0 0 0)) ×
-    (requested 3 (figures 2 3 3 (Most 3) (Most 2)) 0 (0 ∷ 1 ∷ 2 ∷ []) 0 (cells9 1 0 0 0 0 0 0 0 0) ≡ answer 43 (cells9 1 0 0 0 0 0 0 0 0)) ×
+    (asking (figures 2 3 3 (Most 3) (Most 2)) (cells9 1 0 0 0 0 0 0 0 0) 0 (1 ∷ 2 ∷ []) 1 ≡ answer 43 (cells9 1 0 0 0 0 0 0 0 0)) ×
+    (asking (figures 2 3 3 (Most 3) (Most 2)) (cells9 1 0 0 0 0 0 0 0 0) 0 (0 ∷ 1 ∷ 2 ∷ []) 0 ≡ answer 43 (cells9 1 0 0 0 0 0 0 0 0)) ×
     -- "A source named twice counts once", one that is connected already too
-    (requested 3 (figures 2 3 3 (Most 3) (Most 2)) 0 (1 ∷ 1 ∷ 0 ∷ []) 1 (cells9 1 0 0 0 0 0 0 0 0) ≡ answer 0 (cells9 1 1 0 0 0 0 0 0 0)) ×
+    (asking (figures 2 3 3 (Most 3) (Most 2)) (cells9 1 0 0 0 0 0 0 0 0) 0 (1 ∷ 1 ∷ 0 ∷ []) 1 ≡ answer 0 (cells9 1 1 0 0 0 0 0 0 0)) ×
     -- in total, with the cells that the request takes away not counted
-    (requested 3 (figures 2 3 3 (Most 3) (Most 2)) 2 (0 ∷ 1 ∷ []) 0 (cells9 1 1 0 0 0 0 1 0 0) ≡ answer 44 (cells9 1 1 0 0 0 0 1 0 0)) ×
-    (requested 3 (figures 2 3 3 (Most 3) (Most 2)) 2 (1 ∷ []) 0 (cells9 1 1 0 0 0 0 1 0 0) ≡ answer 0 (cells9 1 1 0 0 0 0 0 1 0)) ×
+    (asking (figures 2 3 3 (Most 3) (Most 2)) (cells9 1 1 0 0 0 0 1 0 0) 2 (0 ∷ 1 ∷ []) 0 ≡ answer 44 (cells9 1 1 0 0 0 0 1 0 0)) ×
+    (asking (figures 2 3 3 (Most 3) (Most 2)) (cells9 1 1 0 0 0 0 1 0 0) 2 (1 ∷ []) 0 ≡ answer 0 (cells9 1 1 0 0 0 0 0 1 0)) ×
     -- 43 before 44
-    (requested 3 (figures 2 3 3 (Most 3) (Most 2)) 2 (0 ∷ 1 ∷ 2 ∷ []) 0 (cells9 1 1 0 0 0 0 1 0 0) ≡ answer 43 (cells9 1 1 0 0 0 0 1 0 0))
+    (asking (figures 2 3 3 (Most 3) (Most 2)) (cells9 1 1 0 0 0 0 1 0 0) 2 (0 ∷ 1 ∷ 2 ∷ []) 0 ≡ answer 43 (cells9 1 1 0 0 0 0 1 0 0))
 unfolding isCount figuresFit mostEach mostTotal
-    bit count allBits clear rowAt withRow holders takenFrom mostAt rowFits rowsFit sourcesFit kindFits cellsFit legal
-    marked named allBelow replaces becomes takes others result many overTotal judged asked requested
+    bit count allBits clear rowAt withRow holders takenFrom rowsFit sourcesFit kindFits cellsFit legal
+    marked named allBelow replaces becomes takes others rowAfter result firstOf many overTotal checks judged asked requested
 v-limits = (refl, refl, refl, refl, refl, refl)
 
 -- "For 1:N and 1:1, connect with one source replaces".
 pub v-one-source :
-    (requested 3 (desk 0) 1 (2 ∷ 2 ∷ []) 1 (cells9 0 0 1 1 0 0 0 0 0) ≡ answer 0 (cells9 0 0 1 0 0 1 0 0 0)) ×
-    (requested 3 (desk 0) 1 [] 1 (cells9 0 0 1 1 0 0 0 0 0) ≡ answer 0 (cells9 0 0 1 1 0 0 0 0 0)) ×
-    (requested 3 (desk 0) 1 [] 0 (cells9 0 0 1 1 0 0 0 0 0) ≡ answer 0 (cells9 0 0 1 0 0 0 0 0 0)) ×
+    (asking (desk 0) (cells9 0 0 1 1 0 0 0 0 0) 1 (2 ∷ 2 ∷ []) 1 ≡ answer 0 (cells9 0 0 1 0 0 1 0 0 0)) ×
+    (asking (desk 0) (cells9 0 0 1 1 0 0 0 0 0) 1 [] 1 ≡ answer 0 (cells9 0 0 1 1 0 0 0 0 0)) ×
+    (asking (desk 0) (cells9 0 0 1 1 0 0 0 0 0) 1 [] 0 ≡ answer 0 (cells9 0 0 1 0 0 0 0 0 0)) ×
     -- "(1:N, 1:1: list over one)"
-    (requested 3 (desk 0) 1 (2 ∷ 1 ∷ []) 1 (cells9 0 0 0 0 0 0 0 0 0) ≡ answer 43 (cells9 0 0 0 0 0 0 0 0 0)) ×
-    (requested 3 (desk 1) 1 (2 ∷ 1 ∷ []) 0 (cells9 0 0 0 0 0 0 0 0 0) ≡ answer 43 (cells9 0 0 0 0 0 0 0 0 0)) ×
+    (asking (desk 0) (cells9 0 0 0 0 0 0 0 0 0) 1 (2 ∷ 1 ∷ []) 1 ≡ answer 43 (cells9 0 0 0 0 0 0 0 0 0)) ×
+    (asking (desk 1) (cells9 0 0 0 0 0 0 0 0 0) 1 (2 ∷ 1 ∷ []) 0 ≡ answer 43 (cells9 0 0 0 0 0 0 0 0 0)) ×
     -- "Disconnect never gives 43 or 44."
-    (requested 3 (desk 0) 0 (0 ∷ 1 ∷ 2 ∷ []) 2 (cells9 0 0 1 1 0 0 0 0 0) ≡ answer 0 (cells9 0 0 0 1 0 0 0 0 0)) ×
+    (asking (desk 0) (cells9 0 0 1 1 0 0 0 0 0) 0 (0 ∷ 1 ∷ 2 ∷ []) 2 ≡ answer 0 (cells9 0 0 0 1 0 0 0 0 0)) ×
     -- "only N:N heeds them"
-    (requested 3 (figures 0 3 3 (Most 1) (Most 1)) 1 (2 ∷ []) 1 (cells9 0 0 1 0 0 0 0 0 0) ≡ answer 0 (cells9 0 0 1 0 0 1 0 0 0))
+    (asking (figures 0 3 3 (Most 1) (Most 1)) (cells9 0 0 1 0 0 0 0 0 0) 1 (2 ∷ []) 1 ≡ answer 0 (cells9 0 0 1 0 0 1 0 0 0))
 unfolding isCount figuresFit mostEach mostTotal
-    bit count allBits clear rowAt withRow holders takenFrom mostAt rowFits rowsFit sourcesFit kindFits cellsFit legal
-    marked named allBelow replaces becomes takes others result many overTotal judged asked requested
+    bit count allBits clear rowAt withRow holders takenFrom rowsFit sourcesFit kindFits cellsFit legal
+    marked named allBelow replaces becomes takes others rowAfter result firstOf many overTotal checks judged asked requested
 v-one-source = (refl, refl, refl, refl, refl, refl, refl)
 
 -- "for 1:1, absolute or connect with one source takes it from every other target".
 pub v-taken :
-    (requested 3 (desk 1) 1 (2 ∷ []) 1 (cells9 0 0 1 1 0 0 0 0 0) ≡ answer 0 (cells9 0 0 0 0 0 1 0 0 0)) ×
-    (requested 3 (desk 1) 0 (0 ∷ 0 ∷ []) 0 (cells9 0 0 1 1 0 0 0 1 0) ≡ answer 0 (cells9 1 0 0 0 0 0 0 1 0)) ×
+    (asking (desk 1) (cells9 0 0 1 1 0 0 0 0 0) 1 (2 ∷ []) 1 ≡ answer 0 (cells9 0 0 0 0 0 1 0 0 0)) ×
+    (asking (desk 1) (cells9 0 0 1 1 0 0 0 1 0) 0 (0 ∷ 0 ∷ []) 0 ≡ answer 0 (cells9 1 0 0 0 0 0 0 1 0)) ×
     -- absolute with no source empties this target alone; disconnect takes from this target alone
-    (requested 3 (desk 1) 0 [] 0 (cells9 0 0 1 1 0 0 0 1 0) ≡ answer 0 (cells9 0 0 0 1 0 0 0 1 0)) ×
-    (requested 3 (desk 1) 0 (0 ∷ []) 2 (cells9 0 0 1 1 0 0 0 1 0) ≡ answer 0 (cells9 0 0 1 1 0 0 0 1 0))
+    (asking (desk 1) (cells9 0 0 1 1 0 0 0 1 0) 0 [] 0 ≡ answer 0 (cells9 0 0 0 1 0 0 0 1 0)) ×
+    (asking (desk 1) (cells9 0 0 1 1 0 0 0 1 0) 0 (0 ∷ []) 2 ≡ answer 0 (cells9 0 0 1 1 0 0 0 1 0))
 unfolding isCount figuresFit mostEach mostTotal
-    bit count allBits clear rowAt withRow holders takenFrom mostAt rowFits rowsFit sourcesFit kindFits cellsFit legal
-    marked named allBelow replaces becomes takes others result many overTotal judged asked requested
+    bit count allBits clear rowAt withRow holders takenFrom rowsFit sourcesFit kindFits cellsFit legal
+    marked named allBelow replaces becomes takes others rowAfter result firstOf many overTotal checks judged asked requested
 v-taken = (refl, refl, refl, refl)

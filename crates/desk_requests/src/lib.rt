@@ -1,14 +1,27 @@
-// What a request does to a list of sources and a target's cells; the request itself, on a desk, is in desk_calls.
+// What a request does, for a desk that is known to be legal: the checks in their order, and the crosspoints that it asks for. The request itself, which judges
+// the desk first, is in desk_calls.
 use desk_crosspoints::Figures;
 ghost use mathlib.Core.Path.{_≡_};
+ghost use mathlib.Core.List.{[]};
+ghost use mathlib.Core.Bool.{true};
+ghost use Prim.Native.Nat.{_+_, _-_, _*_, _≤_};
 ghost use lib.Dec.{ltb, eqb};
-ghost use lib.ListN.{getD, set};
+ghost use lib.ListN.{length, getD, set};
 ghost use Rattle.ber_integers.specs.Digits.{pick};
-ghost use Rattle.desk_crosspoints.specs.Figures.{both, mostEach};
-ghost use Rattle.desk_requests.specs.Request.{marked, allBelow};
+ghost use Rattle.desk_crosspoints.specs.Figures.{side, mostCells, both, cellsOf, mostEach, mostTotal};
+ghost use Rattle.desk_crosspoints.specs.Crosspoints.{count, takenFrom, rowAt, withRow};
+ghost use Rattle.desk_crosspoints.specs.Desk.{deskAt};
+ghost use Rattle.desk_requests.specs.Request.{request, marked, named, becomes, allBelow, rowAfter, judged};
+ghost use Rattle.desk_requests.specs.Steps.{fits, told, freed, carried};
+
+// The number of the first check that fails, 0 where none does, and how many sources are named.
+pub struct Judged {
+    pub number: u64,
+    pub ones: u64,
+}
 
 // Whether every source named is one of the desk's.
-pub fn all_below(n: u64, sources: &[u64]) -> bool
+fn all_below(n: u64, sources: &[u64]) -> bool
     ensures { λ r. ⌜ allBelow n (now (sources .entry)) ≡ r ⌝ }
 {
     let mut i = 0;
@@ -22,7 +35,7 @@ pub fn all_below(n: u64, sources: &[u64]) -> bool
 }
 
 // The cells of the sources named set to v; a source past the cells' end does nothing.
-pub fn mark(cells: &mut [u8], sources: &[u64], v: u8)
+fn mark(cells: &mut [u8], sources: &[u64], v: u8)
     ensures { λ _. ⌜ now (cells .exit) ≡ marked v (now (cells .entry)) (now (sources .entry)) ⌝ }
 {
     let mut i = 0;
@@ -41,8 +54,32 @@ fn put(cells: &mut [u8], at: u64, v: u8)
     }
 }
 
+// A source taken from every one of n targets, rows of w cells.
+fn take_from(cells: &mut [u8], n: u64, w: u64, s: u64)
+    requires { ⌜ (length (now cells) ≡ n * w) × (s + 1 ≤ w) ⌝ }
+    ensures { λ _. ⌜ now (cells .exit) ≡ takenFrom w (now (cells .entry)) s n ⌝ }
+{
+    let mut t = n;
+    while 0 < t {
+        t -= 1;
+        put(cells, t * w + s, 0);
+    }
+}
+
+// One list of cells over another of the same length.
+fn copy(to: &mut [u8], from: &[u8])
+    requires { ⌜ length (now to) ≡ length (now from) ⌝ }
+    ensures { λ _. ⌜ now (to .exit) ≡ now (from .entry) ⌝ }
+{
+    let mut i = 0;
+    while i < from.len() {
+        to[i] = from[i];
+        i += 1;
+    }
+}
+
 // Whether connect replaces: 1:N or 1:1, and one source named.
-pub fn replaces(f: Figures, named: u64) -> bool
+fn replaces(f: Figures, named: u64) -> bool
     ensures { λ r. ⌜ both (ltb (f .kind) 2) (eqb named 1) ≡ r ⌝ }
 {
     if 2 <= f.kind {
@@ -51,8 +88,37 @@ pub fn replaces(f: Figures, named: u64) -> bool
     named == 1
 }
 
+// The list as a target's cells.
+fn list_row(row: &mut [u8], sources: &[u64])
+    ensures { λ _. ⌜ now (row .exit) ≡ named (length (now (row .entry))) (now (sources .entry)) ⌝ }
+{
+    desk_crosspoints::wipe(row);
+    mark(row, sources, 1);
+}
+
+// A target's cells after a request; `ones` counts the sources named.
+fn become_row(f: Figures, sources: &[u64], operation: u64, ones: u64, row: &mut [u8])
+    requires { ⌜ length (now row) ≡ f .sources ⌝ }
+    requires { ⌜ count (named (f .sources) (now sources)) ≡ ones ⌝ }
+    ensures { λ _. ⌜ now (row .exit) ≡ becomes f (now (sources .entry)) operation (now (row .entry)) ⌝ }
+{
+    if operation == 2 {
+        mark(row, sources, 0);
+        return;
+    }
+    if operation != 1 {
+        list_row(row, sources);
+        return;
+    }
+    if replaces(f, ones) {
+        list_row(row, sources);
+        return;
+    }
+    mark(row, sources, 1);
+}
+
 // The first source named, 0 if there is none.
-pub fn first(sources: &[u64]) -> u64
+fn first(sources: &[u64]) -> u64
     ensures { λ r. ⌜ getD (now (sources .entry)) 0 0 ≡ r ⌝ }
 {
     if 0 < sources.len() {
@@ -61,12 +127,184 @@ pub fn first(sources: &[u64]) -> u64
     0
 }
 
+// In 1:1, absolute or connect with one source takes it from every target; `ones` counts the sources named.
+fn free(f: Figures, sources: &[u64], operation: u64, ones: u64, cells: &mut [u8])
+    requires { ⌜ length (now cells) ≡ cellsOf f ⌝ }
+    requires { ⌜ getD (now sources) 0 0 + 1 ≤ f .sources ⌝ }
+    ensures { λ _. ⌜ now (cells .exit) ≡ freed f (now (sources .entry)) operation ones (now (cells .entry)) ⌝ }
+{
+    if f.kind != 1 {
+        return;
+    }
+    if 2 <= operation {
+        return;
+    }
+    if ones != 1 {
+        return;
+    }
+    take_from(cells, f.targets, f.sources, first(sources));
+}
+
+fn index(x: u64) -> usize
+    ensures { λ r. ⌜ r ≡ x ⌝ }
+{
+    x as usize
+}
+
+// Other cells for a target.
+fn put_row(cells: &mut [u8], target: u64, row: &[u8])
+    requires { ⌜ target * length (now row) + length (now row) ≤ length (now cells) ⌝ }
+    ensures { λ _. ⌜ now (cells .exit) ≡ withRow (length (now (row .entry))) (now (cells .entry)) target (now (row .entry)) ⌝ }
+{
+    let t = index(target);
+    let from = t * row.len();
+    let to = from + row.len();
+    copy(&mut cells[from..to], row);
+}
+
 // Whether a target has too many: for N:N its cells are over its limit, else the list is over one.
-pub fn is_many(f: Figures, ones: u64, set: u64) -> bool
+fn is_many(f: Figures, ones: u64, set: u64) -> bool
     ensures { λ r. ⌜ pick (eqb (f .kind) 2) (ltb (mostEach f) set) (ltb 1 ones) ≡ r ⌝ }
 {
     if f.kind == 2 {
         return desk_crosspoints::most_each(f) < set;
     }
     1 < ones
+}
+
+// 44 or 0 for a target that has `before` cells set and will have `after`. Only N:N heeds the total, so that the others need no count.
+fn over_total(f: Figures, cells: &[u8], before: u64, after: u64) -> u64
+    requires { ⌜ length (now cells) ≤ mostCells ⌝ }
+    requires { ⌜ before ≤ count (now cells) ⌝ }
+    requires { ⌜ after ≤ side ⌝ }
+    ensures { λ r. ⌜ pick (both (eqb (f .kind) 2) (ltb (mostTotal f) (count (now (cells .entry)) - before + after))) 44 0 ≡ r ⌝ }
+{
+    if f.kind != 2 {
+        return 0;
+    }
+    if desk_crosspoints::in_total(f, desk_crosspoints::count(cells) - before + after) {
+        return 0;
+    }
+    44
+}
+
+// A target's cells.
+fn get_row(row: &mut [u8], cells: &[u8], target: u64)
+    requires { ⌜ target * length (now row) + length (now row) ≤ length (now cells) ⌝ }
+    ensures { λ _. ⌜ now (row .exit) ≡ rowAt (length (now (row .entry))) (now (cells .entry)) target ⌝ }
+{
+    let t = index(target);
+    let from = t * row.len();
+    let to = from + row.len();
+    copy(row, &cells[from..to]);
+}
+
+// 0, 43 or 44 for a target's cells after the request, which `row` then holds; `ones` counts the sources named.
+fn judge_limits(
+    f: Figures,
+    target: u64,
+    sources: &[u64],
+    operation: u64,
+    ones: u64,
+    cells: &[u8],
+    row: &mut [u8],
+) -> u64
+    requires { ⌜ (f .targets ≤ side) × (f .sources ≤ side) ⌝ }
+    requires { ⌜ length (now cells) ≡ cellsOf f ⌝ }
+    requires { ⌜ length (now row) ≡ f .sources ⌝ }
+    requires { ⌜ target + 1 ≤ f .targets ⌝ }
+    requires { ⌜ allBelow (f .sources) (now sources) ≡ true ⌝ }
+    requires { ⌜ count (named (f .sources) (now sources)) ≡ ones ⌝ }
+    ensures { λ r. ⌜ judged (deskAt f [] (now (cells .entry))) (request target (now (sources .entry)) operation) ≡ r ⌝ }
+    ensures { λ _. ⌜ now (row .exit) ≡ rowAfter (deskAt f [] (now (cells .entry))) (request target (now (sources .entry)) operation) ⌝ }
+{
+    get_row(row, cells, target);
+    let before = desk_crosspoints::count(row);
+    become_row(f, sources, operation, ones, row);
+    if 2 == operation {
+        return 0;
+    }
+    let after = desk_crosspoints::count(row);
+    if is_many(f, ones, after) {
+        return 43;
+    }
+    over_total(f, cells, before, after)
+}
+
+// Whether n cells and a row of w are those of a desk with these figures.
+fn is_fit(f: Figures, n: usize, w: usize) -> bool
+    ensures { λ r. ⌜ fits f n w ≡ r ⌝ }
+{
+    if !desk_crosspoints::figures_fit(f) {
+        return false;
+    }
+    if n != desk_crosspoints::size(f) {
+        return false;
+    }
+    w == index(f.sources)
+}
+
+// The checks of a request in their order: 41 to 44, or 1 for lengths that are not the desk's and for an operation that is none. Where the number is 0, `row`,
+// else scratch, holds the target's cells after the request.
+pub fn judge(
+    f: Figures,
+    target: u64,
+    sources: &[u64],
+    operation: u64,
+    cells: &[u8],
+    row: &mut [u8],
+) -> Judged
+    ensures { λ r. ⌜ told (deskAt f [] (now (cells .entry))) (request target (now (sources .entry)) operation) (now (row .entry)) ≡ r .number ⌝ }
+    ensures { λ r. ⌜ (r .number ≡ 0 → (count (named (f .sources) (now (sources .entry))) ≡ r .ones)
+        × (now (row .exit) ≡ rowAfter (deskAt f [] (now (cells .entry))) (request target (now (sources .entry)) operation))) ⌝ }
+{
+    if !is_fit(f, cells.len(), row.len()) {
+        return Judged { number: 1, ones: 0 };
+    }
+    if 2 < operation {
+        return Judged { number: 1, ones: 0 };
+    }
+    if f.targets <= target {
+        return Judged {
+            number: 41,
+            ones: 0,
+        };
+    }
+    if !all_below(f.sources, sources) {
+        return Judged {
+            number: 42,
+            ones: 0,
+        };
+    }
+    list_row(row, sources);
+    let ones = desk_crosspoints::count(row);
+    let number = judge_limits(f, target, sources, operation, ones, cells, row);
+    Judged { number, ones }
+}
+
+// The crosspoints that a request asks for: `row` for its target, and in 1:1 its one source taken from every other; `ones` counts the sources named. Nothing
+// where lengths, target or first source are not the desk's.
+pub fn carry_out(
+    f: Figures,
+    target: u64,
+    sources: &[u64],
+    operation: u64,
+    ones: u64,
+    row: &[u8],
+    cells: &mut [u8],
+)
+    ensures { λ _. ⌜ now (cells .exit)
+        ≡ carried (deskAt f [] (now (cells .entry))) (request target (now (sources .entry)) operation) ones (now (row .entry)) ⌝ }
+{
+    if !is_fit(f, cells.len(), row.len()) {
+        return;
+    }
+    if f.targets <= target {
+        return;
+    }
+    if f.sources <= first(sources) {
+        return;
+    }
+    free(f, sources, operation, ones, cells);
+    put_row(cells, target, row);
 }

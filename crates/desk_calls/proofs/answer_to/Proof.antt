@@ -1,4 +1,5 @@
 use mathlib.Core.Path.{sym, _∙_}
+use Rattle.desk_requests.proofs.Steps.{request-path}
 use Rattle.desk_connections.proofs.Walk.{has-is}
 use borrow.Author.Tests.{not-true, not-false}
 use Rattle.desk_calls.proofs.Served.{other-matrix, own-matrix}
@@ -18,7 +19,7 @@ returns c =
     let the-word-at = c .before .before .word-at in
     let the-is-path = c .before .is-path in
     let the-if1 = c .if1 in
-    other-matrix _ _ _ _ _ (the-Start .pre .1 .1 .0) _ (the-Start .pre .1 .1 .1) _ _ (the-word-at .ensures)
+    other-matrix _ _ _ _ (the-Start .pre .1 .1 .0) _ (the-Start .pre .1 .1 .1) _ (the-word-at .ensures)
     (sym (has-is _ _ _ (the-Start .pre .1 .0)) ∙ the-is-path .ensures ∙ not-true _ (the-if1 .taken))
 
 cell-at-requires : tie.Need-cell-at-requires
@@ -54,10 +55,10 @@ returns-2 c =
     let the-number-of = c .before .before .before .before .before .before .before .number-of in
     let the-number-of2 = c .before .before .before .before .before .number-of2 in
     let the-ask = c .before .before .ask-member in
-    own-matrix _ _ _ _ _ (the-Start .pre .1 .1 .0) _ (the-Start .pre .1 .1 .1) _ _ (the-word-at .ensures)
+    own-matrix _ _ _ _ (the-Start .pre .1 .1 .0) _ (the-Start .pre .1 .1 .1) _ (the-word-at .ensures)
     (sym (has-is _ _ _ (the-Start .pre .1 .0)) ∙ the-is-path .ensures ∙ not-false _ (the-if1 .left))
     _ _ _ _ _ (the-cell-at .ensures) (the-cell-at2 .ensures) (the-cell-at3 .ensures) (the-number-of .ensures _) (the-number-of2 .ensures _) _
-    (the-ask .ensures)
+    (request-path _ _ _ ∙ the-ask .ensures)
 
 pub answer-to-spec : {M : Type 1} → statement M
 answer-to-spec =

@@ -1,6 +1,7 @@
 use mathlib.Core.Path.{sym, _∙_}
 use borrow.Author.Tests.{not-true, not-false}
 use Rattle.desk_requests.proofs.Answers.{request-legal-not}
+use Rattle.desk_requests.proofs.Steps.{request-path}
 use borrow.Author.Needs.{needs}
 use Rattle.desk_calls.proofs.request.Statement.{statement}
 use Rattle.desk_calls.proofs.request.Tie as tie
@@ -15,7 +16,7 @@ returns : tie.Need-returns
 returns c =
     let the-is-legal = c .before .is-legal in
     let the-if1 = c .if1 in
-    request-legal-not 64 _ _ _ _ _ (the-is-legal .ensures ∙ not-true _ (the-if1 .taken))
+    λ path. request-legal-not _ _ (the-is-legal .ensures ∙ not-true _ (the-if1 .taken))
 
 request-legal-requires : tie.Need-request-legal-requires
 request-legal-requires c κs =
@@ -27,7 +28,9 @@ same-length-2 : tie.Need-same-length-2
 same-length-2 c = search needs
 
 returns-2 : tie.Need-returns-2
-returns-2 c = search needs
+returns-2 c =
+    let the-request-legal = c .before .before .request-legal in
+    λ path. request-path _ _ _ ∙ the-request-legal .ensures
 
 pub request-spec : {M : Type 1} → statement M
 request-spec =

@@ -1,32 +1,51 @@
+use Rattle.desk_crosspoints.proofs.Legal.{legal-fit}
+use Rattle.desk_crosspoints.proofs.Laws.{fit-sources-le}
+use lib.Seq.{length-take-le}
+use mathlib.Core.Path.{_≡_, sym, _∙_}
 use native.Mathlib.Omega.{arith}
-use mathlib.Core.Path.{refl, _∙_}
-use Rattle.desk_requests.proofs.Answers.{request-none, request-asked}
-use Rattle.desk_crosspoints.proofs.Laws.{fit-targets-le, fit-sources-le}
-use Rattle.desk_crosspoints.proofs.Legal.{legal-fit, legal-length}
 use borrow.Author.Needs.{needs}
 use Rattle.desk_calls.proofs.request_legal.Statement.{statement}
 use Rattle.desk_calls.proofs.request_legal.Tie as tie
+use Rattle.desk_calls.proofs.request_legal.Reads as reads
+use Rattle.desk_calls.proofs.request_legal.Lts as lts
+use Rattle.desk_calls.proofs.ask.Reads as ask-reads
+use Rattle.desk_calls.proofs.index.Reads as index-reads
 
-returns : tie.Need-returns
-returns c = request-none 64 _ _ _ _ _ (omega arith)
+index-requires : tie.Need-index-requires
+index-requires c κs = search needs
+
+array-borrow-prefix-row : tie.Need-array-borrow-prefix-row
+array-borrow-prefix-row c =
+    let the-Start = c .before .before .before .before in
+    let the-index = c .before .index in
+    let k = fit-sources-le _ (legal-fit _ _ (the-Start .pre)) in omega (arith, k, the-index .ensures)
 
 slice-aggregate-ask : tie.Need-slice-aggregate-ask
-slice-aggregate-ask c = search needs
+slice-aggregate-ask c =
+    let the-Start = c .before .before .before .before .before in
+    let the-index = c .before .before .index in
+    let k = fit-sources-le _ (legal-fit _ _ (the-Start .pre)) in sym (length-take-le (the-index .result) _ (omega (arith, k, the-index .ensures)))
 
 ask-requires : tie.Need-ask-requires
 ask-requires c κs =
-    let h = c .before .before .before .before .before .pre in
-    let k = legal-fit 64 _ _ h in
-    (fit-targets-le 64 _ k, (fit-sources-le 64 _ k, (legal-length 64 _ _ h, refl)))
+    let the-Start = c .before .before .before .before .before in
+    let the-index = c .before .before .index in
+    let k = fit-sources-le _ (legal-fit _ _ (the-Start .pre)) in
+    (the-Start .pre, length-take-le (the-index .result) _ (omega (arith, k, the-index .ensures)) ∙ the-index .ensures)
 
 same-length : tie.Need-same-length
 same-length c = search needs
 
-returns-2 : tie.Need-returns-2
-returns-2 c =
-    let the-ask = c .before .before .before .ask in
-    let the-pre = c .before .before .before .before .before .before .before .before .before .pre in
-    request-asked 64 _ _ _ _ _ (the-pre) (omega arith) ∙ the-ask .ensures
+returns : tie.Need-returns
+returns c = search needs
 
 pub request-legal-spec : {M : Type 1} → statement M
-request-legal-spec = tie.close (tie.spec returns slice-aggregate-ask ask-requires same-length returns-2)
+request-legal-spec =
+    tie.close
+    (tie.spec
+    index-requires
+    array-borrow-prefix-row
+    slice-aggregate-ask
+    ask-requires
+    same-length
+    returns)

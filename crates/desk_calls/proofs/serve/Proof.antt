@@ -2,7 +2,7 @@ use mathlib.Core.Path.{_≡_, refl, _∙_}
 use Prim.Native.Nat.{_-_, _≤_}
 use lib.ListN.{length}
 use mathlib.Core.Bool.{true}
-use Rattle.desk_crosspoints.specs.Figures.{side}
+use Rattle.desk_crosspoints.specs.Desk.{deskAt}
 use Rattle.desk_crosspoints.specs.Crosspoints.{legal}
 use native.Mathlib.Omega.{arith}
 use Rattle.desk_calls.specs.Steps.{servedIn, leftFrom, laidAt}
@@ -12,8 +12,8 @@ use Rattle.desk_calls.proofs.serve.Tie as tie
 
 abbrev Inv-loop : tie.InvT-loop
 Inv-loop f path rows count s cells₀ answers₀ i₀ n₀ cells answers i n =
-    (servedIn f path rows count s answers₀ cells₀ ≡ laidAt n (leftFrom f path rows count s i cells) answers)
-    × ((n ≤ i) × ((length cells ≡ length cells₀) × ((length answers ≡ length answers₀) × (legal side f cells ≡ true))))
+    (servedIn (deskAt f path cells₀) rows count s answers₀ ≡ laidAt n (leftFrom (deskAt f path cells) rows count s i) answers)
+    × ((n ≤ i) × ((length cells ≡ length cells₀) × ((length answers ≡ length answers₀) × (legal f cells ≡ true))))
 
 abbrev μ-loop : tie.MeasureT-loop
 μ-loop f path rows count s cells₀ answers₀ i₀ n₀ cells answers i n = count - i
@@ -21,7 +21,7 @@ abbrev μ-loop : tie.MeasureT-loop
 loop-holds : tie.Need-loop-holds Inv-loop μ-loop
 loop-holds c =
     let the-Start = c .before .before .before .before in
-    (serve-start _ _ _ _ _ (the-Start .pre .1 .1 .0) _ _, (omega arith, (refl, (refl, the-Start .pre .0))))
+    (serve-start _ _ _ (the-Start .pre .1 .1 .0) _ _, (omega arith, (refl, (refl, the-Start .pre .0))))
 
 take-entry-requires : tie.Need-take-entry-requires Inv-loop μ-loop
 take-entry-requires c κs =
@@ -62,7 +62,7 @@ returns c =
     let the-loop = c .before .loop in
     let the-Start = c .before .before .before .before .before .before in
     let the-loop-test = c .loop-test in
-    the-loop .inv .0 ∙ serve-end _ _ _ _ _ (the-Start .pre .1 .1 .0) _ _ _ _ (the-loop-test .left)
+    the-loop .inv .0 ∙ serve-end _ _ _ (the-Start .pre .1 .1 .0) _ _ _ _ (the-loop-test .left)
 
 pub serve-spec : {M : Type 1} → statement M
 serve-spec =

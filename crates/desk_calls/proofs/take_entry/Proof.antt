@@ -15,7 +15,7 @@ returns c =
     let the-word-at = c .before .word-at in
     let the-if1 = c .if1 in
     let q = the-Start .pre .0 in
-    (entry-other _ _ _ _ _ (q .1 .1 .0) _ _ _ _ (q .1 .1 .1) _ (the-word-at .ensures) (the-if1 .taken), (omega arith, q .0))
+    (entry-other _ _ _ (q .1 .1 .0) _ _ _ _ (q .1 .1 .1) _ (the-word-at .ensures) (the-if1 .taken), (omega arith, q .0))
 
 answer-to-requires : tie.Need-answer-to-requires
 answer-to-requires c κs = search needs
@@ -23,7 +23,7 @@ answer-to-requires c κs = search needs
 narrow-requires : tie.Need-narrow-requires
 narrow-requires c κs =
     let the-answer-to = c .before .before .answer-to in
-    answered-small 64 _ _ _ _ _ _ (the-answer-to .ensures)
+    answered-small _ _ _ _ (the-answer-to .ensures)
 
 slice-write-answers : tie.Need-slice-write-answers
 slice-write-answers c = search needs
@@ -44,9 +44,9 @@ returns-2 c =
     let the-if1 = c .before .before .before .before .before .if1 in
     let the-answer-to = c .before .before .before .answer-to in
     let the-narrow = c .narrow in (
-      entry-asks _ _ _ _ _ (the-Start .pre .0 .1 .1 .0) _ _ _ _ (the-Start .pre .0 .1 .1 .1) _ (the-word-at .ensures) (the-if1 .left) (the-Start .pre .1) _ _
+      entry-asks _ _ _ (the-Start .pre .0 .1 .1 .0) _ _ _ _ (the-Start .pre .0 .1 .1 .1) _ (the-word-at .ensures) (the-if1 .left) (the-Start .pre .1) _ _
           (answer-same _ _ _ _ (the-answer-to .ensures) (the-narrow .ensures)),
-      (omega arith, answered-legal 64 _ _ _ _ _ _ (the-Start .pre .0 .0) (the-answer-to .ensures)),
+      (omega arith, answered-legal _ _ _ _ (the-Start .pre .0 .0) (the-answer-to .ensures)),
     )
 
 pub take-entry-spec : {M : Type 1} → statement M

@@ -7,7 +7,7 @@ use Rattle.desk_crosspoints.proofs.figures_fit.Statement.{statement}
 use Rattle.desk_crosspoints.proofs.figures_fit.Tie as tie
 
 returns : tie.Need-returns
-returns c = fit-kind _ _ (omega arith)
+returns c = fit-kind _ (omega arith)
 
 is-count-requires : tie.Need-is-count-requires
 is-count-requires c κs = search needs
@@ -16,7 +16,7 @@ returns-2 : tie.Need-returns-2
 returns-2 c =
     let the-is-count = c .before .is-count in
     let the-if2 = c .if2 in
-    fit-targets _ _ (omega arith) (the-is-count .ensures ∙ not-true _ (the-if2 .taken))
+    fit-targets _ (omega arith) (the-is-count .ensures ∙ not-true _ (the-if2 .taken))
 
 is-count-requires-2 : tie.Need-is-count-requires-2
 is-count-requires-2 c κs = search needs
@@ -27,7 +27,7 @@ returns-3 c =
     let the-if2 = c .before .before .if2 in
     let the-is-count2 = c .before .is-count2 in
     let the-if3 = c .if3 in
-    fit-sources _ _ (omega arith) (the-is-count .ensures ∙ not-false _ (the-if2 .left)) (the-is-count2 .ensures ∙ not-true _ (the-if3 .taken))
+    fit-sources _ (omega arith) (the-is-count .ensures ∙ not-false _ (the-if2 .left)) (the-is-count2 .ensures ∙ not-true _ (the-if3 .taken))
 
 is-limit-requires : tie.Need-is-limit-requires
 is-limit-requires c κs = search needs
@@ -40,7 +40,7 @@ returns-4 c =
     let the-if3 = c .before .before .if3 in
     let the-is-limit = c .before .is-limit in
     let the-if4 = c .if4 in
-    fit-rest _ _ (omega arith) (the-is-count .ensures ∙ not-false _ (the-if2 .left)) (the-is-count2 .ensures ∙ not-false _ (the-if3 .left))
+    fit-rest _ (omega arith) (the-is-count .ensures ∙ not-false _ (the-if2 .left)) (the-is-count2 .ensures ∙ not-false _ (the-if3 .left))
     ∙ both-no _ _ (the-is-limit .ensures ∙ not-true _ (the-if4 .taken))
 
 is-limit-requires-2 : tie.Need-is-limit-requires-2
@@ -55,7 +55,7 @@ returns-5 c =
     let the-is-limit = c .before .before .is-limit in
     let the-if4 = c .before .if4 in
     let the-is-limit2 = c .is-limit2 in
-    fit-rest _ _ (omega arith) (the-is-count .ensures ∙ not-false _ (the-if2 .left)) (the-is-count2 .ensures ∙ not-false _ (the-if3 .left))
+    fit-rest _ (omega arith) (the-is-count .ensures ∙ not-false _ (the-if2 .left)) (the-is-count2 .ensures ∙ not-false _ (the-if3 .left))
     ∙ both-yes _ _ (the-is-limit .ensures ∙ not-false _ (the-if4 .left)) ∙ the-is-limit2 .ensures
 
 pub figures-fit-spec : {M : Type 1} → statement M

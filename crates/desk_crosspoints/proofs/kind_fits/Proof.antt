@@ -1,38 +1,73 @@
-use native.Mathlib.Omega.{arith}
-use mathlib.Core.Path.{_≡_, refl, sym, ap, _∙_}
-use Prim.Native.Nat.{ℕ}
-use lib.Dec.{leb}
+use Rattle.desk_crosspoints.proofs.Laws.{kind-one, kind-many, kind-other, kind-sources, size-is}
 use Rattle.desk_crosspoints.specs.Figures.{mostTotal}
-use Rattle.desk_crosspoints.proofs.Laws.{kind-one, kind-many, kind-other}
+use mathlib.Core.Path.{_≡_, refl, sym, ap, _∙_}
+use lib.Dec.{leb}
+use Prim.Native.Nat.{ℕ}
+use native.Mathlib.Omega.{arith}
 use borrow.Author.Needs.{needs}
 use Rattle.desk_crosspoints.proofs.kind_fits.Statement.{statement}
 use Rattle.desk_crosspoints.proofs.kind_fits.Tie as tie
+use Rattle.desk_crosspoints.proofs.kind_fits.Reads as reads
+use Rattle.desk_crosspoints.proofs.kind_fits.Lts as lts
+use Rattle.desk_crosspoints.proofs.count.Reads as count-reads
+use Rattle.desk_crosspoints.proofs.in_total.Reads as in-total-reads
+use Rattle.desk_crosspoints.proofs.index.Reads as index-reads
+use Rattle.desk_crosspoints.proofs.sources_fit.Reads as sources-fit-reads
 
+-- src/lib.rt:287:28
+index-requires : tie.Need-index-requires
+index-requires c κs = search needs
+
+-- src/lib.rt:287:46
+index-requires-2 : tie.Need-index-requires-2
+index-requires-2 c κs = search needs
+
+-- src/lib.rt:287:9
 sources-fit-requires : tie.Need-sources-fit-requires
-sources-fit-requires c κs = search needs
+sources-fit-requires c κs =
+    let the-Start = c .before .before .before .before .before in
+    let the-index = c .before .index in
+    let the-index2 = c .index2 in
+    let z = size-is (the-Start .args .f) (the-Start .args .cells .now) _ _ (the-index .ensures) (the-index2 .ensures) (the-Start .pre .1) in
+    (omega (arith, the-index2 .ensures), z)
 
+-- src/lib.rt:287:9
 returns : tie.Need-returns
 returns c =
+    let the-index = c .before .before .index in
+    let the-index2 = c .before .index2 in
     let the-sources-fit = c .sources-fit in
-    kind-one 64 _ _ (omega arith) ∙ the-sources-fit .ensures
+    kind-sources _ _ _ _ _ (omega arith) (the-index .ensures) (the-index2 .ensures) (the-sources-fit .ensures)
 
+-- src/lib.rt:290:28
 count-requires : tie.Need-count-requires
 count-requires c κs = search needs
 
+-- src/lib.rt:290:9
 in-total-requires : tie.Need-in-total-requires
 in-total-requires c κs = search needs
 
+-- src/lib.rt:290:9
 returns-2 : tie.Need-returns-2
 returns-2 c =
-    let the-args = c .before .before .before .before .before .before .before .args in
+    let the-Start = c .before .before .before .before .before .before .before in
     let the-count = c .before .count in
     let the-in-total = c .in-total in
-    kind-many 64 _ _ (omega arith) ∙ ap (λ (n : ℕ). leb n (mostTotal (the-args .f))) (the-count .ensures) ∙ the-in-total .ensures
+    kind-many _ _ (omega arith) ∙ ap (λ (n : ℕ). leb n (mostTotal (the-Start .args .f))) (the-count .ensures) ∙ the-in-total .ensures
 
+-- src/lib.rt:281:1
 returns-3 : tie.Need-returns-3
-returns-3 c = kind-other 64 _ _ (λ e. omega arith) (λ e. omega arith)
+returns-3 c = kind-other _ _ (λ e. omega arith) (λ e. omega arith)
 
 pub kind-fits-spec : {M : Type 1} → statement M
 kind-fits-spec =
     tie.close
-    (tie.spec sources-fit-requires returns count-requires in-total-requires returns-2 returns-3)
+    (tie.spec
+    index-requires
+    index-requires-2
+    sources-fit-requires
+    returns
+    count-requires
+    in-total-requires
+    returns-2
+    returns-3)

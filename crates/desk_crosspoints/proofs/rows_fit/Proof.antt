@@ -1,79 +1,92 @@
-use Rattle.desk_crosspoints.proofs.Laws.{part-length}
-use borrow.Author.Needs.{needs}
-use Prim.Native.Nat.{_-_, _+_, _≤_}
-use Rattle.desk_crosspoints.proofs.Laws.{row-says}
-use native.Mathlib.Omega.{arith}
-use borrow.Author.Tests.{not-true, not-false}
+use Rattle.desk_crosspoints.proofs.Under.{rows-apart}
+use Rattle.desk_crosspoints.proofs.Laws.{rows-not, rows-more, rows-end, row-says}
+use Rattle.desk_crosspoints.specs.Crosspoints.{rowsFit}
 use mathlib.Core.Path.{_≡_, refl, sym, ap, _∙_}
-use Rattle.desk_crosspoints.specs.Crosspoints.{rowsFit, rowFits}
-use Rattle.desk_crosspoints.proofs.Laws.{rows-not, rows-more, rows-end, row-is}
+use Prim.Native.Nat.{_-_, _*_, _+_, _≤_}
+use borrow.Author.Tests.{lt-leb, le-leb}
+use borrow.Author.Needs.{needs}
+use native.Mathlib.Omega.{arith}
 use Rattle.desk_crosspoints.proofs.rows_fit.Statement.{statement}
 use Rattle.desk_crosspoints.proofs.rows_fit.Tie as tie
+use Rattle.desk_crosspoints.proofs.rows_fit.Reads as reads
+use Rattle.desk_crosspoints.proofs.rows_fit.Lts as lts
+use Rattle.desk_crosspoints.proofs.count.Reads as count-reads
 
 abbrev Inv-loop : tie.InvT-loop
-Inv-loop f cells t₀ t = (rowsFit 64 f cells 64 ≡ rowsFit 64 f cells t) × (t ≤ 64)
+Inv-loop n w most cells t₀ t = (rowsFit w most cells n ≡ rowsFit w most cells t) × (t ≤ n)
 
 abbrev μ-loop : tie.MeasureT-loop
-μ-loop f cells t₀ t = t
+μ-loop n w most cells t₀ t = t
 
+-- src/lib.rt:221:5
 loop-holds : tie.Need-loop-holds Inv-loop μ-loop
 loop-holds c = (refl, omega arith)
 
+-- src/lib.rt:222:9
 sub-t : tie.Need-sub-t Inv-loop μ-loop
-sub-t c = omega arith
+sub-t c = search needs
 
+-- src/lib.rt:223:20
 mul-from : tie.Need-mul-from Inv-loop μ-loop
-mul-from c = omega arith
+mul-from c =
+    let the-Start = c .before .before .before in
+    let the-loop = c .before .loop in
+    omega (arith, rows-apart (the-loop .t - 1) (the-Start .args .n) (the-Start .args .w) (omega arith))
 
+-- src/lib.rt:224:18
 add-to : tie.Need-add-to Inv-loop μ-loop
-add-to c = omega arith
+add-to c =
+    let the-Start = c .before .before .before in
+    let the-loop = c .before .loop in
+    omega (arith, rows-apart (the-loop .t - 1) (the-Start .args .n) (the-Start .args .w) (omega arith))
 
-word-requires : tie.Need-word-requires Inv-loop μ-loop
-word-requires c κs = search needs
+-- src/lib.rt:225:25
+sub-count : tie.Need-sub-count Inv-loop μ-loop
+sub-count c = search needs
 
-sub-row-fits : tie.Need-sub-row-fits Inv-loop μ-loop
-sub-row-fits c = omega arith
+-- src/lib.rt:225:25
+part-count-start : tie.Need-part-count-start Inv-loop μ-loop
+part-count-start c = search needs
 
-part-row-fits-start : tie.Need-part-row-fits-start Inv-loop μ-loop
-part-row-fits-start c = omega arith
+-- src/lib.rt:225:25
+part-count-end : tie.Need-part-count-end Inv-loop μ-loop
+part-count-end c =
+    let the-Start = c .before .before .before in
+    let the-loop = c .before .loop in
+    omega (arith, rows-apart (the-loop .t - 1) (the-Start .args .n) (the-Start .args .w) (omega arith))
 
-part-row-fits-end : tie.Need-part-row-fits-end Inv-loop μ-loop
-part-row-fits-end c = omega arith
+-- src/lib.rt:225:19
+count-requires : tie.Need-count-requires Inv-loop μ-loop
+count-requires c κs = search needs
 
-row-fits-requires : tie.Need-row-fits-requires Inv-loop μ-loop
-row-fits-requires c κs =
-    let the-args = c .before .before .before .before .before .args in
-    let the-loop = c .before .before .before .loop in
-    omega (arith, part-length 64 (the-args .cells .now) (the-loop .t - 1) (omega arith))
-
+-- src/lib.rt:226:13
 returns : tie.Need-returns Inv-loop μ-loop
 returns c =
-    let the-loop = c .before .before .before .before .before .loop in
-    let the-word = c .before .before .before .word in
-    let the-row-fits = c .before .row-fits in
+    let the-loop = c .before .before .before .before .loop in
+    let the-count = c .before .count in
     let the-if1 = c .if1 in
-    the-loop .inv .0 ∙ rows-not 64 _ _ (the-loop .t) (the-loop .t - 1) (omega arith)
-    (row-says 64 _ _ (the-loop .t - 1) _ _ (the-word .ensures) (the-row-fits .ensures ∙ not-true _ (the-if1 .taken)))
+    the-loop .inv .0 ∙ rows-not _ _ _ (the-loop .t) (the-loop .t - 1) (omega arith)
+    (row-says _ _ _ (the-loop .t - 1) _ _ _ refl (the-count .ensures) (lt-leb _ _ (the-if1 .taken)))
 
+-- src/lib.rt:221:5
 loop-less : tie.Need-loop-less Inv-loop μ-loop
-loop-less c = omega arith
+loop-less c = search needs
 
+-- src/lib.rt:221:5
 loop-again : tie.Need-loop-again Inv-loop μ-loop
 loop-again c =
-    let the-loop = c .before .before .before .before .before .loop in
-    let the-word = c .before .before .before .word in
-    let the-row-fits = c .before .row-fits in
-    let the-if1 = c .if1 in (
-      the-loop .inv .0 ∙ rows-more 64 _ _ (the-loop .t) (the-loop .t - 1) (omega arith)
-          (row-says 64 _ _ (the-loop .t - 1) _ _ (the-word .ensures) (the-row-fits .ensures ∙ not-false _ (the-if1 .left))),
-      omega arith,
-    )
+    let the-loop = c .before .before .before .before .loop in
+    let the-count = c .before .count in
+    let the-if1 = c .if1 in
+    let r = row-says _ _ _ (the-loop .t - 1) _ _ _ refl (the-count .ensures) (le-leb _ _ (the-if1 .left)) in
+    (the-loop .inv .0 ∙ rows-more _ _ _ (the-loop .t) (the-loop .t - 1) (omega arith) r, omega arith)
 
+-- src/lib.rt:216:1
 returns-2 : tie.Need-returns-2 Inv-loop μ-loop
 returns-2 c =
     let the-loop = c .before .loop in
     let the-loop-test = c .loop-test in
-    the-loop .inv .0 ∙ rows-end 64 _ _ (the-loop .t) (the-loop-test .left)
+    the-loop .inv .0 ∙ rows-end _ _ _ (the-loop .t) (the-loop-test .left)
 
 pub rows-fit-spec : {M : Type 1} → statement M
 rows-fit-spec =
@@ -85,11 +98,10 @@ rows-fit-spec =
     sub-t
     mul-from
     add-to
-    word-requires
-    sub-row-fits
-    part-row-fits-start
-    part-row-fits-end
-    row-fits-requires
+    sub-count
+    part-count-start
+    part-count-end
+    count-requires
     returns
     loop-less
     loop-again

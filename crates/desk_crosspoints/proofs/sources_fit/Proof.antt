@@ -1,96 +1,37 @@
-use borrow.Author.Needs.{needs}
-use Rattle.desk_crosspoints.proofs.Sums.{Held, held-none, held-more, held-all}
+use lib.ListN.{length, take}
+use lib.Seq.{length-take-le}
+use Rattle.desk_crosspoints.proofs.Counts.{clear-take, clear-length}
+use Rattle.desk_crosspoints.specs.Figures.{side}
 use Rattle.desk_crosspoints.specs.Crosspoints.{clear}
-use Rattle.desk_crosspoints.proofs.Laws.{part-length}
-use mathlib.Core.Path.{_≡_, refl, sym, _∙_}
-use Prim.Native.Nat.{_-_, _≤_, _*_, _+_}
+use mathlib.Core.Path.{_≡_, refl, sym, ap, _∙_}
 use native.Mathlib.Omega.{arith}
-use lib.ListN.{length}
+use borrow.Author.Needs.{needs}
 use Rattle.desk_crosspoints.proofs.sources_fit.Statement.{statement}
 use Rattle.desk_crosspoints.proofs.sources_fit.Tie as tie
+use Rattle.desk_crosspoints.proofs.sources_fit.Reads as reads
+use Rattle.desk_crosspoints.proofs.sources_fit.Lts as lts
+use Rattle.desk_crosspoints.proofs.columns_fit.Reads as columns-fit-reads
 
-abbrev Inv-loop : tie.InvT-loop
-Inv-loop cells sums₀ t₀ sums t = Held 64 cells t sums × (t ≤ 64)
+-- src/lib.rt:277:30
+array-borrow-prefix-sums : tie.Need-array-borrow-prefix-sums
+array-borrow-prefix-sums c = search needs
 
-abbrev μ-loop : tie.MeasureT-loop
-μ-loop cells sums₀ t₀ sums t = 64 - t
+-- src/lib.rt:277:30
+slice-aggregate-columns-fit : tie.Need-slice-aggregate-columns-fit
+slice-aggregate-columns-fit c = let the-Start = c .before .before in sym (length-take-le (the-Start .args .w) _ (omega (arith, the-Start .pre .0)))
 
-loop-holds : tie.Need-loop-holds Inv-loop μ-loop
+-- src/lib.rt:277:5
+columns-fit-requires : tie.Need-columns-fit-requires
 unfolding clear
-loop-holds c = (held-none 64 _ _ refl, omega arith)
+columns-fit-requires c κs =
+    let the-Start = c .before .before in
+    (the-Start .pre .1, clear-take (the-Start .args .w) side (the-Start .pre .0))
 
-mul-from : tie.Need-mul-from Inv-loop μ-loop
-mul-from c = omega arith
-
-add-to : tie.Need-add-to Inv-loop μ-loop
-add-to c = omega arith
-
-slice-aggregate-add-row : tie.Need-slice-aggregate-add-row Inv-loop μ-loop
-slice-aggregate-add-row c =
-    let the-loop = c .before .before .loop in
-    sym (the-loop .inv .0 .room)
-
-sub-add-row : tie.Need-sub-add-row Inv-loop μ-loop
-sub-add-row c = omega arith
-
-part-add-row-start : tie.Need-part-add-row-start Inv-loop μ-loop
-part-add-row-start c = omega arith
-
-part-add-row-end : tie.Need-part-add-row-end Inv-loop μ-loop
-part-add-row-end c = omega arith
-
-add-row-requires : tie.Need-add-row-requires Inv-loop μ-loop
-add-row-requires c κs =
-    let the-Start = c .before .before .before .before .before in
-    let the-loop = c .before .before .before .loop in
-    let h = the-loop .inv .0 in
-    let l = part-length 64 (the-Start .args .cells .now) (the-loop .t) (omega arith) in
-    h .room ∙ sym l
-
-add-t : tie.Need-add-t Inv-loop μ-loop
-add-t c = omega arith
-
-loop-less : tie.Need-loop-less Inv-loop μ-loop
-loop-less c = omega arith
-
-loop-again : tie.Need-loop-again Inv-loop μ-loop
-loop-again c =
-    let the-loop = c .before .before .before .before .before .loop in
-    let the-add-row = c .before .add-row in
-    (held-more 64 _ (the-loop .t) _ _ _ _ (the-loop .inv .0) refl refl (the-add-row .kept .0) (the-add-row .ensures), omega arith)
-
-slice-aggregate-all-bits : tie.Need-slice-aggregate-all-bits Inv-loop μ-loop
-slice-aggregate-all-bits c =
-    let the-loop = c .before .before .loop in
-    sym (the-loop .inv .0 .room)
-
-all-bits-requires : tie.Need-all-bits-requires Inv-loop μ-loop
-all-bits-requires c κs = search needs
-
-returns : tie.Need-returns Inv-loop μ-loop
-returns c =
-    let the-loop = c .before .before .before .loop in
-    let the-loop-test = c .before .before .loop-test in
-    let the-all-bits = c .all-bits in
-    held-all 64 _ (the-loop .t) _ (the-loop .inv .0) (omega (arith, the-loop .inv .1, the-loop-test .left)) ∙ the-all-bits .ensures
+-- src/lib.rt:271:1
+returns : tie.Need-returns
+returns c = search needs
 
 pub sources-fit-spec : {M : Type 1} → statement M
 sources-fit-spec =
     tie.close
-    (tie.spec
-    Inv-loop
-    μ-loop
-    loop-holds
-    mul-from
-    add-to
-    slice-aggregate-add-row
-    sub-add-row
-    part-add-row-start
-    part-add-row-end
-    add-row-requires
-    add-t
-    loop-less
-    loop-again
-    slice-aggregate-all-bits
-    all-bits-requires
-    returns)
+    (tie.spec array-borrow-prefix-sums slice-aggregate-columns-fit columns-fit-requires returns)

@@ -1,0 +1,69 @@
+use Rattle.desk_sources.proofs.Sources.{gather-none, handed-part}
+use Rattle.desk_crosspoints.specs.Crosspoints.{clear}
+use mathlib.Core.Path.{refl}
+use native.Mathlib.Omega.{arith}
+use borrow.Author.Needs.{needs}
+use Rattle.desk_sources.proofs.sources_of.Statement.{statement}
+use Rattle.desk_sources.proofs.sources_of.Tie as tie
+use Rattle.desk_sources.proofs.sources_of.Reads as reads
+use Rattle.desk_sources.proofs.sources_of.Lts as lts
+use Rattle.desk_connections.proofs.part_of.Reads as part-of-reads
+use Rattle.desk_sources.proofs.gather.Reads as gather-reads
+use Rattle.desk_sources.proofs.index.Reads as index-reads
+
+returns : tie.Need-returns
+returns c = (λ h. absurd (omega (arith, h)), omega arith)
+
+index-requires : tie.Need-index-requires
+index-requires c κs = search needs
+
+returns-2 : tie.Need-returns-2
+returns-2 c =
+    let the-index = c .before .index in
+    (λ h. gather-none _ _ _ (omega (arith, the-index .ensures)), omega arith)
+
+part-of-requires : tie.Need-part-of-requires
+part-of-requires c κs = search needs
+
+sub-gather : tie.Need-sub-gather
+sub-gather c = search needs
+
+part-gather-start : tie.Need-part-gather-start
+part-gather-start c = search needs
+
+part-gather-end : tie.Need-part-gather-end
+part-gather-end c = search needs
+
+slice-aggregate-gather : tie.Need-slice-aggregate-gather
+slice-aggregate-gather c = search needs
+
+gather-requires : tie.Need-gather-requires
+unfolding clear
+gather-requires c κs =
+    let the-index = c .before .before .before .before .before .index in
+    (omega (arith, the-index .ensures), (omega arith, refl))
+
+same-length : tie.Need-same-length
+same-length c = search needs
+
+returns-3 : tie.Need-returns-3
+returns-3 c =
+    let the-part-of = c .before .before .before .before .before .before .before .part-of in
+    let the-gather = c .before .before .before .gather in
+    (λ h. handed-part _ _ _ _ (the-part-of .ensures .0) (the-gather .ensures .0), omega (arith, the-gather .ensures .1))
+
+pub sources-of-spec : {M : Type 1} → statement M
+sources-of-spec =
+    tie.close
+    (tie.spec
+    returns
+    index-requires
+    returns-2
+    part-of-requires
+    sub-gather
+    part-gather-start
+    part-gather-end
+    slice-aggregate-gather
+    gather-requires
+    same-length
+    returns-3)
