@@ -158,15 +158,15 @@ alives-some s (own f w) = (s .0, alives-some (s .1) w)
 alives-some s (request w) = (tt, alives-some s w)
 alives-some s (response w) = (tt, alives-some s w)
 
-pub passed : (w : ℕ) {fs gs : List (List ℕ)} {text text′ : List ℕ} → AllFramed fs → WithAlives fs gs → Lines fs text → Lines gs text′
-    → readSheet w text′ ≡ readSheet w text
+pub passed : {fs gs : List (List ℕ)} {text text′ : List ℕ} → AllFramed fs → WithAlives fs gs → Lines fs text → Lines gs text′
+    → readSheet text′ ≡ readSheet text
 unfolding readSheet ofEvents
-passed w {fs} {gs} r a l l′ =
+passed {fs} {gs} r a l l′ =
     let s = framed-all fs r in
     let e = alike r a none 0 0 in
-    ap (λ (x : Stream). ofHeld w (heldIn x)) (lines-read (alives-some s a) l′)
+    ap (λ (x : Stream). ofHeld (heldIn x)) (lines-read (alives-some s a) l′)
     ∙ rw (e .faults, e .messages, e .states) refl
-    ∙ ap (λ (x : Stream). ofHeld w (heldIn x)) (sym (lines-read s l))
+    ∙ ap (λ (x : Stream). ofHeld (heldIn x)) (sym (lines-read s l))
 
 -- ---- the frames of a message
 

@@ -17,16 +17,17 @@ use Rattle.glow_trees.specs.Trees.{Trees, none, tree, flat, count}
 use Rattle.desk_crosspoints.specs.declared.Limit.{Limit}
 use Rattle.desk_crosspoints.specs.declared.Limit.the-variants.{Absent, Most}
 use Rattle.desk_crosspoints.specs.declared.Figures.{Figures}
-use Rattle.desk_crosspoints.specs.Figures.{both}
-use Rattle.desk_crosspoints.specs.Crosspoints.{Cells, rowAt, clear, withRow, legal, Answer, answer, opened}
-use Rattle.desk_crosspoints.proofs.Laws.{open-done, both-left, both-right}
+use Rattle.desk_crosspoints.specs.Figures.{side, both, figuresFit, cellsOf}
+use Rattle.desk_crosspoints.specs.Crosspoints.{Cells, rowAt, clear, withRow, legal}
+use Rattle.desk_crosspoints.specs.Desk.{Desk, deskAt, withCells, allNumbers, pathFits, deskLegal, answer, deskOpened}
+use Rattle.desk_crosspoints.proofs.Laws.{both-left, both-right, fit-targets-le, fit-sources-le}
 use Rattle.desk_crosspoints.proofs.Legal.{legal-fit}
 use Rattle.desk_crosspoints.proofs.Counts.{clear-length}
 use Rattle.desk_crosspoints.proofs.Under.{take-short}
 use Rattle.desk_connections.specs.Connections.{listOf, numbersIn, octetsOf, isQualified, memberOf, pathUp, fullPath, Ask, ask, askOf, asksIn, asksOf, same}
-use Rattle.desk_calls.specs.Calls.{allNumbers, pathFits, deskLegal, deskOpened, requests, answered, Served, answers, served, handled}
-use Rattle.sheet_rules.specs.Sheet.{Desk, desk, sourcesFrom, sourcesAt, number, identifier, list, limit, leftOut, linkMembers, matrixMembers, links, sheetTree}
-use Rattle.sheet_rules.specs.Reading.{Sheet, read, firstRefused, applied, begun, opens, limitIn, figuresIn, modeIn, pathIn, allLinks, ofEntries}
+use Rattle.desk_calls.specs.Calls.{answered, Served, served, handled}
+use Rattle.sheet_rules.specs.Sheet.{sourcesFrom, sourcesAt, list, limit, leftOut, matrixMembers, links, sheetTree}
+use Rattle.sheet_rules.specs.Reading.{read, firstRefused, applied, begun, emptyDesk, opens, limitIn, figuresIn, pathIn, allLinks, ofEntries}
 use Rattle.sheet_rules.proofs.Step.{Front, front-none, front-all, step-done, step-front}
 
 -- ---- numbers in their range are read back
@@ -53,9 +54,11 @@ sources-range s (c ∷ cs) h = go (eqb c 0) (sources-range (suc s) cs (omega ari
     go true r = r
     go false r = let k : s ≤ 2147483647 = omega arith in simp (le-leb _ _ k) r
 
-pub row-range : (w : ℕ) (cells : Cells) (t : ℕ) → w ≤ 64 → inRange (sourcesAt w cells t) ≡ true
+pub row-range : (d : Desk) (t : ℕ) → d .figures .sources ≤ side → inRange (sourcesAt d t) ≡ true
 unfolding rowAt
-row-range w cells t h = sources-range 0 (rowAt w cells t) (omega (arith, take-short w (drop (t * w) cells), h))
+row-range d t h =
+    let w = d .figures .sources in
+    sources-range 0 (rowAt w (d .crosspoints) t) (omega (arith, take-short w (drop (t * w) (d .crosspoints)), h))
 
 pub path-range : (ns : List ℕ) → allNumbers ns ≡ true → inRange ns ≡ true
 unfolding allNumbers
@@ -78,62 +81,78 @@ unfolding same
 same-self [] = refl
 same-self (n ∷ ns) = simp (eq-eqb n n refl) (same-self ns)
 
-unfoldable pub asksFrom : List ℕ → ℕ → Cells → ℕ → ℕ → List Ask
-asksFrom path w cells t zero = []
-asksFrom path w cells t (suc n) = ask path t (sourcesAt w cells t) 0 ∷ asksFrom path w cells (suc t) n
+unfoldable pub asksFrom : Desk → ℕ → ℕ → List Ask
+asksFrom d t zero = []
+asksFrom d t (suc n) = ask (d .path) t (sourcesAt d t) 0 ∷ asksFrom d (suc t) n
 
-module _ (w : ℕ) (f : Figures) (path : List ℕ) (cells : Cells) (h : legal w f cells ≡ true) where
+module _ (d : Desk) (h : legal (d .figures) (d .crosspoints) ≡ true) where
   -- they are all done, and set row after row
   pub record Done (z : Served) : Type 0 where
     pub right : firstRefused (z .answers) ≡ 0
-    pub all : z .cells ≡ cells
+    pub all : z .cells ≡ d .crosspoints
 
-  serve : (n t : ℕ) → t + n ≡ f .targets → (x : Cells) → Front w cells t x → Done (served (requests w f) path (asksFrom path w cells t n) x)
+  serve : (n t : ℕ) → t + n ≡ d .figures .targets → (x : Cells) → Front d t x → Done (served (withCells d x) (asksFrom d t n))
   unfolding served asksFrom answered firstRefused
   serve zero t e x fr =
-      let i : t ≡ f .targets = omega arith in
-      record { right = refl; all = front-all w f cells h x (subst (λ (k : ℕ). Front w cells k x) i fr) }
+      let i : t ≡ d .figures .targets = omega arith in
+      record { right = refl; all = front-all d h x (subst (λ (k : ℕ). Front d k x) i fr) }
   serve (suc n) t e x fr =
-      let d = step-done w f cells h t (omega arith) x fr in
-      let r = serve n (suc t) (omega arith) (withRow w x t (rowAt w cells t)) (step-front w f cells h t (omega arith) x fr) in
-      rw (same-self path, d) (record { right = r .right; all = r .all })
+      let g = step-done d h t (omega arith) x fr in
+      let row = rowAt (d .figures .sources) (d .crosspoints) t in
+      let r = serve n (suc t) (omega arith) (withRow (d .figures .sources) x t row) (step-front d h t (omega arith) x fr) in
+      rw (same-self (d .path), g) (record { right = r .right; all = r .all })
 
-  pub serve-all : Done (served (requests w f) path (asksFrom path w cells 0 (f .targets)) (clear (w * w)))
-  serve-all = serve (f .targets) 0 (omega arith) (clear (w * w)) (front-none w cells)
+  pub serve-all : Done (served (emptyDesk (d .figures) (d .path)) (asksFrom d 0 (d .figures .targets)))
+  serve-all = serve (d .figures .targets) 0 (omega arith) (clear (cellsOf (d .figures))) (front-none d)
 
 -- ---- what the entries ask
 
-module _ (w : ℕ) (cells : Cells) (few : w ≤ 64) (path : List ℕ) (es : List Item) (there : fullPath es 1 ≡ path) where
-  pub links-ask : (n t i : ℕ) → asksIn es (flat 1 i (links w cells t n)) ≡ asksFrom path w cells t n
+module _ (d : Desk) (few : d .figures .sources ≤ side) (es : List Item) (there : fullPath es 1 ≡ d .path) where
+  pub links-ask : (n t i : ℕ) → asksIn es (flat 1 i (links d t n)) ≡ asksFrom d t n
   unfolding asksIn askOf flat links asksFrom leftOut
   links-ask zero t i = refl
   links-ask (suc n) t i =
       let j = suc i + (count none + count none) in
-      let later = asksIn es (flat 1 j (links w cells (suc t) n)) in
-      ap (λ (p : List ℕ). ask p t (numbersIn (octetsOf (list (sourcesAt w cells t)))) 0 ∷ later) there
-      ∙ ap (λ (ss : List ℕ). ask path t ss 0 ∷ later) (list-back _ (row-range w cells t few))
-      ∙ ap (λ (as′ : List Ask). ask path t (sourcesAt w cells t) 0 ∷ as′) (links-ask n (suc t) j)
+      let later = asksIn es (flat 1 j (links d (suc t) n)) in
+      ap (λ (p : List ℕ). ask p t (numbersIn (octetsOf (list (sourcesAt d t)))) 0 ∷ later) there
+      ∙ ap (λ (ss : List ℕ). ask (d .path) t ss 0 ∷ later) (list-back _ (row-range d t few))
+      ∙ ap (λ (as′ : List Ask). ask (d .path) t (sourcesAt d t) 0 ∷ as′) (links-ask n (suc t) j)
 
-pub links-all : (w : ℕ) (cells : Cells) (n t i : ℕ) → allLinks (flat 1 i (links w cells t n)) ≡ true
+pub links-all : (d : Desk) (n t i : ℕ) → allLinks (flat 1 i (links d t n)) ≡ true
 unfolding allLinks flat links
-links-all w cells zero t i = refl
-links-all w cells (suc n) t i = links-all w cells n (suc t) (suc i + (count none + count none))
+links-all d zero t i = refl
+links-all d (suc n) t i = links-all d n (suc t) (suc i + (count none + count none))
 
 limit-back : (l : Limit) → limitIn (limit l) ≡ l
 limit-back Absent = refl
 limit-back (Most n) = refl
 
 -- The entries of a legal desk's sheet are read as the desk.
-module _ (w : ℕ) (f : Figures) (path : List ℕ) (cells : Cells) (few : w ≤ 64) (ok : deskLegal w f path cells ≡ true) where
-  pub path-ok : pathFits path ≡ true
-  unfolding deskLegal
-  path-ok = both-left (pathFits path) (legal w f cells) ok
+module _ (d : Desk) (ok : deskLegal d ≡ true) where
+  abbrev f : Figures
+  f = d .figures
 
-  pub cells-ok : legal w f cells ≡ true
-  unfolding deskLegal
-  cells-ok = both-right (pathFits path) (legal w f cells) ok
+  abbrev path : List ℕ
+  path = d .path
 
-  pub path-small : inRange path ≡ true
+  pub path-ok : pathFits (d .path) ≡ true
+  unfolding deskLegal
+  path-ok = both-left (pathFits path) (legal f (d .crosspoints)) ok
+
+  pub cells-ok : legal (d .figures) (d .crosspoints) ≡ true
+  unfolding deskLegal
+  cells-ok = both-right (pathFits path) (legal f (d .crosspoints)) ok
+
+  pub figures-ok : figuresFit (d .figures) ≡ true
+  figures-ok = legal-fit f (d .crosspoints) cells-ok
+
+  pub targets-few : d .figures .targets ≤ side
+  targets-few = fit-targets-le f figures-ok
+
+  pub sources-few : d .figures .sources ≤ side
+  sources-few = fit-sources-le f figures-ok
+
+  pub path-small : inRange (d .path) ≡ true
   unfolding pathFits
   path-small = path-range path (both-right (both (leb 1 (length path)) (leb (length path) 16)) (allNumbers path) path-ok)
 
@@ -141,9 +160,9 @@ module _ (w : ℕ) (f : Figures) (path : List ℕ) (cells : Cells) (few : w ≤ 
   top = item qualifiedMatrix 0 (matrixMembers f path)
 
   abbrev below : List Item
-  below = flat 1 1 (links w cells 0 (f .targets))
+  below = flat 1 1 (links d 0 (f .targets))
 
-  pub flat-sheet : flat 0 0 (sheetTree w (desk f path cells)) ≡ top ∷ below
+  pub flat-sheet : flat 0 0 (sheetTree d) ≡ top ∷ below
   unfolding flat sheetTree count
   flat-sheet = ap (λ (es : List Item). top ∷ es) (append-nil below)
 
@@ -154,9 +173,9 @@ module _ (w : ℕ) (f : Figures) (path : List ℕ) (cells : Cells) (few : w ≤ 
   unfolding pathUp isQualified
   top-path = let h : 1 ≤ suc (length below) = omega arith in rw (le-leb _ _ h) path-back
 
-  asks-back : asksOf (top ∷ below) ≡ asksFrom path w cells 0 (f .targets)
+  asks-back : asksOf (top ∷ below) ≡ asksFrom d 0 (f .targets)
   unfolding asksIn
-  asks-back = links-ask w cells few path (top ∷ below) top-path (f .targets) 0 1
+  asks-back = links-ask d sources-few (top ∷ below) top-path (f .targets) 0 1
 
   figures-back : figuresIn top ≡ f
   figures-back =
@@ -164,25 +183,24 @@ module _ (w : ℕ) (f : Figures) (path : List ℕ) (cells : Cells) (few : w ≤ 
       (limit-back (f .total))
       ∙ ap (λ (l : Limit). record { kind = f .kind; targets = f .targets; sources = f .sources; total = f .total; each = l }) (limit-back (f .each))
 
-  opened-empty : opened w f 0 (clear (w * w)) ≡ answer 0 (clear (w * w))
-  opened-empty =
-      open-done w f 0 (clear (w * w)) (clear (w * w)) (clear-length (w * w)) (legal-fit w f cells cells-ok) refl (ap clear (sym (clear-length (w * w))))
+  opened-empty : deskOpened (emptyDesk f path) 0 ≡ answer 0 (clear (cellsOf f))
+  unfolding deskOpened
+  opened-empty = rw (figures-ok, eq-eqb _ _ (clear-length (cellsOf f)), path-ok) refl
 
-  applied-back : (z : Served) → Done w f path cells cells-ok z → applied f path z ≡ read (desk f path cells)
+  applied-back : (z : Served) → Done d cells-ok z → applied (emptyDesk f path) z ≡ read d
   unfolding applied
-  applied-back z d = rw (d .right) (ap (λ (c : Cells). read (desk f path c)) (d .all))
+  applied-back z e = rw (e .right) (ap (λ (c : Cells). read (deskAt f path c)) (e .all))
 
-  opens-back : opens w f path 0 (top ∷ below) ≡ read (desk f path cells)
-  unfolding opens begun handled deskOpened
+  opens-back : opens f path 0 (top ∷ below) ≡ read d
+  unfolding opens begun handled
   opens-back =
-      rw (path-ok, opened-empty)
-      (ap (λ (as′ : List Ask). applied f path (served (requests w f) path as′ (clear (w * w)))) asks-back
-      ∙ applied-back _ (serve-all w f path cells cells-ok))
+      rw opened-empty
+      (ap (λ (as′ : List Ask). applied (emptyDesk f path) (served (emptyDesk f path) as′)) asks-back ∙ applied-back _ (serve-all d cells-ok))
 
-  pub entries-read : ofEntries w (flat 0 0 (sheetTree w (desk f path cells))) ≡ read (desk f path cells)
+  pub entries-read : ofEntries (flat 0 0 (sheetTree d)) ≡ read d
   unfolding ofEntries
   entries-read =
-      ap (ofEntries w) flat-sheet
-      ∙ rw (links-all w cells (f .targets) 0 1)
-      (ap (λ (g : Figures). opens w g (pathIn top) 0 (top ∷ below)) figures-back
-      ∙ ap (λ (p : List ℕ). opens w f p 0 (top ∷ below)) path-back ∙ opens-back)
+      ap ofEntries flat-sheet
+      ∙ rw (links-all d (f .targets) 0 1)
+      (ap (λ (g : Figures). opens g (pathIn top) 0 (top ∷ below)) figures-back
+      ∙ ap (λ (p : List ℕ). opens f p 0 (top ∷ below)) path-back ∙ opens-back)

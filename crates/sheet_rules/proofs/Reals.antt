@@ -14,8 +14,8 @@ use Rattle.trees_round_trip.proofs.Octets.{Octets, message-below}
 use Rattle.desk_crosspoints.specs.declared.Limit.{Limit}
 use Rattle.desk_crosspoints.specs.declared.Limit.the-variants.{Absent, Most}
 use Rattle.desk_crosspoints.specs.declared.Figures.{Figures}
-use Rattle.desk_crosspoints.specs.Crosspoints.{Cells}
-use Rattle.sheet_rules.specs.Sheet.{Desk, number, identifier, sourcesAt, list, limit, leftOut, linkMembers, matrixMembers, links, sheetTree, sheetMessage}
+use Rattle.desk_crosspoints.specs.Desk.{Desk}
+use Rattle.sheet_rules.specs.Sheet.{number, identifier, sourcesAt, list, limit, leftOut, linkMembers, matrixMembers, links, sheetTree, sheetMessage}
 
 abbrev noReal : ℕ → List ℕ
 noReal w = []
@@ -44,35 +44,35 @@ module _ (r : ℕ → List ℕ) where
       ap (λ (xs : List ℕ). k ++ (t ++ (s ++ (xs ++ (memberOctets r 7 (limit (f .each)) ++ []))))) (limit-any 6 (f .total))
       ∙ ap (λ (xs : List ℕ). k ++ (t ++ (s ++ (memberOctets noReal 6 (limit (f .total)) ++ (xs ++ []))))) (limit-any 7 (f .each))
 
-  links-any : (w : ℕ) (cells : Cells) (n t : ℕ) → treesOctets r (links w cells t n) ≡ treesOctets noReal (links w cells t n)
+  links-any : (d : Desk) (n t : ℕ) → treesOctets r (links d t n) ≡ treesOctets noReal (links d t n)
   unfolding treesOctets links own inner contentsOf contentsRows applications wrapped membersOctets
-  links-any w cells zero t = refl
-  links-any w cells (suc n) t =
-      ap (λ (xs : List ℕ). tagged 2 true 0 (tagged 1 true 16 (xs ++ [])) ++ treesOctets r (links w cells (suc t) n)) (link-any t (sourcesAt w cells t))
-      ∙ ap (λ (xs : List ℕ). tagged 2 true 0 (tagged 1 true 16 (membersOctets noReal 0 (linkMembers t (sourcesAt w cells t)) ++ [])) ++ xs)
-      (links-any w cells n (suc t))
+  links-any d zero t = refl
+  links-any d (suc n) t =
+      ap (λ (xs : List ℕ). tagged 2 true 0 (tagged 1 true 16 (xs ++ [])) ++ treesOctets r (links d (suc t) n)) (link-any t (sourcesAt d t))
+      ∙ ap (λ (xs : List ℕ). tagged 2 true 0 (tagged 1 true 16 (membersOctets noReal 0 (linkMembers t (sourcesAt d t)) ++ [])) ++ xs)
+      (links-any d n (suc t))
 
-  sheet-any : (w : ℕ) (d : Desk) → treesOctets r (sheetTree w d) ≡ treesOctets noReal (sheetTree w d)
+  sheet-any : (d : Desk) → treesOctets r (sheetTree d) ≡ treesOctets noReal (sheetTree d)
   unfolding treesOctets sheetTree own contentsOf contentsRows applications membersOctets memberOctets
-  sheet-any w d =
+  sheet-any d =
       let f = d .figures in
       let path = d .path in
-      let ls = links w (d .cells) 0 (f .targets) in
+      let ls = links d 0 (f .targets) in
       let top = membersOctets noReal 0 (identifier path ∷ []) in
       ap (λ (xs : List ℕ). tagged 2 true 0 (tagged 1 true 17 (top ++ (wrapped 1 0 17 xs ++ (wrapped 2 1 4 [] ++ wrapped 5 0 16 (treesOctets r ls))))) ++ [])
       (figures-any f path)
       ∙ ap (λ (xs : List ℕ). tagged 2 true 0 (tagged 1 true 17
       (top ++ (wrapped 1 0 17 (membersOctets noReal 0 (inner 7 (matrixMembers f path))) ++ (wrapped 2 1 4 [] ++ wrapped 5 0 16 xs)))) ++ [])
-      (links-any w (d .cells) (f .targets) 0)
+      (links-any d (f .targets) 0)
 
-message-any : (r : ℕ → List ℕ) (w : ℕ) (d : Desk) → messageOctets r 0 (sheetTree w d) ≡ messageOctets noReal 0 (sheetTree w d)
+message-any : (r : ℕ → List ℕ) (d : Desk) → messageOctets r 0 (sheetTree d) ≡ messageOctets noReal 0 (sheetTree d)
 unfolding messageOctets rootNumber
-message-any r w d = ap (λ (xs : List ℕ). tagged 1 true 0 (tagged 1 true 11 xs)) (sheet-any r w d)
+message-any r d = ap (λ (xs : List ℕ). tagged 1 true 0 (tagged 1 true 11 xs)) (sheet-any r d)
 
-pub sheet-below : (w : ℕ) (d : Desk) → legalRoot 0 (sheetTree w d) ≡ true → Octets (flat 0 0 (sheetTree w d)) → length (sheetMessage w d) ≤ 16384
-    → Below 256 (sheetMessage w d)
+pub sheet-below : (d : Desk) → legalRoot 0 (sheetTree d) ≡ true → Octets (flat 0 0 (sheetTree d)) → length (sheetMessage d) ≤ 16384
+    → Below 256 (sheetMessage d)
 unfolding sheetMessage
-sheet-below w d right o few =
-    let e = message-any writtenReal w d in
+sheet-below d right o few =
+    let e = message-any writtenReal d in
     subst (Below 256) (sym e)
-    (message-below noReal (λ x i. tt) 0 (sheetTree w d) right o (subst (λ (xs : List ℕ). length xs ≤ 16384) e few))
+    (message-below noReal (λ x i. tt) 0 (sheetTree d) right o (subst (λ (xs : List ℕ). length xs ≤ 16384) e few))

@@ -28,15 +28,14 @@ use Rattle.trees_round_trip.proofs.Octets.{PartOctets, PartsOctets, Octets}
 use Rattle.desk_crosspoints.specs.declared.Limit.{Limit}
 use Rattle.desk_crosspoints.specs.declared.Limit.the-variants.{Absent, Most}
 use Rattle.desk_crosspoints.specs.declared.Figures.{Figures}
-use Rattle.desk_crosspoints.specs.Figures.{both, isLimit, figuresFit}
+use Rattle.desk_crosspoints.specs.Figures.{side, both, isLimit, figuresFit}
 use Rattle.desk_crosspoints.specs.Crosspoints.{Cells, rowAt}
-use Rattle.desk_crosspoints.proofs.Laws.{fit-counts, fit-targets-le, fit-sources-le, fit-kind-le}
-use Rattle.desk_crosspoints.proofs.Legal.{legal-fit}
+use Rattle.desk_crosspoints.specs.Desk.{Desk, deskLegal}
+use Rattle.desk_crosspoints.proofs.Laws.{fit-targets-le, fit-sources-le, fit-kind-le}
 use Rattle.desk_crosspoints.proofs.Under.{take-short}
-use Rattle.desk_calls.specs.Calls.{deskLegal}
-use Rattle.sheet_rules.specs.Sheet.{desk, sourcesFrom, sourcesAt, number, list, limit, leftOut, linkMembers, matrixMembers, links, sheetTree, sheetMessage}
+use Rattle.sheet_rules.specs.Sheet.{sourcesFrom, sourcesAt, number, list, limit, leftOut, linkMembers, matrixMembers, links, sheetTree, sheetMessage}
 use Rattle.sheet_rules.proofs.Suited.{int-of, path-short, total-fits, each-fits}
-use Rattle.sheet_rules.proofs.Asked.{flat-sheet, path-ok, cells-ok, path-small}
+use Rattle.sheet_rules.proofs.Asked.{flat-sheet, path-ok, figures-ok, targets-few, sources-few, path-small}
 
 -- ---- identifiers
 
@@ -89,11 +88,12 @@ sources-size s (c ∷ cs) h = go (eqb c 0) (sources-size (suc s) cs (omega arith
     go true r = omega arith
     go false r = omega (arith, length-append (septets s) (oidOctets (sourcesFrom (suc s) cs)), septets-one s (omega arith), r)
 
-row-size : (w : ℕ) (cells : Cells) (t : ℕ) → w ≤ 64 → length (oidOctets (sourcesAt w cells t)) ≤ 64
+row-size : (d : Desk) (t : ℕ) → d .figures .sources ≤ side → length (oidOctets (sourcesAt d t)) ≤ side
 unfolding rowAt
-row-size w cells t h =
-    let a = take-short w (drop (t * w) cells) in
-    let b = sources-size 0 (rowAt w cells t) (omega (arith, a, h)) in
+row-size d t h =
+    let w = d .figures .sources in
+    let a = take-short w (drop (t * w) (d .crosspoints)) in
+    let b = sources-size 0 (rowAt w (d .crosspoints) t) (omega (arith, a, h)) in
     omega (arith, a, b, h)
 
 -- ---- tags, members
@@ -133,15 +133,15 @@ limit-size real m (Most n) h e = number-size real m n h (leb-true n 2147483647 (
     right true b q = q
     right false b q = let y : _≡_ {A = ℕ} 0 1 = cc in absurd (omega arith)
 
-list-size : (real : ℕ → List ℕ) (m : ℕ) (ns : List ℕ) → m < 31 → length (oidOctets ns) ≤ 64 → length (memberOctets real m (list ns)) ≤ 72
+list-size : (real : ℕ → List ℕ) (m : ℕ) (ns : List ℕ) → m < 31 → length (oidOctets ns) ≤ side → length (memberOctets real m (list ns)) ≤ side + 8
 unfolding memberOctets
 list-size real m [] h l = omega arith
-list-size real m (n ∷ ns) h l = outer-few m 0 false 13 (oidOctets (n ∷ ns)) 64 h (omega arith) l (omega arith)
+list-size real m (n ∷ ns) h l = outer-few m 0 false 13 (oidOctets (n ∷ ns)) side h (omega arith) l (omega arith)
 
 -- ---- the tree
 
 module _ (real : ℕ → List ℕ) where
-  link-members : (t : ℕ) (ns : List ℕ) → t ≤ 64 → length (oidOctets ns) ≤ 64 → length (membersOctets real 0 (linkMembers t ns)) ≤ 84
+  link-members : (t : ℕ) (ns : List ℕ) → t ≤ side → length (oidOctets ns) ≤ side → length (membersOctets real 0 (linkMembers t ns)) ≤ side + 20
   unfolding membersOctets leftOut memberOctets
   link-members t ns h l =
       let a = memberOctets real 0 (number t) in
@@ -154,36 +154,36 @@ module _ (real : ℕ → List ℕ) where
   unfolding treesOctets
   empty-size = omega arith
 
-  link-size : (t : ℕ) (ns : List ℕ) (rest : Trees) → t ≤ 64 → length (oidOctets ns) ≤ 64
-      → length (treesOctets real (tree 8 (linkMembers t ns) none none rest)) ≤ 92 + length (treesOctets real rest)
+  link-size : (t : ℕ) (ns : List ℕ) (rest : Trees) → t ≤ side → length (oidOctets ns) ≤ side
+      → length (treesOctets real (tree 8 (linkMembers t ns) none none rest)) ≤ side + 28 + length (treesOctets real rest)
   unfolding treesOctets own inner contentsOf contentsRows applications wrapped membersOctets
   link-size t ns rest h l =
       let m = membersOctets real 0 (linkMembers t ns) in
       let a = link-members t ns h l in
-      let b : length (m ++ []) ≤ 84 = omega (arith, length-append m [], a) in
-      let o = outer-few 0 1 true 16 (m ++ []) 84 (omega arith) (omega arith) b (omega arith) in
+      let b : length (m ++ []) ≤ side + 20 = omega (arith, length-append m [], a) in
+      let o = outer-few 0 1 true 16 (m ++ []) (side + 20) (omega arith) (omega arith) b (omega arith) in
       omega (arith, o, length-append (tagged 2 true 0 (tagged 1 true 16 (m ++ []))) (treesOctets real rest))
 
-  links-size : (w : ℕ) (cells : Cells) → w ≤ 64 → (n t : ℕ) → t + n ≤ 64 → length (treesOctets real (links w cells t n)) ≤ 92 * n
+  links-size : (d : Desk) → d .figures .sources ≤ side → (n t : ℕ) → t + n ≤ side → length (treesOctets real (links d t n)) ≤ (side + 28) * n
   unfolding links
-  links-size w cells few zero t h = empty-size
-  links-size w cells few (suc n) t h =
-      let r = links-size w cells few n (suc t) (omega arith) in
-      let s = link-size t (sourcesAt w cells t) (links w cells (suc t) n) (omega arith) (row-size w cells t few) in
+  links-size d few zero t h = empty-size
+  links-size d few (suc n) t h =
+      let r = links-size d few n (suc t) (omega arith) in
+      let s = link-size t (sourcesAt d t) (links d (suc t) n) (omega arith) (row-size d t few) in
       omega (arith, r, s)
 
-  module _ (w : ℕ) (f : Figures) (fit : figuresFit w f ≡ true) (few : w ≤ 64) (path : List ℕ) (r : inRange path ≡ true) (short : length path ≤ 16) where
+  module _ (f : Figures) (fit : figuresFit f ≡ true) (path : List ℕ) (r : inRange path ≡ true) (short : length path ≤ 16) where
     figures-size : length (membersOctets real 0 (inner 7 (matrixMembers f path))) ≤ 60
     unfolding membersOctets memberOctets inner contentsOf contentsRows leftOut
     figures-size =
-        let k = fit-kind-le w f fit in
-        let t = fit-targets-le w f fit in
-        let s = fit-sources-le w f fit in
+        let k = fit-kind-le f fit in
+        let t = fit-targets-le f fit in
+        let s = fit-sources-le f fit in
         let a = number-size real 2 (f .kind) (omega arith) (omega arith) in
         let b = number-size real 4 (f .targets) (omega arith) (omega arith) in
         let c = number-size real 5 (f .sources) (omega arith) (omega arith) in
-        let d = limit-size real 6 (f .total) (omega arith) (total-fits w f fit) in
-        let e = limit-size real 7 (f .each) (omega arith) (each-fits w f fit) in
+        let d = limit-size real 6 (f .total) (omega arith) (total-fits f fit) in
+        let e = limit-size real 7 (f .each) (omega arith) (each-fits f fit) in
         let x2 = memberOctets real 2 (number (f .kind)) in
         let x4 = memberOctets real 4 (number (f .targets)) in
         let x5 = memberOctets real 5 (number (f .sources)) in
@@ -210,7 +210,8 @@ module _ (real : ℕ → List ℕ) where
         let o = outer-few 0 0 false 13 (oidOctets path) 80 (omega arith) (omega arith) (omega (arith, l, short)) (omega arith) in
         omega (arith, o, length-append (tagged 2 true 0 (tagged 0 false 13 (oidOctets path))) [])
 
-    matrix-size : (ls : Trees) → length (treesOctets real ls) ≤ 5888 → length (treesOctets real (tree 7 (matrixMembers f path) none ls none)) ≤ 6100
+    matrix-size : (ls : Trees) → length (treesOctets real ls) ≤ (side + 28) * side
+        → length (treesOctets real (tree 7 (matrixMembers f path) none ls none)) ≤ 6100
     unfolding treesOctets applications
     matrix-size ls h =
         let m1 = membersOctets real 0 (own 7 (matrixMembers f path)) in
@@ -220,7 +221,7 @@ module _ (real : ℕ → List ℕ) where
         let a = path-member in
         let b = wrapped-few 1 0 17 (membersOctets real 0 (inner 7 (matrixMembers f path))) 60 (omega arith) (omega arith) figures-size (omega arith) in
         let c = wrapped-few 2 1 4 [] 0 (omega arith) (omega arith) (omega arith) (omega arith) in
-        let d = wrapped-few 5 0 16 (treesOctets real ls) 5888 (omega arith) (omega arith) h (omega arith) in
+        let d = wrapped-few 5 0 16 (treesOctets real ls) ((side + 28) * side) (omega arith) (omega arith) h (omega arith) in
         let l : length (m1 ++ (m2 ++ (m3 ++ m4))) ≤ 6068 =
         omega (arith, a, b, c, d, length-append m1 (m2 ++ (m3 ++ m4)), length-append m2 (m3 ++ m4), length-append m3 m4) in
         let o = outer-few 0 1 true 17 (m1 ++ (m2 ++ (m3 ++ m4))) 6068 (omega arith) (omega arith) l (omega arith) in
@@ -248,26 +249,25 @@ unfolding leftOut
 left-octets zero = tt
 left-octets (suc n) = (tt, left-octets n)
 
-links-octets : (w : ℕ) (cells : Cells) (n t i : ℕ) → Octets (flat 1 i (links w cells t n))
+links-octets : (d : Desk) (n t i : ℕ) → Octets (flat 1 i (links d t n))
 unfolding links flat
-links-octets w cells zero t i = tt
-links-octets w cells (suc n) t i =
-    ((tt, (list-octets (sourcesAt w cells t), left-octets 14)), links-octets w cells n (suc t) (suc i + (count none + count none)))
+links-octets d zero t i = tt
+links-octets d (suc n) t i = ((tt, (list-octets (sourcesAt d t), left-octets 14)), links-octets d n (suc t) (suc i + (count none + count none)))
 
-module _ (w : ℕ) (f : Figures) (path : List ℕ) (cells : Cells) (few : w ≤ 64) (ok : deskLegal w f path cells ≡ true) where
-  pub sheet-octets : Octets (flat 0 0 (sheetTree w (desk f path cells)))
+module _ (d : Desk) (ok : deskLegal d ≡ true) where
+  pub sheet-octets : Octets (flat 0 0 (sheetTree d))
   sheet-octets =
-      subst Octets (sym (flat-sheet w f path cells few ok)) (
-        (oid-below path, (tt, (tt, (tt, (tt, (tt, (tt, (limit-octets (f .total), (limit-octets (f .each), left-octets 7))))))))),
-        links-octets w cells (f .targets) 0 1,
+      subst Octets (sym (flat-sheet d ok)) (
+        (oid-below (d .path), (tt, (tt, (tt, (tt, (tt, (tt, (limit-octets (d .figures .total), (limit-octets (d .figures .each), left-octets 7))))))))),
+        links-octets d (d .figures .targets) 0 1,
       )
 
-  pub sheet-size : length (sheetMessage w (desk f path cells)) ≤ 6108
+  pub sheet-size : length (sheetMessage d) ≤ 6108
   unfolding sheetMessage sheetTree
   sheet-size =
-      let fit = legal-fit w f cells (cells-ok w f path cells few ok) in
-      let t = fit-targets-le w f fit in
-      let l = links-size writtenReal w cells few (f .targets) 0 (omega arith) in
-      message-size writtenReal (tree 7 (matrixMembers f path) none (links w cells 0 (f .targets)) none)
-      (matrix-size writtenReal w f fit few path (path-small w f path cells few ok) (path-short path (path-ok w f path cells few ok))
-      (links w cells 0 (f .targets)) (omega (arith, l, t, few)))
+      let n = d .figures .targets in
+      let t = targets-few d ok in
+      let l = links-size writtenReal d (sources-few d ok) n 0 (omega arith) in
+      message-size writtenReal (tree 7 (matrixMembers (d .figures) (d .path)) none (links d 0 n) none)
+      (matrix-size writtenReal (d .figures) (figures-ok d ok) (d .path) (path-small d ok) (path-short (d .path) (path-ok d ok)) (links d 0 n)
+      (omega (arith, l, t)))

@@ -223,13 +223,13 @@ events-one zero first d m w n = refl
 events-one (suc k) first d m w n = events-one k false false (drop payloadLimit m) w _
 
 -- The sheet of a message is read as the message.
-pub message-read : (w : ℕ) (m : List ℕ) → Bytes m → length m ≤ messageLimit → ofHeld w (heldIn (linesIn (messageLines m))) ≡ ofMessage w m
+pub message-read : (m : List ℕ) → Bytes m → length m ≤ messageLimit → ofHeld (heldIn (linesIn (messageLines m))) ≡ ofMessage m
 unfolding ofEvents somethingOpen
-message-read w m h l =
+message-read m h l =
     let g = message-back m h l begin (opens-outside none) 0 in
     let a = events-right (earlier (length m)) true false m m 0 in
     let b = events-one (earlier (length m)) true false m m 0 in
-    ap (λ (x : Stream). ofHeld w (heldIn x)) (packets-read (earlier (length m)) true m h)
-    ∙ ap (λ (hs : List Happening). ofHeld w (ofEvents hs (after begin (inPackets m)))) (g .events)
-    ∙ ap (λ (s : State). ofHeld w (ofEvents (messageEvents false m 0) s)) (g .state)
+    ap (λ (x : Stream). ofHeld (heldIn x)) (packets-read (earlier (length m)) true m h)
+    ∙ ap (λ (hs : List Happening). ofHeld (ofEvents hs (after begin (inPackets m)))) (g .events)
+    ∙ ap (λ (s : State). ofHeld (ofEvents (messageEvents false m 0) s)) (g .state)
     ∙ rw (a, b) refl

@@ -20,14 +20,12 @@ use Rattle.trees_accepted.proofs.Bools.{never, both-make}
 use Rattle.desk_crosspoints.specs.declared.Limit.{Limit}
 use Rattle.desk_crosspoints.specs.declared.Limit.the-variants.{Absent, Most}
 use Rattle.desk_crosspoints.specs.declared.Figures.{Figures}
-use Rattle.desk_crosspoints.specs.Figures.{both, isCount, isLimit, figuresFit}
-use Rattle.desk_crosspoints.specs.Crosspoints.{Cells}
+use Rattle.desk_crosspoints.specs.Figures.{side, both, isCount, isLimit, figuresFit}
+use Rattle.desk_crosspoints.specs.Desk.{Desk, allNumbers, pathFits, deskLegal}
 use Rattle.desk_crosspoints.proofs.Laws as crosspoints
 use Rattle.desk_crosspoints.proofs.Laws.{fit-counts, fit-targets-le, fit-sources-le, fit-kind-le}
-use Rattle.desk_crosspoints.proofs.Legal.{legal-fit}
-use Rattle.desk_calls.specs.Calls.{allNumbers, pathFits, deskLegal}
-use Rattle.sheet_rules.specs.Sheet.{desk, number, identifier, list, limit, leftOut, linkMembers, matrixMembers, sourcesAt, links, sheetTree}
-use Rattle.sheet_rules.proofs.Asked.{arcs-back, row-range, path-ok, cells-ok, path-small}
+use Rattle.sheet_rules.specs.Sheet.{number, identifier, list, limit, leftOut, linkMembers, matrixMembers, sourcesAt, links, sheetTree}
+use Rattle.sheet_rules.proofs.Asked.{arcs-back, row-range, path-ok, figures-ok, targets-few, sources-few, path-small}
 
 -- a number of a member whose rule is "from 0" (8) or "0 to 2" (11)
 pub int-of : (n : ℕ) → n ≤ 2147483647 → intOf n ≡ pos n
@@ -96,12 +94,12 @@ link-suited : (t : ℕ) (ns : List ℕ) → t ≤ 2147483647 → oid.inRange ns 
 unfolding suited suits ruleAt ruleOf members contentsOf contentsRows leftOut
 link-suited t ns h r = both-make _ _ (from0-suits t h) (both-make _ _ (list-suits ns r) refl)
 
-module _ (w : ℕ) (f : Figures) (fit : figuresFit w f ≡ true) where
-  rest2 : both (isCount w (f .sources)) (both (isLimit (f .total)) (isLimit (f .each))) ≡ true
-  rest2 = crosspoints.both-right (isCount w (f .targets)) _ (fit-counts w f fit)
+module _ (f : Figures) (fit : figuresFit f ≡ true) where
+  rest2 : both (isCount (f .sources)) (both (isLimit (f .total)) (isLimit (f .each))) ≡ true
+  rest2 = crosspoints.both-right (isCount (f .targets)) _ (fit-counts f fit)
 
   rest3 : both (isLimit (f .total)) (isLimit (f .each)) ≡ true
-  rest3 = crosspoints.both-right (isCount w (f .sources)) _ rest2
+  rest3 = crosspoints.both-right (isCount (f .sources)) _ rest2
 
   pub total-fits : isLimit (f .total) ≡ true
   total-fits = crosspoints.both-left (isLimit (f .total)) (isLimit (f .each)) rest3
@@ -109,12 +107,12 @@ module _ (w : ℕ) (f : Figures) (fit : figuresFit w f ≡ true) where
   pub each-fits : isLimit (f .each) ≡ true
   each-fits = crosspoints.both-right (isLimit (f .total)) (isLimit (f .each)) rest3
 
-  matrix-suited : w ≤ 64 → (path : List ℕ) → oid.inRange path ≡ true → pathFits path ≡ true → suited 7 0 (matrixMembers f path) ≡ true
+  matrix-suited : (path : List ℕ) → oid.inRange path ≡ true → pathFits path ≡ true → suited 7 0 (matrixMembers f path) ≡ true
   unfolding suited suits ruleAt ruleOf members contentsOf contentsRows leftOut
-  matrix-suited few path r p =
-      let k = fit-kind-le w f fit in
-      let t = fit-targets-le w f fit in
-      let s = fit-sources-le w f fit in
+  matrix-suited path r p =
+      let k = fit-kind-le f fit in
+      let t = fit-targets-le f fit in
+      let s = fit-sources-le f fit in
       both-make _ _ (path-suits path r (is-path path p))
       (both-make _ _ (to2-suits (f .kind) k)
       (both-make _ _ (from0-suits (f .targets) (omega arith))
@@ -124,48 +122,46 @@ module _ (w : ℕ) (f : Figures) (fit : figuresFit w f ≡ true) where
 
 -- ---- the tree
 
-link-legal : (w : ℕ) (cells : Cells) → w ≤ 64 → (t above : ℕ) → t ≤ 64 → above ≤ 16 → (rest : Trees) → legal 2 58 above rest ≡ true
-    → legal 2 58 above (tree 8 (linkMembers t (sourcesAt w cells t)) none none rest) ≡ true
+link-legal : (d : Desk) → d .figures .sources ≤ side → (t above : ℕ) → t ≤ side → above ≤ 16 → (rest : Trees) → legal 2 58 above rest ≡ true
+    → legal 2 58 above (tree 8 (linkMembers t (sourcesAt d t)) none none rest) ≡ true
 unfolding legal among holds complete required requirements pathAfter empty inner ruleAt ruleOf members contentsOf contentsRows leftOut
-link-legal w cells few t above h a rest r =
-    both-make _ _ (link-suited t (sourcesAt w cells t) (omega arith) (row-range w cells t few))
+link-legal d few t above h a rest r =
+    both-make _ _ (link-suited t (sourcesAt d t) (omega arith) (row-range d t few))
     (both-make _ _ (le-leb above 16 a) r)
 
-pub links-legal : (w : ℕ) (cells : Cells) → w ≤ 64 → (n t above : ℕ) → t + n ≤ 64 → above ≤ 16 → legal 2 58 above (links w cells t n) ≡ true
+pub links-legal : (d : Desk) → d .figures .sources ≤ side → (n t above : ℕ) → t + n ≤ side → above ≤ 16 → legal 2 58 above (links d t n) ≡ true
 unfolding legal links
-links-legal w cells few zero t above h a = refl
-links-legal w cells few (suc n) t above h a =
-    link-legal w cells few t above (omega arith) a (links w cells (suc t) n) (links-legal w cells few n (suc t) above (omega arith) a)
+links-legal d few zero t above h a = refl
+links-legal d few (suc n) t above h a =
+    link-legal d few t above (omega arith) a (links d (suc t) n) (links-legal d few n (suc t) above (omega arith) a)
 
-matrix-legal : (w : ℕ) (f : Figures) → figuresFit w f ≡ true → w ≤ 64 → (path : List ℕ) → oid.inRange path ≡ true → pathFits path ≡ true
+matrix-legal : (f : Figures) → figuresFit f ≡ true → (path : List ℕ) → oid.inRange path ≡ true → pathFits path ≡ true
     → (ls : Trees) → ((above : ℕ) → above ≤ 16 → legal 2 58 above ls ≡ true)
     → legal 0 62 0 (tree 7 (matrixMembers f path) none ls none) ≡ true
 unfolding legal among holds complete required requirements pathAfter empty inner ruleAt ruleOf members contentsOf contentsRows leftOut
-matrix-legal w f fit few path r p ls h =
+matrix-legal f fit path r p ls h =
     let e : lengthOf (arcs (oidOctets path) 0 (length (oidOctets path))) ≡ length path = ap lengthOf (arcs-back path r) in
     let s = path-short path p in
     let l : lengthOf (arcs (oidOctets path) 0 (length (oidOctets path))) ≤ 16 = omega (arith, e, s) in
-    both-make _ _ (matrix-suited w f fit few path r p)
+    both-make _ _ (matrix-suited f fit path r p)
     (both-make _ _ (le-leb _ _ l)
     (both-make _ _ (h _ l) refl))
 
 -- The tree of a legal desk's sheet is legal.
-pub sheet-legal : (w : ℕ) (f : Figures) (path : List ℕ) (cells : Cells) → w ≤ 64 → deskLegal w f path cells ≡ true
-    → legalRoot 0 (sheetTree w (desk f path cells)) ≡ true
+pub sheet-legal : (d : Desk) → deskLegal d ≡ true → legalRoot 0 (sheetTree d) ≡ true
 unfolding legalRoot sheetTree
-sheet-legal w f path cells few ok =
-    let fit = legal-fit w f cells (cells-ok w f path cells few ok) in
-    let t = fit-targets-le w f fit in
-    matrix-legal w f fit few path (path-small w f path cells few ok) (path-ok w f path cells few ok)
-    (links w cells 0 (f .targets)) (λ above a. links-legal w cells few (f .targets) 0 above (omega arith) a)
+sheet-legal d ok =
+    let t = targets-few d ok in
+    matrix-legal (d .figures) (figures-ok d ok) (d .path) (path-small d ok) (path-ok d ok)
+    (links d 0 (d .figures .targets)) (λ above a. links-legal d (sources-few d ok) (d .figures .targets) 0 above (omega arith) a)
 
 -- ---- how many entries it has
 
-links-count : (w : ℕ) (cells : Cells) (n t : ℕ) → count (links w cells t n) ≡ n
+links-count : (d : Desk) (n t : ℕ) → count (links d t n) ≡ n
 unfolding count links
-links-count w cells zero t = refl
-links-count w cells (suc n) t = omega (arith, links-count w cells n (suc t))
+links-count d zero t = refl
+links-count d (suc n) t = omega (arith, links-count d n (suc t))
 
-pub sheet-count : (w : ℕ) (f : Figures) (path : List ℕ) (cells : Cells) → count (sheetTree w (desk f path cells)) ≡ suc (f .targets)
+pub sheet-count : (d : Desk) → count (sheetTree d) ≡ suc (d .figures .targets)
 unfolding count sheetTree
-sheet-count w f path cells = omega (arith, links-count w cells (f .targets) 0)
+sheet-count d = omega (arith, links-count d (d .figures .targets) 0)

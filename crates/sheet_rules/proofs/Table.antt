@@ -25,13 +25,13 @@ use Rattle.trees_round_trip.proofs.Rows.{rows-items, tree-sixteen}
 use Rattle.sheet_rules.specs.Reading.{Sheet, refused, ofEntries, ofAnswer, ofMessage}
 
 -- what follows from the tree reader's answer, with the table after it
-abbrev pub ofTable : ℕ → List ℕ → Rows → Answer → Sheet
-ofTable w m rows Setup = refused 1
-ofTable w m rows (No number place) = refused number
-ofTable w m rows (Room count) = refused 38
-ofTable w m rows (Read root count) = ofEntries w (itemsIn m rows count)
+abbrev pub ofTable : List ℕ → Rows → Answer → Sheet
+ofTable m rows Setup = refused 1
+ofTable m rows (No number place) = refused number
+ofTable m rows (Room count) = refused 38
+ofTable m rows (Read root count) = ofEntries (itemsIn m rows count)
 
-module _ (w : ℕ) (m : List ℕ) (octets : Below 256 m) (few : length m ≤ 16384) (table : Rows) (long : length table ≡ 256) where
+module _ (m : List ℕ) (octets : Below 256 m) (few : length m ≤ 16384) (table : Rows) (long : length table ≡ 256) where
   abbrev es : Entries
   es = walk m .out .entries
 
@@ -40,21 +40,21 @@ module _ (w : ℕ) (m : List ℕ) (octets : Below 256 m) (few : length m ≤ 163
   not-setup = let l : length table ≤ 256 = omega arith in rw (le-ltb _ _ l, le-ltb _ _ few) refl
 
   by-walk : (a : Onto) → walk m .out .answer ≡ a
-      → ofTable w m (readOf table (walk m .which) es a .rows) (readOf table (walk m .which) es a .answer) ≡ ofAnswer w m es a
+      → ofTable m (readOf table (walk m .which) es a .rows) (readOf table (walk m .which) es a .answer) ≡ ofAnswer m es a
   by-walk (Stopped e) q = refl
   by-walk (Next n) q = rw long (go (ltb 256 (length es)) refl)
     where
       go : (u : Bool) → ltb 256 (length es) ≡ u
-          → ofTable w m (pick u (result (Room (length es)) table) (result (Read (walk m .which) (length es)) (overlay es table)) .rows)
+          → ofTable m (pick u (result (Room (length es)) table) (result (Read (walk m .which) (length es)) (overlay es table)) .rows)
           (pick u (result (Room (length es)) table) (result (Read (walk m .which) (length es)) (overlay es table)) .answer)
-          ≡ pick u (refused 38) (ofEntries w (itemsOf m es))
+          ≡ pick u (refused 38) (ofEntries (itemsOf m es))
       go true h = refl
       go false h =
           let t = is-least m octets few leastReal reals-least q in
           let l = ltb-false 256 (length es) h in
           let k : length es ≤ length table = omega arith in
-          ap (ofEntries w) (rows-items m es table (tree-sixteen m es (walk m .which) (t .tree) (t .legals) (t .entries)) k)
+          ap ofEntries (rows-items m es table (tree-sixteen m es (walk m .which) (t .tree) (t .legals) (t .entries)) k)
 
-  pub table-answer : ofTable w m (readAt m table .rows) (readAt m table .answer) ≡ ofMessage w m
+  pub table-answer : ofTable m (readAt m table .rows) (readAt m table .answer) ≡ ofMessage m
   unfolding readAt ofMessage
   table-answer = rw not-setup (by-walk (walk m .out .answer) refl)

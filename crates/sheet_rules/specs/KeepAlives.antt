@@ -7,7 +7,8 @@ use mathlib.Core.Path.{_≡_}
 use lib.ListN.{length, take, drop}
 use Rattle.framing_packets.specs.Read.{Bytes}
 use Rattle.framing_packets.specs.Written.{bodyLimit, frame, requestBody, responseBody, packet, payloadLimit, earlier}
-use Rattle.sheet_rules.specs.Sheet.{Desk, sheetMessage}
+use Rattle.desk_crosspoints.specs.Desk.{Desk}
+use Rattle.sheet_rules.specs.Sheet.{sheetMessage}
 use Rattle.sheet_rules.specs.Lines.{digitOf}
 
 -- "pairs of hexadecimal digits of either case": the bytes, and a text of them
@@ -45,5 +46,5 @@ unfoldable pub packetFrames : ℕ → Bool → List ℕ → List (List ℕ)
 packetFrames zero first m = packet first true m ∷ []
 packetFrames (suc n) first m = packet first false (take payloadLimit m) ∷ packetFrames n false (drop payloadLimit m)
 
-abbrev pub sheetFrames : ℕ → Desk → List (List ℕ)
-sheetFrames w d = packetFrames (earlier (length (sheetMessage w d))) true (sheetMessage w d)
+abbrev pub sheetFrames : Desk → List (List ℕ)
+sheetFrames d = packetFrames (earlier (length (sheetMessage d))) true (sheetMessage d)

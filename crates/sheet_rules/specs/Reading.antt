@@ -1,8 +1,8 @@
 -- Reading a route sheet (document 01, "Desk"), for every byte string: a desk, or the first refusal in document 01's order.
 -- "The first refusal in this order ends it, with no desk: 12 for any bad line, the first event from 10 up, 33 unless exactly one message is finished and
 -- nothing is open at the end, the tree's, 33 unless it is one qualified matrix and its connections alone, the desk's."
--- From the last to the first, since a name stands before its use. w is the row size.
-use Prim.Native.Nat.{ℕ, _*_}
+-- From the last to the first, since a name stands before its use.
+use Prim.Native.Nat.{ℕ}
 use mathlib.Core.List.{List, [], _∷_}
 use mathlib.Core.Bool.{Bool, true, false}
 use lib.ListN.{length}
@@ -18,11 +18,11 @@ use Rattle.framing_session.specs.Rules.{Place, outside, stray, inside, escaped,
 use Rattle.desk_crosspoints.specs.declared.Limit.{Limit}
 use Rattle.desk_crosspoints.specs.declared.Limit.the-variants.{Absent, Most}
 use Rattle.desk_crosspoints.specs.declared.Figures.{Figures}
-use Rattle.desk_crosspoints.specs.Figures.{both}
-use Rattle.desk_crosspoints.specs.Crosspoints.{Cells, clear, Answer}
+use Rattle.desk_crosspoints.specs.Figures.{both, cellsOf}
+use Rattle.desk_crosspoints.specs.Crosspoints.{clear}
+use Rattle.desk_crosspoints.specs.Desk.{Desk, deskAt, withCells, Answer, deskOpened}
 use Rattle.desk_connections.specs.Connections.{numberOf, octetsOf, numbersIn, memberOf}
-use Rattle.desk_calls.specs.Calls.{deskOpened, Served, handled}
-use Rattle.sheet_rules.specs.Sheet.{Desk, desk}
+use Rattle.desk_calls.specs.Calls.{Served, handled}
 use Rattle.sheet_rules.specs.Lines.{Stream, bad, stream, linesIn}
 
 -- What reading gives.
@@ -40,16 +40,19 @@ firstRefused (n ∷ ns) =
     pick (eqb n 0) later n
 
 -- "applies its connections": as the requests of a message, in order; the first refused one ends it
-unfoldable pub applied : Figures → List ℕ → Served → Sheet
-applied f path z = pick (eqb (firstRefused (z .answers)) 0) (read (desk f path (z .cells))) (refused (firstRefused (z .answers)))
+unfoldable pub applied : Desk → Served → Sheet
+applied d z = pick (eqb (firstRefused (z .answers)) 0) (read (withCells d (z .cells))) (refused (firstRefused (z .answers)))
 
 -- "opens an empty desk from the figures it carries": 45 comes before any connection
-unfoldable pub begun : ℕ → Figures → List ℕ → List Item → Answer → Sheet
-begun w f path es a = pick (eqb (a .number) 0) (applied f path (handled w f path es (a .cells))) (refused (a .number))
+unfoldable pub begun : Desk → List Item → Answer → Sheet
+begun d es a = pick (eqb (a .number) 0) (applied d (handled (withCells d (a .cells)) es)) (refused (a .number))
+
+abbrev pub emptyDesk : Figures → List ℕ → Desk
+emptyDesk f path = deskAt f path (clear (cellsOf f))
 
 -- "45 DESK: opening figures, mode (1) or path out of range"
-unfoldable pub opens : ℕ → Figures → List ℕ → ℕ → List Item → Sheet
-opens w f path mode es = begun w f path es (deskOpened w f path mode (clear (w * w)))
+unfoldable pub opens : Figures → List ℕ → ℕ → List Item → Sheet
+opens f path mode es = begun (emptyDesk f path) es (deskOpened (emptyDesk f path) mode)
 
 -- Limits "kept as given"; "(a missing count: 45)", since 0 is no count; no type is 1:N, 0 (001).
 abbrev pub limitIn : Content → Limit
@@ -82,23 +85,23 @@ allLinks (e ∷ es) =
     let later : Bool = allLinks es in
     both (eqb (e .kind) connection) later
 
-unfoldable pub ofEntries : ℕ → List Item → Sheet
-ofEntries w [] = refused 33
-ofEntries w (e ∷ es) =
+unfoldable pub ofEntries : List Item → Sheet
+ofEntries [] = refused 33
+ofEntries (e ∷ es) =
     pick (both (eqb (e .kind) qualifiedMatrix) (allLinks es))
-    (opens w (figuresIn e) (pathIn e) (modeIn e) (e ∷ es))
+    (opens (figuresIn e) (pathIn e) (modeIn e) (e ∷ es))
     (refused 33)
 
 -- ---- "the tree's", with a table of 256 entries: 38 ROOM where it has more
 
-abbrev pub ofAnswer : ℕ → List ℕ → Entries → Onto → Sheet
-ofAnswer w m es (Next next) = pick (ltb 256 (length es)) (refused 38) (ofEntries w (itemsOf m es))
-ofAnswer w m es (Stopped e) = refused (e .0)
+abbrev pub ofAnswer : List ℕ → Entries → Onto → Sheet
+ofAnswer m es (Next next) = pick (ltb 256 (length es)) (refused 38) (ofEntries (itemsOf m es))
+ofAnswer m es (Stopped e) = refused (e .0)
 
-unfoldable pub ofMessage : ℕ → List ℕ → Sheet
-ofMessage w m =
+unfoldable pub ofMessage : List ℕ → Sheet
+ofMessage m =
     let k : Walk = walk m in
-    ofAnswer w m (k .out .entries) (k .out .answer)
+    ofAnswer m (k .out .entries) (k .out .answer)
 
 -- ---- "33 unless exactly one message is finished and nothing is open at the end"; keep-alives and pieces are passed over
 
@@ -152,10 +155,10 @@ abbrev pub heldIn : Stream → Held
 heldIn bad = refusal 12
 heldIn (stream bs) = ofEvents (happens begin 0 bs) (after begin bs)
 
-abbrev pub ofHeld : ℕ → Held → Sheet
-ofHeld w (refusal n) = refused n
-ofHeld w (message m) = ofMessage w m
+abbrev pub ofHeld : Held → Sheet
+ofHeld (refusal n) = refused n
+ofHeld (message m) = ofMessage m
 
 -- Reading.
-unfoldable pub readSheet : ℕ → List ℕ → Sheet
-readSheet w text = ofHeld w (heldIn (linesIn text))
+unfoldable pub readSheet : List ℕ → Sheet
+readSheet text = ofHeld (heldIn (linesIn text))

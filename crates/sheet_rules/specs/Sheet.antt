@@ -16,15 +16,7 @@ use Rattle.desk_crosspoints.specs.declared.Limit.{Limit}
 use Rattle.desk_crosspoints.specs.declared.Limit.the-variants.{Absent, Most}
 use Rattle.desk_crosspoints.specs.declared.Figures.{Figures}
 use Rattle.desk_crosspoints.specs.Crosspoints.{Cells, rowAt}
-
--- A desk: its figures with the limits as given, its path and its crosspoints, rows of w cells.
-pub record Desk : Type 0 where
-  pub figures : Figures
-  pub path : List ℕ
-  pub cells : Cells
-
-abbrev pub desk : Figures → List ℕ → Cells → Desk
-desk f path cells = record { figures = f; path = path; cells = cells }
+use Rattle.desk_crosspoints.specs.Desk.{Desk}
 
 -- "its sources ascending": the places of the cells that are set, from s on
 unfoldable pub sourcesFrom : ℕ → Cells → List ℕ
@@ -33,8 +25,9 @@ sourcesFrom s (c ∷ cs) =
     let later : List ℕ = sourcesFrom (suc s) cs in
     pick (eqb c 0) later (s ∷ later)
 
-abbrev pub sourcesAt : ℕ → Cells → ℕ → List ℕ
-sourcesAt w cells t = sourcesFrom 0 (rowAt w cells t)
+-- those of a target
+abbrev pub sourcesAt : Desk → ℕ → List ℕ
+sourcesAt d t = sourcesFrom 0 (rowAt (d .figures .sources) (d .crosspoints) t)
 
 -- members: integers, relative identifiers, and those left out
 abbrev pub number : ℕ → Content
@@ -68,17 +61,16 @@ matrixMembers f path =
     ∷ number (f .kind) ∷ nothing ∷ number (f .targets) ∷ number (f .sources) ∷ limit (f .total) ∷ limit (f .each) ∷ leftOut 7
 
 -- "every target": n of them, from t on
-unfoldable pub links : ℕ → Cells → ℕ → ℕ → Trees
-links w cells t zero = none
-links w cells t (suc n) = tree connection (linkMembers t (sourcesAt w cells t)) none none (links w cells (suc t) n)
+unfoldable pub links : Desk → ℕ → ℕ → Trees
+links d t zero = none
+links d t (suc n) = tree connection (linkMembers t (sourcesAt d t)) none none (links d (suc t) n)
 
-unfoldable pub sheetTree : ℕ → Desk → Trees
-sheetTree w d =
-    tree qualifiedMatrix (matrixMembers (d .figures) (d .path)) none (links w (d .cells) 0 (d .figures .targets)) none
+unfoldable pub sheetTree : Desk → Trees
+sheetTree d = tree qualifiedMatrix (matrixMembers (d .figures) (d .path)) none (links d 0 (d .figures .targets)) none
 
 -- "one message": Root's elements are 0
-unfoldable pub sheetMessage : ℕ → Desk → List ℕ
-sheetMessage w d = messageOctets writtenReal 0 (sheetTree w d)
+unfoldable pub sheetMessage : Desk → List ℕ
+sheetMessage d = messageOctets writtenReal 0 (sheetTree d)
 
 -- "upper-case hexadecimal": a digit, a byte, and a frame and 0A
 abbrev pub glyphOf : ℕ → ℕ
@@ -100,8 +92,8 @@ abbrev pub messageLines : List ℕ → List ℕ
 messageLines m = packetLines (earlier (length m)) true m
 
 -- The sheet.
-unfoldable pub sheetOf : ℕ → Desk → List ℕ
-sheetOf w d = messageLines (sheetMessage w d)
+unfoldable pub sheetOf : Desk → List ℕ
+sheetOf d = messageLines (sheetMessage d)
 
 -- ---- frames as lines (`write_lines`), whatever message they hold
 

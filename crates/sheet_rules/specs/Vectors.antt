@@ -22,12 +22,13 @@ use Rattle.desk_crosspoints.specs.declared.Limit.the-variants.{Absent, Most}
 use Rattle.desk_crosspoints.specs.declared.Figures.{Figures}
 use Rattle.desk_crosspoints.specs.Figures.{isCount, figuresFit, mostEach, mostTotal}
 use Rattle.desk_crosspoints.specs.Crosspoints as crosspoints
-use Rattle.desk_crosspoints.specs.Crosspoints.{bit, allBits, clear, rowAt, withRow, holders, takenFrom, mostAt, rowFits, rowsFit, sourcesFit}
-use Rattle.desk_crosspoints.specs.Crosspoints.{kindFits, cellsFit, legal, opened}
-use Rattle.desk_requests.specs.Request.{marked, named, allBelow, replaces, becomes, takes, others, result, many, overTotal, judged, asked, requested}
+use Rattle.desk_crosspoints.specs.Crosspoints.{bit, allBits, clear, rowAt, withRow, holders, takenFrom, rowsFit, sourcesFit, kindFits, cellsFit, legal}
+use Rattle.desk_crosspoints.specs.Desk.{Desk, deskAt, pathFits, allNumbers, deskOpened}
+use Rattle.desk_requests.specs.Request.{marked, named, allBelow, replaces, becomes, takes, others, rowAfter, result, many, overTotal}
+use Rattle.desk_requests.specs.Request.{firstOf, checks, judged, asked, requested}
 use Rattle.desk_connections.specs.Connections.{numbersIn, isQualified, pathUp, askOf, asksIn, same}
-use Rattle.desk_calls.specs.Calls.{answered, served, handled, pathFits, allNumbers, deskOpened}
-use Rattle.sheet_rules.specs.Sheet.{Desk, desk, sourcesFrom, leftOut, links, sheetTree, sheetMessage, hexText, packetLines}
+use Rattle.desk_calls.specs.Calls.{answered, served, handled}
+use Rattle.sheet_rules.specs.Sheet.{sourcesFrom, leftOut, links, sheetTree, sheetMessage, hexText, packetLines}
 use Rattle.sheet_rules.specs.Lines.{digitOf, bad, stream, linesFrom, linesIn}
 use Rattle.sheet_rules.specs.Reading.{refused, read, firstRefused, applied, begun, opens, allLinks, ofEntries, finished, somethingOpen}
 use Rattle.sheet_rules.specs.Reading.{refusal, firstFault, ofEvents, readSheet}
@@ -37,11 +38,11 @@ figures kind targets sources total each = record { kind = kind; targets = target
 
 -- one target, one source, nothing connected, 1:N, path 1
 abbrev small : Desk
-small = desk (figures 0 1 1 Absent Absent) (1 ∷ []) (0 ∷ [])
+small = deskAt (figures 0 1 1 Absent Absent) (1 ∷ []) (0 ∷ [])
 
--- two targets, three sources, N:N with the limits 128 and 2, path 1.5; sources 0 and 2 on target 0; rows of three cells
+-- two targets, three sources, N:N with the limits 128 and 2, path 1.5; sources 0 and 2 on target 0
 abbrev larger : Desk
-larger = desk (figures 2 2 3 (Most 128) (Most 2)) (1 ∷ 5 ∷ []) (1 ∷ 0 ∷ 1 ∷ 0 ∷ 0 ∷ 0 ∷ 0 ∷ 0 ∷ 0 ∷ [])
+larger = deskAt (figures 2 2 3 (Most 128) (Most 2)) (1 ∷ 5 ∷ []) (1 ∷ 0 ∷ 1 ∷ 0 ∷ 0 ∷ 0 ∷ [])
 
 abbrev smallMessage : List ℕ
 smallMessage =
@@ -56,7 +57,7 @@ largerMessage =
     0x03 ∷ 0x02 ∷ 0x01 ∷ 0x02 ∷ 0xA5 ∷ 0x1A ∷ 0x30 ∷ 0x18 ∷ 0xA0 ∷ 0x0D ∷ 0x70 ∷ 0x0B ∷ 0xA0 ∷ 0x03 ∷ 0x02 ∷ 0x01 ∷ 0x00 ∷ 0xA1 ∷ 0x04 ∷ 0x0D ∷
     0x02 ∷ 0x00 ∷ 0x02 ∷ 0xA0 ∷ 0x07 ∷ 0x70 ∷ 0x05 ∷ 0xA0 ∷ 0x03 ∷ 0x02 ∷ 0x01 ∷ 0x01 ∷ []
 
-pub v-messages : (sheetMessage 1 small ≡ smallMessage) × (sheetMessage 3 larger ≡ largerMessage)
+pub v-messages : (sheetMessage small ≡ smallMessage) × (sheetMessage larger ≡ largerMessage)
 unfolding sheetMessage sheetTree links leftOut sourcesFrom rowAt oidOctets septets
     messageOctets tagged spelled memberOctets membersOctets wrapped own treesOctets rootNumber inner tagOctets lengthOctets
     shortest int.octets sizeBy digits countBy intOf contentsOf contentsRows applications
@@ -117,8 +118,8 @@ pub v-read-events :
     (ofEvents (event 3 ∷ event 3 ∷ []) begin ≡ refusal 33) ×
     (ofEvents (event 3 ∷ []) (record { place = inside []; message = none }) ≡ refusal 33) ×
     (ofEvents (event 3 ∷ event 2 ∷ []) (record { place = outside; message = part [] }) ≡ refusal 33) ×
-    (readSheet 3 [] ≡ refused 33) ×
-    (readSheet 3 (70 ∷ []) ≡ refused 12)
+    (readSheet [] ≡ refused 33) ×
+    (readSheet (70 ∷ []) ≡ refused 12)
 unfolding firstFault finished somethingOpen ofEvents readSheet linesFrom digitOf happens after
 v-read-events = (refl, refl, refl, refl, refl, refl, refl, refl, refl, refl)
 
@@ -130,31 +131,31 @@ abbrev link : ℕ → List ℕ → Item
 link target sources = item 8 1 (word 2 target ∷ bytes 13 sources ∷ [])
 
 pub v-read-entries :
-    (ofEntries 3 (flat 0 0 (sheetTree 3 larger)) ≡ read larger) ×
+    (ofEntries (flat 0 0 (sheetTree larger)) ≡ read larger) ×
     -- missing and repeated targets, sources not ascending: "applies its connections"
-    (ofEntries 3 (matrix (1 ∷ []) ∷ link 1 (2 ∷ 0 ∷ []) ∷ link 1 (1 ∷ 0 ∷ 1 ∷ []) ∷ [])
-    ≡ read (desk (figures 2 2 3 Absent (Most 2)) (1 ∷ []) (0 ∷ 0 ∷ 0 ∷ 1 ∷ 1 ∷ 0 ∷ 0 ∷ 0 ∷ 0 ∷ []))) ×
+    (ofEntries (matrix (1 ∷ []) ∷ link 1 (2 ∷ 0 ∷ []) ∷ link 1 (1 ∷ 0 ∷ 1 ∷ []) ∷ [])
+    ≡ read (deskAt (figures 2 2 3 Absent (Most 2)) (1 ∷ []) (0 ∷ 0 ∷ 0 ∷ 1 ∷ 1 ∷ 0 ∷ []))) ×
     -- the first refused connection
-    (ofEntries 3 (matrix (1 ∷ []) ∷ link 1 (2 ∷ 0 ∷ []) ∷ link 1 (3 ∷ []) ∷ link 2 [] ∷ []) ≡ refused 42) ×
-    (ofEntries 3 (matrix (1 ∷ []) ∷ link 0 (0 ∷ 1 ∷ 2 ∷ []) ∷ []) ≡ refused 43) ×
+    (ofEntries (matrix (1 ∷ []) ∷ link 1 (2 ∷ 0 ∷ []) ∷ link 1 (3 ∷ []) ∷ link 2 [] ∷ []) ≡ refused 42) ×
+    (ofEntries (matrix (1 ∷ []) ∷ link 0 (0 ∷ 1 ∷ 2 ∷ []) ∷ []) ≡ refused 43) ×
     -- 33: no entry, another element first, another after it, two matrices
-    (ofEntries 3 [] ≡ refused 33) ×
-    (ofEntries 3 (item 4 0 (word 2 1 ∷ []) ∷ []) ≡ refused 33) ×
-    (ofEntries 3 (matrix (1 ∷ []) ∷ item 2 1 (word 2 32 ∷ []) ∷ []) ≡ refused 33) ×
-    (ofEntries 3 (matrix (1 ∷ []) ∷ link 9 [] ∷ matrix (2 ∷ []) ∷ []) ≡ refused 33) ×
+    (ofEntries [] ≡ refused 33) ×
+    (ofEntries (item 4 0 (word 2 1 ∷ []) ∷ []) ≡ refused 33) ×
+    (ofEntries (matrix (1 ∷ []) ∷ item 2 1 (word 2 32 ∷ []) ∷ []) ≡ refused 33) ×
+    (ofEntries (matrix (1 ∷ []) ∷ link 9 [] ∷ matrix (2 ∷ []) ∷ []) ≡ refused 33) ×
     -- 45 before any connection: a missing count, the mode, a limit of 0, a path
-    (ofEntries 3 (item 7 0 (bytes 13 (1 ∷ []) ∷ nothing ∷ nothing ∷ nothing ∷ nothing ∷ nothing ∷ word 2 1 ∷ []) ∷ link 9 [] ∷ []) ≡ refused 45) ×
-    (ofEntries 3 (item 7 0 (bytes 13 (1 ∷ []) ∷ nothing ∷ nothing ∷ nothing ∷ nothing ∷ word 2 1 ∷ []) ∷ []) ≡ refused 45) ×
-    (ofEntries 3 (item 7 0 (bytes 13 (1 ∷ []) ∷ nothing ∷ nothing ∷ nothing ∷ word 2 1 ∷ word 2 1 ∷ word 2 1 ∷ []) ∷ []) ≡ refused 45) ×
-    (ofEntries 3 (item 7 0 (bytes 13 (1 ∷ []) ∷ nothing ∷ nothing ∷ nothing ∷ nothing ∷ word 2 1 ∷ word 2 1 ∷ word 2 0 ∷ []) ∷ []) ≡ refused 45) ×
-    (ofEntries 3 (matrix [] ∷ link 9 [] ∷ []) ≡ refused 45) ×
+    (ofEntries (item 7 0 (bytes 13 (1 ∷ []) ∷ nothing ∷ nothing ∷ nothing ∷ nothing ∷ nothing ∷ word 2 1 ∷ []) ∷ link 9 [] ∷ []) ≡ refused 45) ×
+    (ofEntries (item 7 0 (bytes 13 (1 ∷ []) ∷ nothing ∷ nothing ∷ nothing ∷ nothing ∷ word 2 1 ∷ []) ∷ []) ≡ refused 45) ×
+    (ofEntries (item 7 0 (bytes 13 (1 ∷ []) ∷ nothing ∷ nothing ∷ nothing ∷ word 2 1 ∷ word 2 1 ∷ word 2 1 ∷ []) ∷ []) ≡ refused 45) ×
+    (ofEntries (item 7 0 (bytes 13 (1 ∷ []) ∷ nothing ∷ nothing ∷ nothing ∷ nothing ∷ word 2 1 ∷ word 2 1 ∷ word 2 0 ∷ []) ∷ []) ≡ refused 45) ×
+    (ofEntries (matrix [] ∷ link 9 [] ∷ []) ≡ refused 45) ×
     -- no type is 1:N; mode 0 may stand there
-    (ofEntries 3 (item 7 0 (bytes 13 (1 ∷ []) ∷ nothing ∷ nothing ∷ nothing ∷ word 2 0 ∷ word 2 1 ∷ word 2 1 ∷ []) ∷ link 0 (0 ∷ []) ∷ [])
-    ≡ read (desk (figures 0 1 1 Absent Absent) (1 ∷ []) (1 ∷ 0 ∷ 0 ∷ 0 ∷ 0 ∷ 0 ∷ 0 ∷ 0 ∷ 0 ∷ [])))
+    (ofEntries (item 7 0 (bytes 13 (1 ∷ []) ∷ nothing ∷ nothing ∷ nothing ∷ word 2 0 ∷ word 2 1 ∷ word 2 1 ∷ []) ∷ link 0 (0 ∷ []) ∷ [])
+    ≡ read (deskAt (figures 0 1 1 Absent Absent) (1 ∷ []) (1 ∷ [])))
 unfolding sheetTree links leftOut sourcesFrom oidOctets septets digits countBy flat count
     firstRefused applied begun opens allLinks ofEntries
     isCount figuresFit mostEach mostTotal crosspoints.count
-    bit allBits clear rowAt withRow holders takenFrom mostAt rowFits rowsFit sourcesFit kindFits cellsFit legal opened
-    marked named allBelow replaces becomes takes others result many overTotal judged asked requested
+    bit allBits clear rowAt withRow holders takenFrom rowsFit sourcesFit kindFits cellsFit legal
+    marked named allBelow replaces becomes takes others rowAfter result many overTotal firstOf checks judged asked requested
     arcIs arcFrom arcAt arcsFrom numbersIn isQualified pathUp askOf asksIn same answered served handled pathFits allNumbers deskOpened
 v-read-entries = (refl, refl, refl, refl, refl, refl, refl, refl, refl, refl, refl, refl, refl, refl)

@@ -11,11 +11,8 @@ use Rattle.framing_packets.specs.declared.Written.the-variants as written
 use Rattle.framing_packets.specs.Written.{outcome, into, inPackets}
 use Rattle.framing_packets.specs.Read.{Bytes}
 use Rattle.framing_packets.proofs.Laws.{limited-fits}
-use Rattle.desk_crosspoints.specs.declared.Figures.{Figures}
-use Rattle.desk_crosspoints.specs.Crosspoints.{Cells}
-use Rattle.desk_calls.specs.Calls.{deskLegal}
-use Rattle.sheet_rules.specs.Sheet.{desk, sheetMessage, sheetOf}
-use Rattle.sheet_rules.specs.Sheet.{breaksInto}
+use Rattle.desk_crosspoints.specs.Desk.{Desk, deskLegal}
+use Rattle.sheet_rules.specs.Sheet.{sheetMessage, sheetOf, breaksInto}
 use Rattle.sheet_rules.proofs.Suited.{sheet-legal}
 use Rattle.sheet_rules.proofs.Theorems.{bytes-of}
 use Rattle.sheet_rules.proofs.Sizes.{sheet-octets, sheet-size}
@@ -31,38 +28,37 @@ said-told : (r : Written) (o : List ℕ) → outcome r o ≡ told (said r) o
 said-told (written.Done n) o = refl
 said-told written.Out o = refl
 
-module _ (w : ℕ) (f : Figures) (path : List ℕ) (cells : Cells) (o : List ℕ) where
-  pub sheet-setup : deskLegal w f path cells ≡ false → writesSheet w f path cells o ≡ told Setup o
+module _ (d : Desk) (o : List ℕ) where
+  pub sheet-setup : deskLegal d ≡ false → writesSheet d o ≡ told Setup o
   unfolding writesSheet
   sheet-setup e = rw e refl
 
-  pub sheet-into : deskLegal w f path cells ≡ true → writesSheet w f path cells o ≡ into (sheetOf w (desk f path cells)) o
+  pub sheet-into : deskLegal d ≡ true → writesSheet d o ≡ into (sheetOf d) o
   unfolding writesSheet
   sheet-into e = rw e refl
 
   -- the sheet is the lines of its frames
-  sheet-lines : w ≤ 64 → deskLegal w f path cells ≡ true → breaksInto (inPackets (sheetMessage w (desk f path cells))) o ≡ into (sheetOf w (desk f path cells)) o
+  sheet-lines : deskLegal d ≡ true → breaksInto (inPackets (sheetMessage d)) o ≡ into (sheetOf d) o
   unfolding sheetOf
-  sheet-lines few ok =
-      let m = sheetMessage w (desk f path cells) in
-      let s = sheet-size w f path cells few ok in
+  sheet-lines ok =
+      let m = sheetMessage d in
+      let s = sheet-size d ok in
       let l = frames-length m (omega (arith, s)) in
-      let b = bytes-of m (sheet-below w (desk f path cells) (sheet-legal w f path cells few ok) (sheet-octets w f path cells few ok) (omega (arith, s))) in
+      let b = bytes-of m (sheet-below d (sheet-legal d ok) (sheet-octets d ok) (omega (arith, s))) in
       limited-fits _ _ _ _ (omega (arith, l)) ∙ ap (λ (x : List ℕ). into x o) (message-break m b)
 
   -- as the code goes: the message, its frames, and what the lines' writer answers
-  pub sheet-put : w ≤ 64 → deskLegal w f path cells ≡ true → {m : List ℕ} → m ≡ sheetMessage w (desk f path cells) → {frames : List ℕ} → frames ≡ inPackets m
-      → (r : Written) (o′ : List ℕ) → breaksInto frames o ≡ outcome r o′ → {a : Answer} → said r ≡ a → writesSheet w f path cells o ≡ told a o′
-  sheet-put few ok {m} p {frames} q r o′ e {a} g =
+  pub sheet-put : deskLegal d ≡ true → {m : List ℕ} → m ≡ sheetMessage d → {frames : List ℕ} → frames ≡ inPackets m
+      → (r : Written) (o′ : List ℕ) → breaksInto frames o ≡ outcome r o′ → {a : Answer} → said r ≡ a → writesSheet d o ≡ told a o′
+  sheet-put ok {m} p {frames} q r o′ e {a} g =
       sheet-into ok
-      ∙ sym (sheet-lines few ok)
+      ∙ sym (sheet-lines ok)
       ∙ ap (λ (x : List ℕ). breaksInto (inPackets x) o) (sym p)
       ∙ ap (λ (x : List ℕ). breaksInto x o) (sym q)
       ∙ e
       ∙ said-told r o′
       ∙ ap (λ (x : Answer). told x o′) g
 
-pub sheet-length : (w : ℕ) (f : Figures) (path : List ℕ) (cells : Cells) → w ≤ 64 → deskLegal w f path cells ≡ true
-    → length (sheetOf w (desk f path cells)) ≤ 25000
+pub sheet-length : (d : Desk) → deskLegal d ≡ true → length (sheetOf d) ≤ 25000
 unfolding sheetOf
-sheet-length w f path cells few ok = text-length (sheetMessage w (desk f path cells)) (sheet-size w f path cells few ok)
+sheet-length d ok = text-length (sheetMessage d) (sheet-size d ok)

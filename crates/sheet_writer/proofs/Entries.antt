@@ -32,17 +32,18 @@ use Rattle.trees_round_trip.proofs.Writing.{whole-tree, octets-tree, fits-by, w
 use Rattle.desk_crosspoints.specs.declared.Limit.{Limit}
 use Rattle.desk_crosspoints.specs.declared.Limit.the-variants.{Absent, Most}
 use Rattle.desk_crosspoints.specs.declared.Figures.{Figures}
-use Rattle.desk_crosspoints.specs.Figures.{isLimit, figuresFit}
+use Rattle.desk_crosspoints.specs.Figures.{side, isLimit}
 use Rattle.desk_crosspoints.specs.Crosspoints.{Cells, rowAt}
-use Rattle.desk_crosspoints.proofs.Laws.{both-right, fit-targets-le, fit-sources-le, fit-kind-le}
-use Rattle.desk_crosspoints.proofs.Legal.{legal-fit, legal-length}
-use Rattle.desk_crosspoints.proofs.Under.{take-short}
-use Rattle.desk_calls.specs.Calls.{deskLegal}
-use Rattle.sheet_rules.specs.Sheet.{desk, sourcesFrom, sourcesAt, number, list, limit, leftOut, linkMembers, matrixMembers, links, sheetTree, sheetMessage}
-use Rattle.sheet_rules.proofs.Asked.{flat-sheet, path-ok, cells-ok, path-small}
+use Rattle.desk_crosspoints.specs.Desk.{Desk, deskLegal}
+use Rattle.desk_crosspoints.proofs.Laws.{both-right, fit-kind-le}
+use Rattle.desk_crosspoints.proofs.Legal.{legal-length}
+use Rattle.desk_crosspoints.proofs.Under.{take-short, size-small}
+use Rattle.sheet_rules.specs.Sheet.{sourcesFrom, sourcesAt, number, list, limit, leftOut, linkMembers, matrixMembers, links, sheetTree, sheetMessage}
+use Rattle.sheet_rules.proofs.Asked.{flat-sheet, path-ok, cells-ok, figures-ok, targets-few, sources-few as sources-most, path-small}
 use Rattle.sheet_rules.proofs.Suited.{path-short, total-fits, each-fits, sheet-legal, sheet-count}
 use Rattle.sheet_rules.proofs.Sizes.{sheet-size, path-size as path-octets}
-use Rattle.sheet_writer.specs.Steps.{numberCell, limitCell, listCell, matrixEntry, linkEntry, Filled, filled, withLink, withLinks}
+use Rattle.sheet_writer.specs.Steps.{mostRows, mostPath, mostOctets, numberCell, limitCell, listCell, matrixEntry, linkEntry}
+use Rattle.sheet_writer.specs.Steps.{Filled, filled, withLink, withLinks}
 
 -- ---- the octets of identifiers
 
@@ -108,14 +109,14 @@ content-list front (n ∷ ns) back at e q = rw (ne-eqb (suc (length ns)) 0 (λ z
 
 -- ---- entries by content
 
-abbrev linkEntries : ℕ → Cells → ℕ → ℕ → ℕ → Entries
-linkEntries w cells at t zero = []
-linkEntries w cells at t (suc n) =
-    linkEntry t (listCell at (length (sourcesAt w cells t))) ∷ linkEntries w cells (at + length (sourcesAt w cells t)) (suc t) n
+abbrev linkEntries : Desk → ℕ → ℕ → ℕ → Entries
+linkEntries d at t zero = []
+linkEntries d at t (suc n) =
+    linkEntry t (listCell at (length (sourcesAt d t))) ∷ linkEntries d (at + length (sourcesAt d t)) (suc t) n
 
-abbrev allSources : ℕ → Cells → ℕ → ℕ → List ℕ
-allSources w cells t zero = []
-allSources w cells t (suc n) = sourcesAt w cells t ++ allSources w cells (suc t) n
+abbrev allSources : Desk → ℕ → ℕ → List ℕ
+allSources d t zero = []
+allSources d t (suc n) = sourcesAt d t ++ allSources d (suc t) n
 
 link-content : (front ns back : List ℕ) (at t : ℕ) → length front ≡ at → oidOctets ns ≡ ns → t ≤ 2147483647
     → contentsOf (front ++ (ns ++ back)) (linkEntry t (listCell at (length ns)) .cells) ≡ linkMembers t ns
@@ -124,41 +125,40 @@ link-content front ns back at t e q h =
     ap (λ (x : Content). x ∷ contentOf (front ++ (ns ++ back)) (listCell at (length ns)) ∷ leftOut 14) (content-number (front ++ (ns ++ back)) t h)
     ∙ ap (λ (x : Content). number t ∷ x ∷ leftOut 14) (content-list front ns back at e q)
 
-row-few : (w : ℕ) (cells : Cells) (t : ℕ) → length (sourcesAt w cells t) ≤ w
+row-few : (d : Desk) (t : ℕ) → length (sourcesAt d t) ≤ d .figures .sources
 unfolding rowAt
-row-few w cells t = omega (arith, sources-few 0 (rowAt w cells t), take-short w (drop (t * w) cells))
+row-few d t =
+    let w = d .figures .sources in
+    omega (arith, sources-few 0 (rowAt w (d .crosspoints) t), take-short w (drop (t * w) (d .crosspoints)))
 
-row-octets : (w : ℕ) (cells : Cells) (t : ℕ) → w ≤ 64 → oidOctets (sourcesAt w cells t) ≡ sourcesAt w cells t
+row-octets : (d : Desk) (t : ℕ) → d .figures .sources ≤ side → oidOctets (sourcesAt d t) ≡ sourcesAt d t
 unfolding rowAt
-row-octets w cells t h = sources-octets 0 (rowAt w cells t) (omega (arith, take-short w (drop (t * w) cells), h))
+row-octets d t h =
+    let w = d .figures .sources in
+    sources-octets 0 (rowAt w (d .crosspoints) t) (omega (arith, take-short w (drop (t * w) (d .crosspoints)), h))
 
-links-content : (w : ℕ) (cells : Cells) → w ≤ 64 → (n t : ℕ) → t + n ≤ 64 → (front back : List ℕ) (at i : ℕ) → length front ≡ at
-    → itemsOf (front ++ (allSources w cells t n ++ back)) (linkEntries w cells at t n) ≡ flat 1 i (links w cells t n)
+links-content : (d : Desk) → d .figures .sources ≤ side → (n t : ℕ) → t + n ≤ side → (front back : List ℕ) (at i : ℕ) → length front ≡ at
+    → itemsOf (front ++ (allSources d t n ++ back)) (linkEntries d at t n) ≡ flat 1 i (links d t n)
 unfolding itemsOf flat links
-links-content w cells few zero t h front back at i e = refl
-links-content w cells few (suc n) t h front back at i e =
-    let ss = sourcesAt w cells t in
-    let later = allSources w cells (suc t) n in
-    let rest = linkEntries w cells (at + length ss) (suc t) n in
+links-content d few zero t h front back at i e = refl
+links-content d few (suc n) t h front back at i e =
+    let ss = sourcesAt d t in
+    let later = allSources d (suc t) n in
+    let rest = linkEntries d (at + length ss) (suc t) n in
     let j = suc i + (count none + count none) in
     let a : front ++ ((ss ++ later) ++ back) ≡ front ++ (ss ++ (later ++ back)) = ap (λ (x : List ℕ). front ++ x) (append-assoc ss later back) in
     let b : front ++ (ss ++ (later ++ back)) ≡ (front ++ ss) ++ (later ++ back) = sym (append-assoc front ss (later ++ back)) in
     let l : length (front ++ ss) ≡ at + length ss = omega (arith, length-append front ss, e) in
     ap (λ (s : List ℕ). itemsOf s (linkEntry t (listCell at (length ss)) ∷ rest)) a
     ∙ ap (λ (x : List Content). item connection 1 x ∷ itemsOf (front ++ (ss ++ (later ++ back))) rest)
-    (link-content front ss (later ++ back) at t e (row-octets w cells t few) (omega arith))
+    (link-content front ss (later ++ back) at t e (row-octets d t few) (omega arith))
     ∙ ap (λ (s : List ℕ). item connection 1 (linkMembers t ss) ∷ itemsOf s rest) b
     ∙ ap (λ (x : List Item). item connection 1 (linkMembers t ss) ∷ x)
-    (links-content w cells few n (suc t) (omega arith) (front ++ ss) back (at + length ss) j l)
+    (links-content d few n (suc t) (omega arith) (front ++ ss) back (at + length ss) j l)
 
-sources-size : (w : ℕ) (cells : Cells) (n t : ℕ) → length (allSources w cells t n) ≤ w * n
-sources-size w cells zero t = omega arith
-sources-size w cells (suc n) t =
-    let a = length-append (sourcesAt w cells t) (allSources w cells (suc t) n) in
-    let b = row-few w cells t in
-    let c = sources-size w cells n (suc t) in
-    let d : w * suc n ≡ w + w * n = omega arith in
-    omega (arith, a, b, c, d)
+sources-size : (d : Desk) (n t : ℕ) → length (allSources d t n) ≤ n * d .figures .sources
+sources-size d zero t = omega arith
+sources-size d (suc n) t = omega (arith, length-append (sourcesAt d t) (allSources d (suc t) n), row-few d t, sources-size d n (suc t))
 
 -- ---- rows
 
@@ -171,97 +171,97 @@ overlay-more (x ∷ es) [] e = refl
 overlay-more (x ∷ es) (r ∷ rows) e = ap (λ (t : Rows). row x ∷ t) (overlay-more es rows e)
 
 -- connections filled behind the entries that are there
-links-filled : (w : ℕ) (cells : Cells) (n t : ℕ) (es : Entries) (rows : Rows) (o : List ℕ) (at : ℕ) → length es ≡ suc t
-    → withLinks w cells t n (filled (overlay es rows) o at)
-    ≡ filled (overlay (es ++ linkEntries w cells at t n) rows) (sets o at (allSources w cells t n)) (at + length (allSources w cells t n))
+links-filled : (d : Desk) (n t : ℕ) (es : Entries) (rows : Rows) (o : List ℕ) (at : ℕ) → length es ≡ suc t
+    → withLinks (d .figures .sources) (d .crosspoints) t n (filled (overlay es rows) o at)
+    ≡ filled (overlay (es ++ linkEntries d at t n) rows) (sets o at (allSources d t n)) (at + length (allSources d t n))
 unfolding withLinks withLink
-links-filled w cells zero t es rows o at l =
+links-filled d zero t es rows o at l =
     let z : at + 0 ≡ at = omega arith in
     ap (λ (x : Entries). filled (overlay x rows) o at) (sym (append-nil es)) ∙ ap (filled (overlay (es ++ []) rows) o) (sym z)
-links-filled w cells (suc n) t es rows o at l =
-    let ss = sourcesAt w cells t in
-    let later = allSources w cells (suc t) n in
+links-filled d (suc n) t es rows o at l =
+    let ss = sourcesAt d t in
+    let later = allSources d (suc t) n in
     let e = linkEntry t (listCell at (length ss)) in
-    let rest = linkEntries w cells (at + length ss) (suc t) n in
+    let rest = linkEntries d (at + length ss) (suc t) n in
     let m : length (es ++ (e ∷ [])) ≡ suc (suc t) = omega (arith, length-append es (e ∷ []), l) in
     let k : at + length ss + length later ≡ at + length (ss ++ later) = omega (arith, length-append ss later) in
-    ap (λ (i : ℕ). withLinks w cells (suc t) n (filled (set (overlay es rows) i (row e)) (sets o at ss) (at + length ss))) (sym l)
-    ∙ ap (λ (x : Rows). withLinks w cells (suc t) n (filled x (sets o at ss) (at + length ss))) (sym (overlay-more es rows e))
-    ∙ links-filled w cells n (suc t) (es ++ (e ∷ [])) rows (sets o at ss) (at + length ss) m
+    ap (λ (i : ℕ). withLinks (d .figures .sources) (d .crosspoints) (suc t) n (filled (set (overlay es rows) i (row e)) (sets o at ss) (at + length ss)))
+    (sym l)
+    ∙ ap (λ (x : Rows). withLinks (d .figures .sources) (d .crosspoints) (suc t) n (filled x (sets o at ss) (at + length ss))) (sym (overlay-more es rows e))
+    ∙ links-filled d n (suc t) (es ++ (e ∷ [])) rows (sets o at ss) (at + length ss) m
     ∙ ap (λ (x : Entries). filled (overlay x rows) (sets (sets o at ss) (at + length ss) later) (at + length ss + length later)) (append-assoc es (e ∷ []) rest)
     ∙ ap (λ (x : List ℕ). filled (overlay (es ++ (e ∷ rest)) rows) x (at + length ss + length later)) (sym (sets-append ss later o at))
     ∙ ap (λ (x : ℕ). filled (overlay (es ++ (e ∷ rest)) rows) (sets o at (ss ++ later)) x) k
 
 -- ---- the sheet
 
-module _ (w : ℕ) (f : Figures) (path : List ℕ) (cells : Cells) (few : w ≤ 64) (ok : deskLegal w f path cells ≡ true) where
+module _ (d : Desk) (ok : deskLegal d ≡ true) where
+  abbrev f : Figures
+  f = d .figures
+
+  abbrev path : List ℕ
+  path = d .path
+
   abbrev ps : List ℕ
   ps = oidOctets path
 
   abbrev entries : Entries
-  entries = matrixEntry f (length ps) ∷ linkEntries w cells (length ps) 0 (f .targets)
-
-  fit : figuresFit w f ≡ true
-  fit = legal-fit w f cells (cells-ok w f path cells few ok)
+  entries = matrixEntry f (length ps) ∷ linkEntries d (length ps) 0 (f .targets)
 
   matrix-content : (back : List ℕ) → contentsOf (ps ++ back) (matrixEntry f (length ps) .cells) ≡ matrixMembers f path
   unfolding contentsOf blanks leftOut contentOf
   matrix-content back =
       let s = ps ++ back in
-      let k = fit-kind-le w f fit in
-      let t = fit-targets-le w f fit in
-      let n = fit-sources-le w f fit in
+      let k = fit-kind-le f (figures-ok d ok) in
+      let t = targets-few d ok in
+      let n = sources-most d ok in
       let a = content-number s (f .kind) (omega arith) in
       let b = content-number s (f .targets) (omega arith) in
       let c = content-number s (f .sources) (omega arith) in
-      let d = content-limit s (f .total) (total-fits w f fit) in
-      let e = content-limit s (f .each) (each-fits w f fit) in
-      rw (content-part [] ps back 0 refl, a, b, c, d, e) refl
+      let e = content-limit s (f .total) (total-fits f (figures-ok d ok)) in
+      let g = content-limit s (f .each) (each-fits f (figures-ok d ok)) in
+      rw (content-part [] ps back 0 refl, a, b, c, e, g) refl
 
-  sheet-content : (back : List ℕ) → itemsOf (ps ++ (allSources w cells 0 (f .targets) ++ back)) entries ≡ flat 0 0 (sheetTree w (desk f path cells))
+  sheet-content : (back : List ℕ) → itemsOf (ps ++ (allSources d 0 (f .targets) ++ back)) entries ≡ flat 0 0 (sheetTree d)
   unfolding itemsOf
   sheet-content back =
-      let t = fit-targets-le w f fit in
-      let s = ps ++ (allSources w cells 0 (f .targets) ++ back) in
-      ap (λ (x : List Content). item qualifiedMatrix 0 x ∷ itemsOf s (linkEntries w cells (length ps) 0 (f .targets)))
-      (matrix-content (allSources w cells 0 (f .targets) ++ back))
+      let t = targets-few d ok in
+      let s = ps ++ (allSources d 0 (f .targets) ++ back) in
+      ap (λ (x : List Content). item qualifiedMatrix 0 x ∷ itemsOf s (linkEntries d (length ps) 0 (f .targets)))
+      (matrix-content (allSources d 0 (f .targets) ++ back))
       ∙ ap (λ (x : List Item). item qualifiedMatrix 0 (matrixMembers f path) ∷ x)
-      (links-content w cells few (f .targets) 0 (omega arith) ps back (length ps) 1 refl)
-      ∙ sym (flat-sheet w f path cells few ok)
+      (links-content d (sources-most d ok) (f .targets) 0 (omega arith) ps back (length ps) 1 refl)
+      ∙ sym (flat-sheet d ok)
 
-  pub path-size : length ps ≤ 80
+  pub path-size : length ps ≤ mostPath
   path-size =
-      let a = path-octets path (path-small w f path cells few ok) in
-      let b = path-short path (path-ok w f path cells few ok) in
+      let a = path-octets path (path-small d ok) in
+      let b = path-short path (path-ok d ok) in
       omega (arith, a, b)
 
   -- the path's octets
-  oid-put : (o : List ℕ) → 80 ≤ length o → putOid o 0 path ≡ outcome (Next (length ps)) (ps ++ drop (length ps) o)
+  oid-put : (o : List ℕ) → mostPath ≤ length o → putOid o 0 path ≡ outcome (Next (length ps)) (ps ++ drop (length ps) o)
   unfolding putOid put
   oid-put o h =
       let z : 0 + length ps ≡ length ps = omega arith in
       let k : length ps ≤ length o = omega (arith, path-size, h) in
-      rw (path-small w f path cells few ok, z, le-leb _ _ k) refl
+      rw (path-small d ok, z, le-leb _ _ k) refl
 
   -- .. and the sources' after them
-  octets-put : (o : List ℕ) → 80 + w * 64 ≤ length o
-      → sets (ps ++ drop (length ps) o) (length ps) (allSources w cells 0 (f .targets))
-      ≡ ps ++ (allSources w cells 0 (f .targets) ++ drop (length ps + length (allSources w cells 0 (f .targets))) (ps ++ drop (length ps) o))
+  octets-put : (o : List ℕ) → mostOctets ≤ length o
+      → sets (ps ++ drop (length ps) o) (length ps) (allSources d 0 (f .targets))
+      ≡ ps ++ (allSources d 0 (f .targets) ++ drop (length ps + length (allSources d 0 (f .targets))) (ps ++ drop (length ps) o))
   octets-put o h =
-      let all = allSources w cells 0 (f .targets) in
+      let all = allSources d 0 (f .targets) in
       let o1 = ps ++ drop (length ps) o in
-      let t = fit-targets-le w f fit in
-      let a = sources-size w cells (f .targets) 0 in
-      let m : w * f .targets ≤ w * 64 = mul-le w (f .targets) 64 (omega arith) in
+      let a = sources-size d (f .targets) 0 in
+      let m = size-small (f .targets) (f .sources) (targets-few d ok) (sources-most d ok) in
       let l = length-append ps (drop (length ps) o) in
-      let d = length-drop (length ps) o in
-      let k : length ps + length all ≤ length o1 = omega (arith, a, m, l, d, h, path-size) in
+      let n = length-drop (length ps) o in
+      let k : length ps + length all ≤ length o1 = omega (arith, a, m, l, n, h, path-size) in
       sets-eq all o1 (length ps) k
       ∙ append-assoc (take (length ps) o1) all (drop (length ps + length all) o1)
       ∙ ap (λ (x : List ℕ). x ++ (all ++ drop (length ps + length all) o1)) (take-at ps (drop (length ps) o) (length ps) refl)
-    where
-      mul-le : (w a b : ℕ) → a ≤ b → w * a ≤ w * b
-      mul-le w a b h = let e : b ≡ a + (b - a) = omega arith in let g : w * b ≡ w * a + w * (b - a) = ap (λ (x : ℕ). w * x) e ∙ omega arith in omega (arith, g)
 
   rows-begun : (rows : Rows) → set rows 0 (row (matrixEntry f (length ps))) ≡ overlay (matrixEntry f (length ps) ∷ []) rows
   unfolding overlay
@@ -269,78 +269,86 @@ module _ (w : ℕ) (f : Figures) (path : List ℕ) (cells : Cells) (few : w ≤ 
   rows-begun (r ∷ rows) = refl
 
   -- what the rows and the octets hold in the end
-  filled-items : (rows : Rows) → 65 ≤ length rows → (o : List ℕ) → 80 + w * 64 ≤ length o
-      → (x : Filled) → withLinks w cells 0 (f .targets) (filled (set rows 0 (row (matrixEntry f (length ps)))) (ps ++ drop (length ps) o) (length ps)) ≡ x
-      → itemsIn (x .octets) (x .rows) (suc (f .targets)) ≡ flat 0 0 (sheetTree w (desk f path cells))
+  abbrev linked : ℕ → Filled → Filled
+  linked n x = withLinks (f .sources) (d .crosspoints) 0 n x
+
+  filled-items : (rows : Rows) → mostRows ≤ length rows → (o : List ℕ) → mostOctets ≤ length o
+      → (x : Filled) → linked (f .targets) (filled (set rows 0 (row (matrixEntry f (length ps)))) (ps ++ drop (length ps) o) (length ps)) ≡ x
+      → itemsIn (x .octets) (x .rows) (suc (f .targets)) ≡ flat 0 0 (sheetTree d)
   filled-items rows h o k x e =
-      let all = allSources w cells 0 (f .targets) in
+      let all = allSources d 0 (f .targets) in
       let o1 = ps ++ drop (length ps) o in
       let back = drop (length ps + length all) o1 in
       let s = ps ++ (all ++ back) in
-      let t = fit-targets-le w f fit in
+      let t = targets-few d ok in
       let items = sheet-content back in
       let y = filled (overlay entries rows) s (length ps + length all) in
       let is : x ≡ y =
       sym e
-      ∙ ap (λ (r : Rows). withLinks w cells 0 (f .targets) (filled r o1 (length ps))) (rows-begun rows)
-      ∙ links-filled w cells (f .targets) 0 (matrixEntry f (length ps) ∷ []) rows o1 (length ps) refl
+      ∙ ap (λ (r : Rows). linked (f .targets) (filled r o1 (length ps))) (rows-begun rows)
+      ∙ links-filled d (f .targets) 0 (matrixEntry f (length ps) ∷ []) rows o1 (length ps) refl
       ∙ ap (λ (z : List ℕ). filled (overlay entries rows) z (length ps + length all)) (octets-put o k) in
       let n : length entries ≡ suc (f .targets) =
-      sym (items-length s entries) ∙ ap length items ∙ flat-length 0 0 (sheetTree w (desk f path cells)) ∙ sheet-count w f path cells in
-      let b : length entries ≤ length rows = omega (arith, n, t, few, h) in
+      sym (items-length s entries) ∙ ap length items ∙ flat-length 0 0 (sheetTree d) ∙ sheet-count d in
+      let b : length entries ≤ length rows = omega (arith, n, t, h) in
       ap (λ (z : Filled). itemsIn (z .octets) (z .rows) (suc (f .targets))) is
       ∙ ap (itemsIn s (overlay entries rows)) (sym n)
-      ∙ rows-items s entries rows (tree-sixteen s entries 0 (sheetTree w (desk f path cells)) (sheet-legal w f path cells few ok) items) b
+      ∙ rows-items s entries rows (tree-sixteen s entries 0 (sheetTree d) (sheet-legal d ok) items) b
       ∙ items
 
   -- as the code goes: r is what `write_oid` answers, m the matrix's row
-  pub entries-put : (rows : Rows) → 65 ≤ length rows → (o : List ℕ) → 80 + w * 64 ≤ length o
+  pub entries-put : (rows : Rows) → mostRows ≤ length rows → (o : List ℕ) → mostOctets ≤ length o
       → {r : Wrote} {o1 : List ℕ} → putOid o 0 path ≡ outcome r o1 → {end : ℕ} → nextOf r ≡ end → {len : ℕ} → len ≡ end
-      → {m : List ℕ} → m ≡ row (matrixEntry f len) → {targets : ℕ} → targets ≡ f .targets
-      → {x : Filled} → withLinks w cells 0 targets (filled (set rows 0 m) o1 end) ≡ x
-      → (itemsIn (x .octets) (x .rows) (targets + 1) ≡ flat 0 0 (sheetTree w (desk f path cells))) × (targets + 1 ≤ 65)
-  entries-put rows h o k {r} {o1} e {end} q {len} j {m} p {targets} c {x} g =
+      → {m : List ℕ} → m ≡ row (matrixEntry f len) → {targets w : ℕ} → targets ≡ f .targets → w ≡ f .sources
+      → {x : Filled} → withLinks w (d .crosspoints) 0 targets (filled (set rows 0 m) o1 end) ≡ x
+      → (itemsIn (x .octets) (x .rows) (targets + 1) ≡ flat 0 0 (sheetTree d)) × (targets + 1 ≤ mostRows)
+  entries-put rows h o k {r} {o1} e {end} q {len} j {m} p {targets} {w} c y {x} g =
       let z : outcome (Next (length ps)) (ps ++ drop (length ps) o) ≡ outcome r o1 = sym (oid-put o (omega (arith, k))) ∙ e in
-      let l : length ps ≡ end = ap (λ (y : Put). nextOf (y .answer)) z ∙ q in
+      let l : length ps ≡ end = ap (λ (v : Put). nextOf (v .answer)) z ∙ q in
       let n : targets + 1 ≡ suc (f .targets) = omega (arith, c) in
-      let t = fit-targets-le w f fit in (
+      let t = targets-few d ok in (
         ap (itemsIn (x .octets) (x .rows)) n
             ∙ filled-items rows h o k x
-            (ap (λ (i : ℕ). withLinks w cells 0 (f .targets) (filled (set rows 0 (row (matrixEntry f i))) (ps ++ drop (length ps) o) i)) l
-            ∙ ap (λ (i : ℕ). withLinks w cells 0 (f .targets) (filled (set rows 0 (row (matrixEntry f i))) (ps ++ drop (length ps) o) end)) (sym j)
-            ∙ ap (λ (y : List ℕ). withLinks w cells 0 (f .targets) (filled (set rows 0 y) (ps ++ drop (length ps) o) end)) (sym p)
-            ∙ ap (λ (y : Put). withLinks w cells 0 (f .targets) (filled (set rows 0 m) (y .out) end)) z
-            ∙ ap (λ (i : ℕ). withLinks w cells 0 i (filled (set rows 0 m) o1 end)) (sym c)
+            (ap (λ (i : ℕ). linked (f .targets) (filled (set rows 0 (row (matrixEntry f i))) (ps ++ drop (length ps) o) i)) l
+            ∙ ap (λ (i : ℕ). linked (f .targets) (filled (set rows 0 (row (matrixEntry f i))) (ps ++ drop (length ps) o) end)) (sym j)
+            ∙ ap (λ (v : List ℕ). linked (f .targets) (filled (set rows 0 v) (ps ++ drop (length ps) o) end)) (sym p)
+            ∙ ap (λ (v : Put). linked (f .targets) (filled (set rows 0 m) (v .out) end)) z
+            ∙ ap (λ (i : ℕ). linked i (filled (set rows 0 m) o1 end)) (sym c)
+            ∙ ap (λ (i : ℕ). withLinks i (d .crosspoints) 0 targets (filled (set rows 0 m) o1 end)) (sym y)
             ∙ g),
-        omega (arith, n, t, few),
+        omega (arith, n, t),
       )
 
   -- .. where the path ends
-  pub path-end : (o : List ℕ) → 80 ≤ length o → {r : Wrote} {o1 : List ℕ} → putOid o 0 path ≡ outcome r o1 → nextOf r ≤ 80
+  pub path-end : (o : List ℕ) → mostPath ≤ length o → {r : Wrote} {o1 : List ℕ} → putOid o 0 path ≡ outcome r o1 → nextOf r ≤ mostPath
   path-end o k {r} {o1} e =
       let l : length ps ≡ nextOf r = ap (λ (y : Put). nextOf (y .answer)) (sym (oid-put o k) ∙ e) in
       omega (arith, l, path-size)
 
-  -- so many cells and targets
-  pub desk-counts : (length cells ≡ w * w) × (f .targets ≤ w)
-  desk-counts = (legal-length w f cells (cells-ok w f path cells few ok), fit-targets-le w f fit)
+  -- so many cells, targets and sources, as the code has them
+  pub desk-counts : {targets w : ℕ} → targets ≡ f .targets → w ≡ f .sources
+      → (length (d .crosspoints) ≡ targets * w) × ((targets ≤ side) × (w ≤ side))
+  desk-counts {targets} {w} c y = (
+    legal-length f (d .crosspoints) (cells-ok d ok) ∙ ap (λ (i : ℕ). i * f .sources) (sym c) ∙ ap (λ (i : ℕ). targets * i) (sym y),
+    (omega (arith, c, targets-few d ok), omega (arith, y, sources-most d ok)),
+  )
 
   -- ---- the message
 
-  pub message-put : (es : List Item) → es ≡ flat 0 0 (sheetTree w (desk f path cells)) → (rows n : ℕ) → n ≤ 65 → 65 ≤ rows
+  pub message-put : (es : List Item) → es ≡ flat 0 0 (sheetTree d) → (rows n : ℕ) → n ≤ mostRows → mostRows ≤ rows
       → (o : List ℕ) → length o ≡ 6144 → {r : Wrote} {o1 : List ℕ} → writes 0 rows n es o ≡ outcome r o1 → {end : ℕ} → nextOf r ≡ end
-      → (take end o1 ≡ sheetMessage w (desk f path cells)) × (end ≤ 6144)
+      → (take end o1 ≡ sheetMessage d) × (end ≤ 6144)
   unfolding sheetMessage
   message-put es e rows n h k o l {r} {o1} g {end} p =
-      let t = sheetTree w (desk f path cells) in
+      let t = sheetTree d in
       let ms = octetsOf writtenReal 0 es in
-      let q : ms ≡ messageOctets writtenReal 0 t = octets-tree 0 t (sheet-legal w f path cells few ok) es e writtenReal in
-      let b : length (messageOctets writtenReal 0 t) ≤ 6108 = sheet-size w f path cells few ok in
+      let q : ms ≡ messageOctets writtenReal 0 t = octets-tree 0 t (sheet-legal d ok) es e writtenReal in
+      let b : length (messageOctets writtenReal 0 t) ≤ 6108 = sheet-size d ok in
       let c = ap length q in
       let i = fits-by writtenReal 0 rows n es (record {
         within = omega (arith, h, k);
         most = omega (arith, h);
-        whole = whole-tree 0 t (sheet-legal w f path cells few ok) es e;
+        whole = whole-tree 0 t (sheet-legal d ok) es e;
         few = omega (arith, b, c);
       }) in
       let z : outcome (Next (length ms)) (ms ++ drop (length ms) o) ≡ outcome r o1 = sym (writes-yes 0 rows n es o i (omega (arith, b, c, l))) ∙ g in

@@ -19,8 +19,8 @@ use Rattle.framing_packets.proofs.Laws.{wrote-none}
 use Rattle.desk_crosspoints.specs.declared.Figures.{Figures}
 use Rattle.desk_crosspoints.specs.Crosspoints.{Cells, rowAt}
 use Rattle.desk_crosspoints.proofs.Under.{take-short}
-use Rattle.sheet_rules.specs.Sheet.{sourcesFrom, sourcesAt}
-use Rattle.sheet_writer.specs.Steps.{oneSource, numberCell, limitCell, listCell, matrixEntry, linkEntry, Filled, filled, withLink, withLinks}
+use Rattle.sheet_rules.specs.Sheet.{sourcesFrom}
+use Rattle.sheet_writer.specs.Steps.{oneSource, numberCell, limitCell, listCell, matrixEntry, linkEntry, Filled, filled, sourcesIn, withLink, withLinks}
 
 -- ---- sources
 
@@ -75,29 +75,29 @@ matrix-put f n total each p q = ap (λ (x : Cell). matrixWords f n x each) (sym 
 -- ---- connections
 
 -- the octets as `put_sources` leaves them, the row as `link_row` gives it; the target's cells as the code takes them
-module _ (cells : Cells) (t : ℕ) where
+module _ (w : ℕ) (cells : Cells) (t : ℕ) where
   abbrev part : Cells
-  part = take (t * 64 + 64 - t * 64) (drop (t * 64) cells)
+  part = take (t * w + w - t * w) (drop (t * w) cells)
 
-  part-is : part ≡ rowAt 64 cells t
+  part-is : part ≡ rowAt w cells t
   unfolding rowAt
-  part-is = let e : t * 64 + 64 - t * 64 ≡ 64 = omega arith in ap (λ (n : ℕ). take n (drop (t * 64) cells)) e
+  part-is = let e : t * w + w - t * w ≡ w = omega arith in ap (λ (n : ℕ). take n (drop (t * w) cells)) e
 
-  pub part-short : length part ≤ 64
-  part-short = omega (arith, take-short (t * 64 + 64 - t * 64) (drop (t * 64) cells))
+  pub part-short : length part ≤ w
+  part-short = omega (arith, take-short (t * w + w - t * w) (drop (t * w) cells))
 
   pub link-put : (rows : Rows) (o : List ℕ) (at : ℕ) {next : ℕ} {o′ : List ℕ} → wrote o at (sourcesFrom 0 part) ≡ record { next = next; output = o′ }
       → {u start n : ℕ} → u ≡ t → start ≡ at → n ≡ next - at → {v : Cell} → listCell start n ≡ v → {r : List ℕ} → r ≡ row (linkEntry u v)
-      → withLink 64 cells t (filled rows o at) ≡ filled (set rows (t + 1) r) o′ next
+      → withLink w cells t (filled rows o at) ≡ filled (set rows (t + 1) r) o′ next
   unfolding withLink wrote
   link-put rows o at {next} {o′} e {u} {start} {n} i j l {v} c {r} q =
-      let ss = sourcesAt 64 cells t in
+      let ss = sourcesIn w cells t in
       let g : wrote o at ss ≡ record { next = next; output = o′ } = ap (λ (x : Cells). wrote o at (sourcesFrom 0 x)) (sym part-is) ∙ e in
       let k : at + length ss ≡ next = ap (λ (x : stores.Wrote). x .next) g in
       let m : length ss ≡ n = omega (arith, k, l) in
-      let w : listCell at (length ss) ≡ v = ap (listCell at) m ∙ ap (λ (x : ℕ). listCell x n) (sym j) ∙ c in
+      let p : listCell at (length ss) ≡ v = ap (listCell at) m ∙ ap (λ (x : ℕ). listCell x n) (sym j) ∙ c in
       let z : row (linkEntry t (listCell at (length ss))) ≡ r
-      = ap (λ (x : Cell). row (linkEntry t x)) w ∙ ap (λ (x : ℕ). row (linkEntry x v)) (sym i) ∙ sym q in
+      = ap (λ (x : Cell). row (linkEntry t x)) p ∙ ap (λ (x : ℕ). row (linkEntry x v)) (sym i) ∙ sym q in
       ap (λ (x : List ℕ). filled (set rows (suc t) (row (linkEntry t (listCell at (length ss))))) x (at + length ss)) (ap (λ (x : stores.Wrote). x .output) g)
       ∙ ap (λ (x : ℕ). filled (set rows (suc t) (row (linkEntry t (listCell at (length ss))))) o′ x) k
       ∙ ap (λ (x : List ℕ). filled (set rows (suc t) x) o′ next) z

@@ -1,4 +1,4 @@
--- The theorems of the route sheet writer, over what the code is proved to answer (`writesSheet`, specs/Calls.antt): for all figures, paths, crosspoints and outputs.
+-- The theorems of the route sheet writer, over what the code is proved to answer (`writesSheet`, specs/Calls.antt): for all desks and outputs.
 use Prim.Native.Nat.{ℕ, _+_, _≤_}
 use mathlib.Core.Path.{_≡_, refl, sym, ap, _∙_}
 use mathlib.Core.List.{List, _++_}
@@ -9,40 +9,33 @@ use lib.ListN.{length, take, drop}
 use Rattle.ber_integers.specs.Digits.{pick}
 use Rattle.framing_packets.specs.Written.{Outcome, into}
 use Rattle.framing_packets.proofs.Laws.{into-back}
-use Rattle.desk_crosspoints.specs.declared.Figures.{Figures}
-use Rattle.desk_crosspoints.specs.Figures.{side}
-use Rattle.desk_crosspoints.specs.Crosspoints.{Cells}
-use Rattle.desk_calls.specs.Calls.{deskLegal}
-use Rattle.sheet_rules.specs.Sheet.{desk, sheetOf}
+use Rattle.desk_crosspoints.specs.Desk.{Desk, deskLegal}
+use Rattle.sheet_rules.specs.Sheet.{sheetOf}
 use Rattle.sheet_rules.specs.Reading.{read, readSheet}
 use Rattle.sheet_rules.proofs.Theorems.{sheet-read}
 use Rattle.sheet_writer.specs.declared.Answer.the-variants.{Setup, Done}
 use Rattle.sheet_writer.specs.Calls.{told, writesSheet}
 use Rattle.sheet_writer.proofs.Answers.{sheet-into, sheet-length}
 
-module _ (f : Figures) (path : List ℕ) (cells : Cells) (out : List ℕ) where
-  done-legal : (u : Bool) (n : ℕ) (out′ : List ℕ)
-      → pick u (into (sheetOf side (desk f path cells)) out) (told Setup out) ≡ told (Done n) out′ → u ≡ true
+module _ (d : Desk) (out : List ℕ) where
+  done-legal : (u : Bool) (n : ℕ) (out′ : List ℕ) → pick u (into (sheetOf d) out) (told Setup out) ≡ told (Done n) out′ → u ≡ true
   done-legal true n out′ e = refl
   done-legal false n out′ e = let z : _≡_ {A = ℕ} 1 0 = ap (λ (x : Outcome). x .number) e in absurd (omega arith)
 
   -- 1. What was written is read as the same desk: figures, limits as given, path and crosspoints.
-  pub written-read : (n : ℕ) (out′ : List ℕ) → writesSheet side f path cells out ≡ told (Done n) out′ → readSheet side (take n out′) ≡ read (desk f path cells)
+  pub written-read : (n : ℕ) (out′ : List ℕ) → writesSheet d out ≡ told (Done n) out′ → readSheet (take n out′) ≡ read d
   unfolding writesSheet
   written-read n out′ e =
-      let ok = done-legal (deskLegal side f path cells) n out′ e in
-      let b : take n out′ ≡ sheetOf side (desk f path cells) =
-      into-back (sheetOf side (desk f path cells)) out out′ n (sym (sheet-into side f path cells out ok) ∙ e) in
-      ap (readSheet side) b ∙ sheet-read (desk f path cells) ok
+      let ok = done-legal (deskLegal d) n out′ e in
+      let b : take n out′ ≡ sheetOf d = into-back (sheetOf d) out out′ n (sym (sheet-into d out ok) ∙ e) in
+      ap readSheet b ∙ sheet-read d ok
 
   -- 2. Every legal desk is written, where the output is as long as its sheet, and the bytes past it stay;
-  pub legal-written : deskLegal side f path cells ≡ true → length (sheetOf side (desk f path cells)) ≤ length out
-      → writesSheet side f path cells out
-      ≡ told (Done (length (sheetOf side (desk f path cells))))
-      (sheetOf side (desk f path cells) ++ drop (length (sheetOf side (desk f path cells))) out)
+  pub legal-written : deskLegal d ≡ true → length (sheetOf d) ≤ length out
+      → writesSheet d out ≡ told (Done (length (sheetOf d))) (sheetOf d ++ drop (length (sheetOf d)) out)
   unfolding into
-  legal-written ok h = sheet-into side f path cells out ok ∙ simp (le-leb _ _ h)
+  legal-written ok h = sheet-into d out ok ∙ simp (le-leb _ _ h)
 
   -- 25,000 bytes are always enough.
-  pub always-enough : deskLegal side f path cells ≡ true → length (sheetOf side (desk f path cells)) ≤ 25000
-  always-enough ok = sheet-length side f path cells (omega arith) ok
+  pub always-enough : deskLegal d ≡ true → length (sheetOf d) ≤ 25000
+  always-enough ok = sheet-length d ok

@@ -3,10 +3,8 @@ use Prim.Native.Nat.{ℕ}
 use mathlib.Core.List.{List}
 use Rattle.ber_integers.specs.Digits.{pick}
 use Rattle.framing_packets.specs.Written.{Outcome, into}
-use Rattle.desk_crosspoints.specs.declared.Figures.{Figures}
-use Rattle.desk_crosspoints.specs.Crosspoints.{Cells}
-use Rattle.desk_calls.specs.Calls.{deskLegal}
-use Rattle.sheet_rules.specs.Sheet.{desk, sheetOf}
+use Rattle.desk_crosspoints.specs.Desk.{Desk, deskLegal}
+use Rattle.sheet_rules.specs.Sheet.{sheetOf}
 use Rattle.sheet_writer.specs.declared.Answer.{Answer}
 use Rattle.sheet_writer.specs.declared.Answer.the-variants.{Setup, Out, Done}
 
@@ -18,5 +16,5 @@ told (Done n) o = record { number = 0; count = n; output = o }
 
 -- "1 SETUP, first of all: .. desk not legal", "1 leaves everything as it was"; else the sheet, or "46 OUT: writer: output too short", which leaves the output
 -- as it was. Bytes past the sheet stay.
-unfoldable pub writesSheet : ℕ → Figures → List ℕ → Cells → List ℕ → Outcome
-writesSheet w f path cells o = pick (deskLegal w f path cells) (into (sheetOf w (desk f path cells)) o) (told Setup o)
+unfoldable pub writesSheet : Desk → List ℕ → Outcome
+writesSheet d o = pick (deskLegal d) (into (sheetOf d) o) (told Setup o)

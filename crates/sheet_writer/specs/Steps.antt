@@ -1,5 +1,5 @@
 -- For the functions of this crate: the rows of a sheet, and beside them the octets of its path and sources.
-use Prim.Native.Nat.{ℕ, zero, suc, _+_}
+use Prim.Native.Nat.{ℕ, zero, suc, _+_, _*_}
 use mathlib.Core.List.{List, [], _∷_}
 use lib.ListN.{length, set}
 use lib.Seq.{sets}
@@ -14,10 +14,21 @@ use Rattle.framing_packets.specs.declared.Written.the-variants as written
 use Rattle.desk_crosspoints.specs.declared.Limit.{Limit}
 use Rattle.desk_crosspoints.specs.declared.Limit.the-variants.{Absent, Most}
 use Rattle.desk_crosspoints.specs.declared.Figures.{Figures}
-use Rattle.desk_crosspoints.specs.Crosspoints.{Cells}
-use Rattle.sheet_rules.specs.Sheet.{sourcesAt}
+use Rattle.desk_crosspoints.specs.Figures.{side}
+use Rattle.desk_crosspoints.specs.Crosspoints.{Cells, rowAt}
+use Rattle.sheet_rules.specs.Sheet.{sourcesFrom}
 use Rattle.sheet_writer.specs.declared.Answer.{Answer}
 use Rattle.sheet_writer.specs.declared.Answer.the-variants as answers
+
+-- the most rows of a sheet, the matrix and a connection for each target; the most octets of a path, 16 numbers of 5; .. and of all sources beside it
+abbrev pub mostRows : ℕ
+mostRows = side + 1
+
+abbrev pub mostPath : ℕ
+mostPath = 80
+
+abbrev pub mostOctets : ℕ
+mostOctets = mostPath + side * side
 
 -- a source by its cell: an octet where it is connected
 abbrev pub oneSource : ℕ → ℕ → List ℕ
@@ -55,12 +66,16 @@ pub record Filled : Type 0 where
 abbrev pub filled : Rows → List ℕ → ℕ → Filled
 filled rows octets next = record { rows = rows; octets = octets; next = next }
 
+-- the sources of target t in rows of w cells
+abbrev pub sourcesIn : ℕ → Cells → ℕ → List ℕ
+sourcesIn w cells t = sourcesFrom 0 (rowAt w cells t)
+
 -- with the connection of target t, and of n targets from t on
 unfoldable pub withLink : ℕ → Cells → ℕ → Filled → Filled
 withLink w cells t x =
-    filled (set (x .rows) (suc t) (row (linkEntry t (listCell (x .next) (length (sourcesAt w cells t))))))
-    (sets (x .octets) (x .next) (sourcesAt w cells t))
-    (x .next + length (sourcesAt w cells t))
+    filled (set (x .rows) (suc t) (row (linkEntry t (listCell (x .next) (length (sourcesIn w cells t))))))
+    (sets (x .octets) (x .next) (sourcesIn w cells t))
+    (x .next + length (sourcesIn w cells t))
 
 unfoldable pub withLinks : ℕ → Cells → ℕ → ℕ → Filled → Filled
 withLinks w cells t zero x = x

@@ -2,12 +2,13 @@
 use ber_integers::Wrote;
 use desk_crosspoints::Figures;
 use desk_crosspoints::Limit;
+use desk_crosspoints::SIDE;
 use framing_writer::Written;
 use glow_rows::Cell;
 ghost use mathlib.Core.Path.{_≡_};
 ghost use mathlib.Core.Bool.{true};
 ghost use mathlib.Core.List.{[], _∷_};
-ghost use Prim.Native.Nat.{_+_, _≤_, _<_};
+ghost use Prim.Native.Nat.{_+_, _*_, _≤_, _<_};
 ghost use lib.ListN.{length, take};
 ghost use Rattle.glow_rows.specs.Entry.{row};
 ghost use Rattle.glow_trees.specs.Rows.{itemsIn};
@@ -16,10 +17,17 @@ ghost use Rattle.framing_packets.specs.Written.{inPackets};
 ghost use Rattle.framing_packets.specs.Stores.{wrote};
 ghost use Rattle.glow_member_sizes.specs.Sizes.{nextOf};
 ghost use Rattle.desk_crosspoints.specs.Figures.{side};
-ghost use Rattle.desk_calls.specs.Calls.{deskLegal};
-ghost use Rattle.sheet_rules.specs.Sheet.{desk, sourcesFrom, sheetTree, sheetMessage};
+ghost use Rattle.desk_crosspoints.specs.Desk.{deskAt, deskLegal};
+ghost use Rattle.sheet_rules.specs.Sheet.{sourcesFrom, sheetTree, sheetMessage};
 ghost use Rattle.sheet_writer.specs.Calls.{told, writesSheet};
-ghost use Rattle.sheet_writer.specs.Steps.{oneSource, limitCell, listCell, matrixEntry, linkEntry, filled, withLink, withLinks, said};
+ghost use Rattle.sheet_writer.specs.Steps.{mostRows, mostPath, mostOctets, oneSource, limitCell, listCell, matrixEntry, linkEntry};
+ghost use Rattle.sheet_writer.specs.Steps.{filled, withLink, withLinks, said};
+
+// The matrix, and a connection for each target.
+const ROWS: usize = SIDE + 1;
+
+// The octets of a path, at most 80, and of all sources.
+const OCTETS: usize = 80 + SIDE * SIDE;
 
 // 1 SETUP, 46 OUT, or how many bytes the sheet has.
 pub enum Answer {
@@ -61,7 +69,7 @@ fn emit(octets: &mut [u8], at: usize, b: u8) -> usize
 
 // A source where its cell is set.
 fn put_source(octets: &mut [u8], at: usize, s: usize, cell: u8) -> usize
-    requires { ⌜ (s < 64) × (at < 65536) ⌝ }
+    requires { ⌜ (s < side) × (at < 65536) ⌝ }
     ensures { λ r. ⌜ wrote (now (octets .entry)) at (oneSource s cell) ≡ record { next = r; output = now (octets .exit) } ⌝ }
     ensures { λ r. ⌜ r ≤ at + 1 ⌝ }
 {
@@ -73,7 +81,7 @@ fn put_source(octets: &mut [u8], at: usize, s: usize, cell: u8) -> usize
 
 // The sources of a target, ascending, an octet each.
 fn put_sources(cells: &[u8], octets: &mut [u8], at: usize) -> usize
-    requires { ⌜ (length (now cells) ≤ 64) × (at + 64 ≤ 65536) ⌝ }
+    requires { ⌜ (length (now cells) ≤ side) × (at + side ≤ 65536) ⌝ }
     ensures { λ r. ⌜ wrote (now (octets .entry)) at (sourcesFrom 0 (now (cells .entry))) ≡ record { next = r; output = now (octets .exit) } ⌝ }
     ensures { λ r. ⌜ r ≤ at + length (now (cells .entry)) ⌝ }
 {
@@ -164,15 +172,23 @@ fn link_row(target: u64, sources: Cell) -> [u64; 50]
     row
 }
 
-// The connection of a target, and the place after its sources.
-fn put_link(cells: &[u8], t: usize, rows: &mut [[u64; 50]], octets: &mut [u8], at: usize) -> usize
-    requires { ⌜ (length (now cells) ≡ 4096) × ((t < 64) × ((length (now rows) ≡ 65) × (at + 64 ≤ 65536))) ⌝ }
-    ensures { λ r. ⌜ withLink side (now (cells .entry)) t (filled (now (rows .entry)) (now (octets .entry)) at)
+// The connection of a target in rows of w cells, and the place after its sources.
+fn put_link(
+    cells: &[u8],
+    w: usize,
+    t: usize,
+    rows: &mut [[u64; 50]],
+    octets: &mut [u8],
+    at: usize,
+) -> usize
+    requires { ⌜ (t * w + w ≤ length (now cells)) × (w ≤ side) ⌝ }
+    requires { ⌜ (t < side) × ((length (now rows) ≡ mostRows) × (at + side ≤ 65536)) ⌝ }
+    ensures { λ r. ⌜ withLink w (now (cells .entry)) t (filled (now (rows .entry)) (now (octets .entry)) at)
         ≡ filled (now (rows .exit)) (now (octets .exit)) r ⌝ }
-    ensures { λ r. ⌜ r ≤ at + 64 ⌝ }
+    ensures { λ r. ⌜ r ≤ at + side ⌝ }
 {
-    let from = t * 64;
-    let to = from + 64;
+    let from = t * w;
+    let to = from + w;
     let next = put_sources(&cells[from..to], octets, at);
     rows[t + 1] = link_row(wide(t), list_cell(wide(at), wide(next - at)));
     next
@@ -181,19 +197,21 @@ fn put_link(cells: &[u8], t: usize, rows: &mut [[u64; 50]], octets: &mut [u8], a
 // Every target.
 fn put_links(
     cells: &[u8],
+    w: usize,
     targets: usize,
     rows: &mut [[u64; 50]],
     octets: &mut [u8],
     at: usize,
 ) -> usize
-    requires { ⌜ (length (now cells) ≡ 4096) × ((targets ≤ 64) × ((length (now rows) ≡ 65) × (at ≤ 80))) ⌝ }
-    ensures { λ r. ⌜ withLinks side (now (cells .entry)) 0 targets (filled (now (rows .entry)) (now (octets .entry)) at)
+    requires { ⌜ (length (now cells) ≡ targets * w) × (w ≤ side) ⌝ }
+    requires { ⌜ (targets ≤ side) × ((length (now rows) ≡ mostRows) × (at ≤ mostPath)) ⌝ }
+    ensures { λ r. ⌜ withLinks w (now (cells .entry)) 0 targets (filled (now (rows .entry)) (now (octets .entry)) at)
         ≡ filled (now (rows .exit)) (now (octets .exit)) r ⌝ }
 {
     let mut next = at;
     let mut t = 0;
     while t < targets {
-        next = put_link(cells, t, rows, octets, next);
+        next = put_link(cells, w, t, rows, octets, next);
         t += 1;
     }
     next
@@ -216,27 +234,28 @@ fn put_entries(
     rows: &mut [[u64; 50]],
     octets: &mut [u8],
 ) -> usize
-    requires { ⌜ deskLegal side f (now path) (now cells) ≡ true ⌝ }
-    requires { ⌜ (length (now rows) ≡ 65) × (length (now octets) ≡ 4176) ⌝ }
-    ensures { λ r. ⌜ itemsIn (now (octets .exit)) (now (rows .exit)) r ≡ flat 0 0 (sheetTree side (desk f (now (path .entry)) (now (cells .entry)))) ⌝ }
-    ensures { λ r. ⌜ r ≤ 65 ⌝ }
+    requires { ⌜ deskLegal (deskAt f (now path) (now cells)) ≡ true ⌝ }
+    requires { ⌜ (length (now rows) ≡ mostRows) × (length (now octets) ≡ mostOctets) ⌝ }
+    ensures { λ r. ⌜ itemsIn (now (octets .exit)) (now (rows .exit)) r ≡ flat 0 0 (sheetTree (deskAt f (now (path .entry)) (now (cells .entry)))) ⌝ }
+    ensures { λ r. ⌜ r ≤ mostRows ⌝ }
 {
     let targets = index(f.targets);
+    let sources = index(f.sources);
     let end = end_of(ber_identifiers::write_oid(path, octets, 0));
     rows[0] = matrix_row(f, wide(end));
-    put_links(cells, targets, rows, octets, end);
+    put_links(cells, sources, targets, rows, octets, end);
     targets + 1
 }
 
 // The message of a sheet.
 fn put_message(f: Figures, path: &[u64], cells: &[u8], message: &mut [u8]) -> usize
-    requires { ⌜ deskLegal side f (now path) (now cells) ≡ true ⌝ }
+    requires { ⌜ deskLegal (deskAt f (now path) (now cells)) ≡ true ⌝ }
     requires { ⌜ length (now message) ≡ 6144 ⌝ }
-    ensures { λ r. ⌜ take r (now (message .exit)) ≡ sheetMessage side (desk f (now (path .entry)) (now (cells .entry))) ⌝ }
+    ensures { λ r. ⌜ take r (now (message .exit)) ≡ sheetMessage (deskAt f (now (path .entry)) (now (cells .entry))) ⌝ }
     ensures { λ r. ⌜ r ≤ 6144 ⌝ }
 {
-    let mut rows = [[0u64; 50]; 65];
-    let mut octets = [0u8; 4176];
+    let mut rows = [[0u64; 50]; ROWS];
+    let mut octets = [0u8; OCTETS];
     let count = put_entries(f, path, cells, &mut rows, &mut octets);
     end_of(glow_writer::write::write(&rows, count, 0, &octets, message))
 }
@@ -264,9 +283,9 @@ fn tell(w: Written) -> Answer
 
 // The sheet of a desk: 1 for a desk that is not legal; 46 where the output is too short. Both leave the output as it was.
 pub fn write(f: Figures, path: &[u64], crosspoints: &[u8], out: &mut [u8]) -> Answer
-    ensures { λ r. ⌜ writesSheet side f (now (path .entry)) (now (crosspoints .entry)) (now (out .entry)) ≡ told r (now (out .exit)) ⌝ }
+    ensures { λ r. ⌜ writesSheet (deskAt f (now (path .entry)) (now (crosspoints .entry))) (now (out .entry)) ≡ told r (now (out .exit)) ⌝ }
 {
-    if !desk_calls::is_legal(f, path, crosspoints) {
+    if !desk_crosspoints::desk_is_legal(f, path, crosspoints) {
         return Answer::Setup;
     }
     let mut message = [0u8; 6144];

@@ -12,7 +12,8 @@ use Rattle.framing_session.specs.Rules.{State, Said, begin, Happening}
 use Rattle.framing_session.specs.Session.{saidBy, stateOf, sessionOf, Legal}
 use Rattle.framing.specs.Offers as offers
 use Rattle.framing.proofs.Chunks.{as-rules, fresh-legal}
-use Rattle.turns.specs.Rules.{Desk, isLegal, keep, Then, Follow, Told, noted, tells, after}
+use Rattle.desk_crosspoints.specs.Desk.{Desk, deskLegal}
+use Rattle.turns.specs.Rules.{keep, Then, Follow, Told, noted, tells, after}
 use Rattle.turns.specs.Turns.{Turn, Turns, none, turn, calls, thenOf, told, AsRules}
 use Rattle.turns.proofs.Octets.{Octets, OctetsIn, happens-octets, begin-octets, octets-here, octets-rest}
 use Rattle.turns.proofs.Events.{toldOf, deskOver, told-noted, desk-noted, tells-are, after-is}
@@ -28,7 +29,7 @@ session-calls (turn c later r x call comes more) = offers.turn c later r call (s
 record Over (rows : ℕ) (d : Desk) (n : ℕ) (ts : List Turn) (d″ : Desk) : Type 0 where
   pub tells : told ts n ≡ toldOf rows d (offers.told (calls ts) n)
   pub desk : d″ ≡ deskOver rows d (offers.told (calls ts) n)
-  pub legal : isLegal d″ ≡ true
+  pub legal : deskLegal d″ ≡ true
 
 module _ (rows : ℕ) (d : Desk) (e : Said) (x : Then) (d′ : Desk) (a : Agrees rows d e x d′) (n : ℕ) (us : List Turn) (d″ : Desk) where
   abbrev hs : List Happening
@@ -44,7 +45,7 @@ module _ (rows : ℕ) (d : Desk) (e : Said) (x : Then) (d′ : Desk) (a : Agrees
   over-desk f = f .desk ∙ ap (λ (y : Follow). deskOver rows (y .desk) hs) (a .same) ∙ sym (desk-noted rows d e n hs)
 
 over : {rows : ℕ} {s s″ : Session} {t t″ : List ℕ} {d d″ : Desk} {rest rest″ : List ℕ} {ts : List Turn} → Turns rows s t d rest ts s″ t″ d″ rest″
-    → (n : ℕ) → isLegal d ≡ true → OctetsIn (offers.told (calls ts) n) → Over rows d n ts d″
+    → (n : ℕ) → deskLegal d ≡ true → OctetsIn (offers.told (calls ts) n) → Over rows d n ts d″
 unfolding toldOf deskOver
 over none n g o = record { tells = refl; desk = refl; legal = g }
 over {rows} {d = d} {d″ = d″} (turn {t′ = t′} {d′ = d′} {ts = us} c later r x call comes more) n g o =
@@ -63,7 +64,7 @@ front (x ∷ xs) ys h = (h .0, front xs ys (h .1))
 
 -- from any legal session and desk
 pub as-rules-from : {rows : ℕ} {s s″ : Session} {t t″ : List ℕ} {d d″ : Desk} {bytes rest : List ℕ} {ts : List Turn} (n : ℕ) → Legal s t
-    → Octets (stateOf s t) → isLegal d ≡ true → Below 256 bytes → Turns rows s t d bytes ts s″ t″ d″ rest
+    → Octets (stateOf s t) → deskLegal d ≡ true → Below 256 bytes → Turns rows s t d bytes ts s″ t″ d″ rest
     → AsRules rows (stateOf s t) d n ts s″ t″ d″ bytes rest
 as-rules-from {rows} {s} {s″} {t} {t″} {d} {d″} {bytes} {rest} {ts} n l p g b turns =
     let f = as-rules (session-calls turns) n l in
@@ -90,5 +91,5 @@ as-rules-from {rows} {s} {s″} {t} {t″} {d} {d″} {bytes} {rest} {ts} n l p 
 -- what the rules tell for the bytes consumed so far; so are the frame, the message and the whole desk that are kept; and each session call consumed the bytes up
 -- to and including its event's, or all that it was offered. Every front of a list of turns is a list of turns, so this holds after each turn.
 pub claim : {rows : ℕ} {s : Session} {t t′ : List ℕ} {d d′ : Desk} {bytes rest : List ℕ} {ts : List Turn} → length t ≡ storeLength
-    → isLegal d ≡ true → Below 256 bytes → Turns rows (sessionOf begin) t d bytes ts s t′ d′ rest → AsRules rows begin d 0 ts s t′ d′ bytes rest
+    → deskLegal d ≡ true → Below 256 bytes → Turns rows (sessionOf begin) t d bytes ts s t′ d′ rest → AsRules rows begin d 0 ts s t′ d′ bytes rest
 claim room g b turns = as-rules-from 0 (fresh-legal room) begin-octets g b turns

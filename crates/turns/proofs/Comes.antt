@@ -17,14 +17,13 @@ use Rattle.glow_reader.specs.declared.Answer.{Answer}
 use Rattle.glow_reader.specs.declared.Answer.the-variants.{Setup, Refused, Room, Read}
 use Rattle.glow_walk.specs.Walk.{walk}
 use Rattle.glow_reader.specs.Message.{Result, result, readOf, readAt, setup}
-use Rattle.desk_crosspoints.specs.Figures.{side}
 use Rattle.desk_crosspoints.specs.Crosspoints.{Cells}
+use Rattle.desk_crosspoints.specs.Desk.{Desk, withCells}
 use Rattle.desk_calls.specs.declared.Called.{Called}
 use Rattle.desk_calls.specs.Calls.{Outcome, called}
 use Rattle.turns.specs.declared.Turned.{Turned}
 use Rattle.turns.specs.declared.After.{After}
 use Rattle.turns.specs.declared.After.the-variants as after
-use Rattle.turns.specs.Rules.{Desk, withCells}
 use Rattle.turns.specs.Turns.{Turn, Comes, ends, reads, serves, Turns, turn}
 use Rattle.turns.specs.Whole.{Left, laterOf, gave, answerTo, readTo, laterAt}
 
@@ -64,7 +63,7 @@ module _ (rows : ℕ) (d : Desk) (t : List ℕ) (table : Rows) (sized : length t
     by-answer (Refused number place) h = reads table (Refused number place) (x .rows) sized (is-result (Refused number place) h) refl
     by-answer (Room count) h = reads table (Room count) (x .rows) sized (is-result (Room count) h) refl
     by-answer (Read root count) h =
-        let o = called side (d .figures) (d .path) root (x .rows) count m (d .crosspoints) in
+        let o = called d root (x .rows) count m in
         serves table root count (x .rows) (answerOf o) (o .cells) sized (is-result (Read root count) h) refl
 
     after-message : After-3 (readTo d m table)
@@ -91,7 +90,7 @@ module _ (d : Desk) where
   answer-said m (Refused number place) table = (after.Refused (Refused number place), refl)
   answer-said m (Room count) table = (after.Refused (Room count), refl)
   answer-said m (Read root count) table =
-      let o = called side (d .figures) (d .path) root table count m (d .crosspoints) in
+      let o = called d root table count m in
       (after.Served root count (o .number) (o .count), refl)
 
   read-said : (m : List ℕ) (table : Rows) → Said (readTo d m table)

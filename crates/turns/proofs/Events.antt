@@ -9,7 +9,8 @@ use Rattle.framing_content.specs.Numbers as numbers
 use Rattle.framing_session.specs.Rules as framing
 use Rattle.framing_session.specs.Rules.{State, Said, step, Happening, happens}
 use Rattle.ber_integers.specs.Digits.{pick}
-use Rattle.turns.specs.Rules.{Desk, keep, Follow, follow, nothing, follows, Told, noted, next, tells, after}
+use Rattle.desk_crosspoints.specs.Desk.{Desk}
+use Rattle.turns.specs.Rules.{keep, Follow, follow, nothing, follows, Told, noted, next, tells, after}
 
 -- what is told of the events, and the desk after them
 unfoldable pub toldOf : ℕ → Desk → List Happening → List Told

@@ -19,16 +19,16 @@ use Rattle.glow_reader.specs.declared.Answer.the-variants.{Read}
 use Rattle.glow_reader.specs.Message.{Result, result, readAt, saidBy as treeSaid}
 use Rattle.glow_trees.specs.Content.{Item}
 use Rattle.glow_trees.specs.Rows.{itemsIn}
-use Rattle.desk_crosspoints.specs.Figures.{side}
 use Rattle.desk_crosspoints.specs.Crosspoints.{Cells, clear}
-use Rattle.desk_calls.specs.Calls.{deskLegal, Served, handled, Outcome, filled, laid, isReady, called, told as answered}
+use Rattle.desk_crosspoints.specs.Desk.{Desk, withCells, deskLegal}
+use Rattle.desk_calls.specs.Calls.{Served, handled, Outcome, filled, laid, isReady, called, told as answered}
 use Rattle.desk_calls.proofs.Setup.{called-ready, ready-from}
 use Rattle.desk_calls.proofs.Claims.{called-legal}
 use Rattle.trees_round_trip.proofs.Theorems.{read-accepted}
 use Rattle.glow_reader.proofs.Answers.{rows-kept}
 use Rattle.trees_round_trip.proofs.Reading.{read-walk}
 use Rattle.trees_round_trip.proofs.Rewriting.{in-rows}
-use Rattle.turns.specs.Rules.{Desk, isLegal, withCells, refusal, treeOf, Then, nothing, served, follow, asked, follows}
+use Rattle.turns.specs.Rules.{refusal, treeOf, Then, nothing, served, follow, asked, follows}
 use Rattle.turns.specs.Turns.{Later, read, desk, isMessage, isRead, Comes, ends, reads, serves, thenOf}
 use Rattle.turns.proofs.Trees.{tree-refused, tree-read}
 
@@ -47,13 +47,13 @@ unfolding follows
 nothing-follows rows d e h = rw h refl
 
 -- "1 SETUP" is not for a legal desk and entries as read: the reader takes no longer table and no longer message
-ready : (s : List ℕ) → Below 256 s → (table : Rows) (root count : ℕ) → readAt s table .answer ≡ Read root count → (d : Desk) → isLegal d ≡ true
-    → isReady side (d .figures) (d .path) root (readAt s table .rows) count s (d .crosspoints) ≡ true
+ready : (s : List ℕ) → Below 256 s → (table : Rows) (root count : ℕ) → readAt s table .answer ≡ Read root count → (d : Desk) → deskLegal d ≡ true
+    → isReady d root (readAt s table .rows) count s ≡ true
 ready s octets table root count h d g =
     let w = read-walk s table root count h in
     let k = rows-kept s table in
     let l = w .most in
-    ready-from side (d .figures) (d .path) root (readAt s table .rows) count s (d .crosspoints) (omega arith) (w .few) g (in-rows s table h .0)
+    ready-from d root (readAt s table .rows) count s (omega arith) (w .few) g (in-rows s table h .0)
     (read-accepted s octets table root count h)
 
 -- what a call that answers z tells
@@ -68,9 +68,9 @@ laid-is z = (refl, refl)
 -- as the rules: what is told, and the desk
 pub record Agrees (rows : ℕ) (d : Desk) (e : framing.Said) (x : Then) (d′ : Desk) : Type 0 where
   pub same : follow x d′ ≡ follows rows d e
-  pub legal : isLegal d′ ≡ true
+  pub legal : deskLegal d′ ≡ true
 
-module _ (rows : ℕ) (d : Desk) (g : isLegal d ≡ true) (n : ℕ) (b : Bool) (t : List ℕ) (octets : Below 256 (take n t)) where
+module _ (rows : ℕ) (d : Desk) (g : deskLegal d ≡ true) (n : ℕ) (b : Bool) (t : List ℕ) (octets : Below 256 (take n t)) where
   abbrev m : List ℕ
   m = take n t
 
@@ -96,18 +96,18 @@ module _ (rows : ℕ) (d : Desk) (g : isLegal d ≡ true) (n : ℕ) (b : Bool) (
       es = itemsIn m table′ count
 
       abbrev z : Served
-      z = handled side (d .figures) (d .path) es (d .crosspoints)
+      z = handled d es
 
       read-follows : follows rows d e ≡ follow (served (treeSaid (Read root count)) es 0 (z .answers)) (withCells d (z .cells))
       read-follows =
           on-message ∙ ap (λ (i : ℕ). asked d (treeOf m i)) (sym k) ∙ ap (asked d) (tree-read m octets table root count h)
 
-      desk-served : (o : Outcome) → called side (d .figures) (d .path) root table′ count m (d .crosspoints) ≡ o
+      desk-served : (o : Outcome) → called d root table′ count m ≡ o
           → Agrees rows d e (thenOf (desk root count table′ o) m) (withCells d (o .cells))
       desk-served o q =
-          let y = called-ready side (d .figures) (d .path) root table′ count m (d .crosspoints) (ready m octets table root count h d g) in
+          let y = called-ready d root table′ count m (ready m octets table root count h d g) in
           let x : laid z ≡ o = sym y ∙ q in
-          let v = called-legal side (d .figures) (d .path) root table′ count m (d .crosspoints) g in
+          let v = called-legal d root table′ count m g in
           let said = treeSaid (Read root count) in
           record {
             same =
@@ -117,19 +117,19 @@ module _ (rows : ℕ) (d : Desk) (g : isLegal d ≡ true) (n : ℕ) (b : Bool) (
                 ∙ ap (λ (ns : List ℕ). follow (served said es 0 ns) (withCells d (laid z .cells))) (laid-tells z)
                 ∙ ap (λ (c : Cells). follow (served said es 0 (z .answers)) (withCells d c)) (laid-is z .1)
                 ∙ sym read-follows;
-            legal = subst (λ (w : Outcome). deskLegal side (d .figures) (d .path) (w .cells) ≡ true) q v;
+            legal = subst (λ (w : Outcome). deskLegal (withCells d (w .cells)) ≡ true) q v;
           }
 
     is-read : (root count : ℕ) (table″ : Rows) → readAt m table ≡ result (Read root count) table″
-        → (o : Outcome) → called side (d .figures) (d .path) root table″ count m (d .crosspoints) ≡ o
+        → (o : Outcome) → called d root table″ count m ≡ o
         → Agrees rows d e (thenOf (desk root count table″ o) m) (withCells d (o .cells))
     is-read root count table″ q o p =
         let h : readAt m table .answer ≡ Read root count = ap (λ (x : Result). x .answer) q in
         let y : readAt m table .rows ≡ table″ = ap (λ (x : Result). x .rows) q in
-        subst (λ (x : Rows). called side (d .figures) (d .path) root x count m (d .crosspoints) ≡ o
+        subst (λ (x : Rows). called d root x count m ≡ o
         → Agrees rows d e (thenOf (desk root count x o) m) (withCells d (o .cells))) y (desk-served root count h o) p
 
-pub comes-as : {rows : ℕ} {e : Event} {t : List ℕ} {d d′ : Desk} {x : Later} → Comes rows e t d x d′ → isLegal d ≡ true → Below 256 (saidBy e t .message)
+pub comes-as : {rows : ℕ} {e : Event} {t : List ℕ} {d d′ : Desk} {x : Later} → Comes rows e t d x d′ → deskLegal d ≡ true → Below 256 (saidBy e t .message)
     → Agrees rows d (saidBy e t) (thenOf x (saidBy e t .message)) d′
 comes-as {rows} {e} {t} {d} (ends h) g o = record { same = sym (nothing-follows rows d (saidBy e t) (other e t h)); legal = g }
 comes-as {rows} {t = t} {d = d} (reads {n = n} {b = b} table a table′ k q h) g o = not-read rows d g n b t o table k a table′ q h
@@ -137,9 +137,9 @@ comes-as {rows} {t = t} {d = d} (serves {n = n} {b = b} table root count table�
     is-read rows d g n b t o table k root count table′ q (answered r cells′) p
 
 -- A legal desk stays legal over a turn, whatever the message holds.
-pub comes-legal : {rows : ℕ} {e : Event} {t : List ℕ} {d d′ : Desk} {x : Later} → Comes rows e t d x d′ → isLegal d ≡ true → isLegal d′ ≡ true
+pub comes-legal : {rows : ℕ} {e : Event} {t : List ℕ} {d d′ : Desk} {x : Later} → Comes rows e t d x d′ → deskLegal d ≡ true → deskLegal d′ ≡ true
 comes-legal (ends h) g = g
 comes-legal (reads table a table′ k q h) g = g
 comes-legal {d = d} (serves table root count table′ r cells′ k q p) g =
-    subst (λ (c : Cells). deskLegal side (d .figures) (d .path) c ≡ true) (ap (λ (o : Outcome). o .cells) p)
-    (called-legal side (d .figures) (d .path) root table′ count _ (d .crosspoints) g)
+    subst (λ (c : Cells). deskLegal (withCells d c) ≡ true) (ap (λ (o : Outcome). o .cells) p)
+    (called-legal d root table′ count _ g)

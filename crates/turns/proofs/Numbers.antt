@@ -15,18 +15,17 @@ use Rattle.glow_trees.specs.Trees.{flat, treesOf}
 use Rattle.glow_member_sizes.specs.Spelling.{leastReal}
 use Rattle.glow_sizes.specs.Accepted.{accepted, isWhole, octetsOf}
 use Rattle.trees_round_trip.proofs.Writing.{made}
-use Rattle.desk_crosspoints.specs.declared.Figures.{Figures}
-use Rattle.desk_crosspoints.specs.Figures.{side}
-use Rattle.desk_crosspoints.specs.Crosspoints.{Cells, clear}
+use Rattle.desk_crosspoints.specs.Crosspoints.{clear}
+use Rattle.desk_crosspoints.specs.Desk.{Desk}
 use Rattle.desk_connections.specs.Connections.{Ask, asksOf}
 use Rattle.desk_connections.proofs.Paths.{right, asks-down}
 use Rattle.desk_connections.proofs.Operations.{Operations, legal-operations}
-use Rattle.desk_calls.specs.Calls.{Outcome, requests, served, handled, isReady, called}
-use Rattle.desk_calls.specs.Steps.{has}
+use Rattle.desk_requests.specs.Lists.{has}
+use Rattle.desk_calls.specs.Calls.{Outcome, handled, isReady, called}
 use Rattle.desk_calls.specs.Numbers.{callNumbers, answerNumbers, allHas}
-use Rattle.desk_calls.proofs.Setup.{desk-legal, called-not, called-ready, ready-tells}
+use Rattle.desk_crosspoints.proofs.Paths.{desk-legal}
+use Rattle.desk_calls.proofs.Setup.{called-not, called-ready, ready-tells}
 use Rattle.desk_calls.proofs.Numbers.{served-numbers, call-numbers}
-use Rattle.turns.specs.Rules.{Desk}
 use Rattle.turns.specs.Turns.{Later, none, read, desk, Comes, ends, reads, serves}
 use Rattle.turns.proofs.Follows.{laid-tells}
 
@@ -42,29 +41,29 @@ accepted-operations root es h =
     let t = treesOf root es .trees in
     subst Operations (sym (asks-down root t (m .legals)) ∙ ap asksOf (m .entries)) (legal-operations root t (m .legals))
 
-module _ (w : ℕ) (f : Figures) (path : List ℕ) (root : ℕ) (rows : Rows) (n : ℕ) (s : List ℕ) (cells : Cells) where
+module _ (d : Desk) (root : ℕ) (rows : Rows) (n : ℕ) (s : List ℕ) where
   abbrev done : Outcome
-  done = called w f path root rows n s cells
+  done = called d root rows n s
 
   abbrev es : List Item
   es = itemsIn s rows n
 
-  handled-numbers : isReady w f path root rows n s cells ≡ true → allHas answerNumbers (handled w f path es cells .answers) ≡ true
+  handled-numbers : isReady d root rows n s ≡ true → allHas answerNumbers (handled d es .answers) ≡ true
   unfolding handled
   handled-numbers h =
-      let r = ready-tells w f path root rows n s cells h in
-      served-numbers w f path (asksOf es) cells (desk-legal w f path cells (r .0)) (accepted-operations root es (r .1))
+      let r = ready-tells d root rows n s h in
+      served-numbers d (asksOf es) (desk-legal d (r .0)) (accepted-operations root es (r .1))
 
   -- "call": each answer is 0 or 40 to 44 (its number: `call-numbers`)
   pub call-answers : allHas answerNumbers (take (done .count) (done .answers)) ≡ true
   unfolding allHas
-  call-answers = go (isReady w f path root rows n s cells) refl
+  call-answers = go (isReady d root rows n s) refl
     where
-      go : (u : Bool) → isReady w f path root rows n s cells ≡ u → allHas answerNumbers (take (done .count) (done .answers)) ≡ true
+      go : (u : Bool) → isReady d root rows n s ≡ u → allHas answerNumbers (take (done .count) (done .answers)) ≡ true
       go true e =
-          ap (λ (o : Outcome). allHas answerNumbers (take (o .count) (o .answers))) (called-ready w f path root rows n s cells e)
-          ∙ ap (allHas answerNumbers) (laid-tells (handled w f path es cells)) ∙ handled-numbers e
-      go false e = ap (λ (o : Outcome). allHas answerNumbers (take (o .count) (o .answers))) (called-not w f path root rows n s cells e)
+          ap (λ (o : Outcome). allHas answerNumbers (take (o .count) (o .answers))) (called-ready d root rows n s e)
+          ∙ ap (allHas answerNumbers) (laid-tells (handled d es)) ∙ handled-numbers e
+      go false e = ap (λ (o : Outcome). allHas answerNumbers (take (o .count) (o .answers))) (called-not d root rows n s e)
 
 -- of what came after a session's call: the desk's number and its answers
 abbrev pub Numbered : Later → Type 0
@@ -78,6 +77,6 @@ turn-numbers (ends h) = tt
 turn-numbers (reads table a table′ k q h) = tt
 turn-numbers {t = t} {d = d} (serves {n = n} table root count table′ r cells′ k q p) =
     subst (λ (o : Outcome). (has callNumbers (o .number) ≡ true) × (allHas answerNumbers (take (o .count) (o .answers)) ≡ true)) p (
-      call-numbers side (d .figures) (d .path) root table′ count (take n t) (d .crosspoints),
-      call-answers side (d .figures) (d .path) root table′ count (take n t) (d .crosspoints),
+      call-numbers d root table′ count (take n t),
+      call-answers d root table′ count (take n t),
     )

@@ -13,7 +13,8 @@ use Rattle.framing.specs.Offers as offers
 use Rattle.framing.proofs.Chunks.{fresh-legal}
 use Rattle.framing.proofs.Calls as framing
 use Rattle.glow_rows.specs.Entry.{Rows}
-use Rattle.turns.specs.Rules.{Desk, isLegal, withCells, keep, tells, after}
+use Rattle.desk_crosspoints.specs.Desk.{Desk, withCells, deskLegal}
+use Rattle.turns.specs.Rules.{keep, tells, after}
 use Rattle.turns.specs.Turns.{Turn, Turns, none, turn, calls, told, Consumed}
 use Rattle.turns.specs.Whole.{laterAt}
 use Rattle.turns.proofs.Claim.{claim}
@@ -59,7 +60,7 @@ module _ (rows : ℕ) (tables : ℕ → Rows) (sized : (i : ℕ) → length (tab
   -- of one length the turns are given, there is a list of turns from a fresh session that offers the chunks, each until it is
   -- consumed; it tells exactly what the rules tell for the stream, and the frame, the message and the desk that it leaves are those that the rules keep.
   pub every-cut : (bytes : List ℕ) → Below 256 bytes → (chunks : List (List ℕ)) → offers.joined chunks ≡ bytes → (t : List ℕ) → length t ≡ storeLength
-      → (d : Desk) → isLegal d ≡ true
+      → (d : Desk) → deskLegal d ≡ true
       → (k : Consumed rows (sessionOf begin) t d chunks)
       × ((told (k .turns) 0 ≡ tells rows (keep begin d) 0 bytes) × (keep (stateOf (k .session) (k .store)) (k .desk) ≡ after rows (keep begin d) bytes))
   every-cut bytes b chunks e t room d g =

@@ -17,11 +17,10 @@ use Rattle.glow_reader.proofs.Answer as answer
 use Rattle.glow_reader.specs.declared.Answer.{Answer}
 use Rattle.glow_reader.specs.declared.Answer.the-variants.{Setup, Refused, Room, Read}
 use Rattle.glow_reader.specs.Message.{Result, result, readAt}
-use Rattle.desk_crosspoints.specs.Figures.{side}
 use Rattle.desk_crosspoints.specs.Crosspoints.{Cells}
+use Rattle.desk_crosspoints.specs.Desk.{Desk}
 use Rattle.desk_calls.specs.declared.Called.{Called}
 use Rattle.desk_calls.specs.Calls.{called, told as answered}
-use Rattle.turns.specs.Rules.{Desk}
 use Rattle.turns.specs.Turns.{none, read, desk, isMessage, isRead}
 use Rattle.turns.specs.Whole.{Left, left, unasked, deskTo, answerTo, readTo, laterAt}
 
@@ -85,7 +84,7 @@ to-refused d m table a table′ q h = to-answer d m table a table′ q ∙ refus
 
 pub to-served : (d : Desk) (m : List ℕ) (table : Rows) (a : Answer) (table′ : Rows) (root count : ℕ) (r : Called) (cells′ : Cells)
     → readAt m table ≡ result a table′ → a ≡ Read root count
-    → called side (d .figures) (d .path) root table′ count m (d .crosspoints) ≡ answered r cells′
+    → called d root table′ count m ≡ answered r cells′
     → readTo d m table ≡ left (desk root count table′ (answered r cells′)) (r .answers) table′ cells′
 to-served d m table a table′ root count r cells′ q h k =
     to-answer d m table a table′ q ∙ ap (λ (x : Answer). answerTo d m x table′) h ∙ ap (deskTo root count table′) k

@@ -26,11 +26,11 @@ use Rattle.glow_walk.specs.Walk.{finished, walk}
 use Rattle.glow_reader.specs.Message.{setup, saidBy}
 use Rattle.glow_trees.specs.Content.{Content, nothing as absent, word, bytes, Item, item, contentOf, contentsOf as contentsIn, itemsOf}
 use Rattle.desk_crosspoints.specs.declared.Figures.{Figures}
-use Rattle.desk_crosspoints.specs.Figures.{side}
 use Rattle.desk_crosspoints.specs.Crosspoints.{Cells}
+use Rattle.desk_crosspoints.specs.Desk.{Desk}
 use Rattle.desk_connections.specs.Connections.{numbersIn, isQualified, pathUp, askOf, asksIn, same}
 use Rattle.desk_calls.specs.Calls.{answered, Served, served as servedIn, handled}
-use Rattle.turns.specs.Rules.{Desk, keep, treeOf, Then, nothing, refused, served, follows, Told, tells, after}
+use Rattle.turns.specs.Rules.{keep, treeOf, Then, nothing, refused, served, follows, Told, tells, after}
 
 abbrev desk : Figures → Cells → Desk
 desk f cells = record { figures = f; path = 1 ∷ 5 ∷ []; crosspoints = cells }
@@ -97,7 +97,7 @@ v-other f cells = (refl, refl)
 -- Two messages, targets 0 and 2 of this matrix: each is asked of the desk (its answers by computation: crates/desk_calls/proofs/Vectors.antt), which is
 -- handed on from message to message.
 abbrev done : Figures → ℕ → Cells → Served
-done f t cells = handled side f (1 ∷ 5 ∷ []) (entriesOf 5 t) cells
+done f t cells = handled (desk f cells) (entriesOf 5 t)
 
 pub v-on : (f : Figures) (cells : Cells)
     → (tells 2 (keep begin (desk f cells)) 0 (framed (asks 5 0) 0xf0 0x0b ++ framed (asks 5 2) 0xa6 0x03)

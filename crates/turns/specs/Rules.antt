@@ -2,7 +2,6 @@
 -- desk. They start outside frames, no message open, and keep the open frame or stray run, the open message and the desk". They know no chunk, no session,
 -- no store, and of the table its length alone.
 use Prim.Native.Nat.{ℕ, _+_}
-use mathlib.Core.Bool.{Bool}
 use mathlib.Core.List.{List, [], _∷_}
 use lib.Dec.{ltb, eqb}
 use lib.ListN.{length}
@@ -14,22 +13,8 @@ use Rattle.glow_reader.specs.declared.Answer.the-variants.{Setup, Refused, Room
 use Rattle.glow_walk.specs.Walk.{walk}
 use Rattle.glow_reader.specs.Message.{setup, saidBy, Said as TreeSaid}
 use Rattle.glow_trees.specs.Content.{Item, itemsOf}
-use Rattle.desk_crosspoints.specs.declared.Figures.{Figures}
-use Rattle.desk_crosspoints.specs.Figures.{side}
-use Rattle.desk_crosspoints.specs.Crosspoints.{Cells}
-use Rattle.desk_calls.specs.Calls.{deskLegal, Served, handled}
-
--- The desk: figures, path and crosspoints.
-pub record Desk : Type 0 where
-  pub figures : Figures
-  pub path : List ℕ
-  pub crosspoints : Cells
-
-abbrev pub isLegal : Desk → Bool
-isLegal d = deskLegal side (d .figures) (d .path) (d .crosspoints)
-
-abbrev pub withCells : Desk → Cells → Desk
-withCells d cells = record { figures = d .figures; path = d .path; crosspoints = cells }
+use Rattle.desk_crosspoints.specs.Desk.{Desk, withCells}
+use Rattle.desk_calls.specs.Calls.{Served, handled}
 
 -- What the rules keep: "the open frame or stray run, the open message" (framing's state) "and the desk".
 pub record Kept : Type 0 where
@@ -82,7 +67,7 @@ servedBy d e es z = follow (served e es 0 (z .answers)) (withCells d (z .cells))
 
 -- "A message's connections are taken in order, each answered, also after a refused one."; "30 to 38 leave .. desk .. as they were"
 abbrev pub asked : Desk → Tree → Follow
-asked d (entries e es) = servedBy d e es (handled side (d .figures) (d .path) es (d .crosspoints))
+asked d (entries e es) = servedBy d e es (handled d es)
 asked d (refusal e) = follow (refused e) d
 
 -- "Only a finished message goes on to the tree reader."

@@ -18,11 +18,11 @@ use Rattle.glow_reader.specs.declared.Answer.{Answer}
 use Rattle.glow_reader.specs.declared.Answer.the-variants.{Setup, Refused, Room, Read}
 use Rattle.glow_reader.specs.Message.{result, readAt, saidBy as treeSaid}
 use Rattle.glow_trees.specs.Rows.{itemsIn}
-use Rattle.desk_crosspoints.specs.Figures.{side}
 use Rattle.desk_crosspoints.specs.Crosspoints.{Cells}
+use Rattle.desk_crosspoints.specs.Desk.{Desk, withCells, deskLegal}
 use Rattle.desk_calls.specs.declared.Called.{Called}
 use Rattle.desk_calls.specs.Calls.{Outcome, called, told as answered}
-use Rattle.turns.specs.Rules.{Desk, isLegal, withCells, keep, Then, nothing, refused, served, Told, noted, tells, after}
+use Rattle.turns.specs.Rules.{keep, Then, nothing, refused, served, Told, noted, tells, after}
 
 -- What came after the session's call: nothing; the tree reader's answer, other than 0, and the table after it; its answer 0 (Root's kind and how many
 -- entries), the table after it, and the desk's answer with the crosspoints after it.
@@ -65,7 +65,7 @@ pub data Comes (rows : ℕ) : Event → List ℕ → Desk → Later → Desk →
   -- it gives 0, and then the desk's call on those entries, as read, the message beside them
   serves : {t : List ℕ} {d : Desk} {n : ℕ} {b : Bool} (table : Rows) (root count : ℕ) (table′ : Rows) (r : Called) (cells′ : Cells)
       → length table ≡ rows → readAt (take n t) table ≡ result (Read root count) table′
-      → called side (d .figures) (d .path) root table′ count (take n t) (d .crosspoints) ≡ answered r cells′
+      → called d root table′ count (take n t) ≡ answered r cells′
       → Comes rows (ev.Message n b) t d (desk root count table′ (answered r cells′)) (withCells d cells′)
 
 -- A list of turns from the session s, the store t and the desk d, with the bytes rest yet to come. Each turn takes the session, the store and the desk that
@@ -112,7 +112,7 @@ pub record AsRules (rows : ℕ) (s : State) (d : Desk) (n : ℕ) (ts : List Turn
   -- one that gave an event consumed the bytes up to and including that event's
   pub stops : offers.Stops s (calls ts)
   -- what the turns leave is fit for others
-  pub legal : isLegal d″ ≡ true
+  pub legal : deskLegal d″ ≡ true
   pub session-legal : Legal s″ t″
 
 -- Some list of turns, from the session s, the store t and the desk d, offers these chunks, each until it is consumed, and consumes them whole.

@@ -8,17 +8,12 @@ use Rattle.glow_rows.specs.Entry.{Rows}
 use Rattle.glow_reader.specs.declared.Answer.{Answer}
 use Rattle.glow_reader.specs.declared.Answer.the-variants.{Setup, Refused, Room, Read}
 use Rattle.glow_reader.specs.Message.{Result, readAt}
-use Rattle.desk_crosspoints.specs.declared.Figures.{Figures}
-use Rattle.desk_crosspoints.specs.Figures.{side}
 use Rattle.desk_crosspoints.specs.Crosspoints.{Cells, clear}
+use Rattle.desk_crosspoints.specs.Desk.{Desk}
 use Rattle.desk_calls.specs.Calls.{Outcome, outcome, called}
 use Rattle.turns.specs.declared.After.{After}
 use Rattle.turns.specs.declared.After.the-variants as after
-use Rattle.turns.specs.Rules.{Desk}
 use Rattle.turns.specs.Turns.{Later, none, read, desk}
-
-abbrev pub deskAt : Figures → List ℕ → Cells → Desk
-deskAt f path cells = record { figures = f; path = path; crosspoints = cells }
 
 -- What came after the session's call, the answers, and the table and the crosspoints after it.
 pub record Left : Type 0 where
@@ -53,7 +48,7 @@ abbrev pub answerTo : Desk → List ℕ → Answer → Rows → Left
 answerTo d m Setup table = unasked (read Setup table) table (d .crosspoints)
 answerTo d m (Refused number place) table = unasked (read (Refused number place) table) table (d .crosspoints)
 answerTo d m (Room count) table = unasked (read (Room count) table) table (d .crosspoints)
-answerTo d m (Read root count) table = deskTo root count table (called side (d .figures) (d .path) root table count m (d .crosspoints))
+answerTo d m (Read root count) table = deskTo root count table (called d root table count m)
 
 -- the tree reader's call on a message
 unfoldable pub readTo : Desk → List ℕ → Rows → Left

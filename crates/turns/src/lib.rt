@@ -8,7 +8,8 @@ ghost use mathlib.Core.Path.{_≡_};
 ghost use Prim.Native.Nat.{_≤_};
 ghost use lib.ListN.{length, take};
 ghost use Rattle.framing_session.specs.Session.{feeds, answers};
-ghost use Rattle.turns.specs.Whole.{deskAt, gave, readTo, laterAt};
+ghost use Rattle.desk_crosspoints.specs.Desk.{deskAt};
+ghost use Rattle.turns.specs.Whole.{gave, readTo, laterAt};
 
 // What came after the session's call: nothing; the tree reader's answer, other than 0; its answer 0, the desk's number and how many connections it answered.
 pub enum After {

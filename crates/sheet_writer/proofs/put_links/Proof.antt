@@ -3,27 +3,33 @@ use Prim.Native.Nat.{_≤_, _+_, _-_, _*_}
 use mathlib.Core.Path.{_≡_, refl, _∙_}
 use native.Mathlib.Omega.{arith}
 use lib.ListN.{length}
+use Rattle.desk_crosspoints.specs.Figures.{side}
+use Rattle.desk_crosspoints.proofs.Under.{rows-apart}
 use Rattle.sheet_writer.specs.Steps.{filled, withLinks}
 use Rattle.sheet_writer.proofs.Laws.{links-begin, links-more, links-end}
 use Rattle.sheet_writer.proofs.put_links.Statement.{statement}
 use Rattle.sheet_writer.proofs.put_links.Tie as tie
 
 abbrev Inv-loop : tie.InvT-loop
-Inv-loop cells targets rows₀ octets₀ at next₀ t₀ rows octets next t =
+Inv-loop cells w targets rows₀ octets₀ at next₀ t₀ rows octets next t =
     (t ≤ targets)
-    × ((next ≤ at + t * 64)
+    × ((next ≤ at + t * side)
     × ((length rows ≡ length rows₀)
     × ((length octets ≡ length octets₀)
-    × (withLinks 64 cells 0 targets (filled rows₀ octets₀ at) ≡ withLinks 64 cells t (targets - t) (filled rows octets next)))))
+    × (withLinks w cells 0 targets (filled rows₀ octets₀ at) ≡ withLinks w cells t (targets - t) (filled rows octets next)))))
 
 abbrev μ-loop : tie.MeasureT-loop
-μ-loop cells targets rows₀ octets₀ at next₀ t₀ rows octets next t = targets - t
+μ-loop cells w targets rows₀ octets₀ at next₀ t₀ rows octets next t = targets - t
 
 loop-holds : tie.Need-loop-holds Inv-loop μ-loop
 loop-holds c = (omega arith, (omega arith, (refl, (refl, links-begin _ _ _ 0 _))))
 
 put-link-requires : tie.Need-put-link-requires Inv-loop μ-loop
-put-link-requires c κs = omega arith
+put-link-requires c κs =
+    let the-Start = c .before .before .before .before .before .before in
+    let the-loop = c .before .before .before .loop in
+    let the-loop-test = c .before .before .loop-test in
+    let a = rows-apart (the-loop .t) (the-Start .args .targets) (the-Start .args .w) (the-loop-test .taken) in ((omega (arith, a, the-Start .pre .0 .0), the-Start .pre .0 .1), omega arith)
 
 add-t : tie.Need-add-t Inv-loop μ-loop
 add-t c = omega arith
@@ -40,8 +46,8 @@ loop-again c =
       (
         omega arith,
         (
-          p .kept .1 .1 .0 ∙ l .inv .1 .1 .0,
-          (p .kept .1 .1 .1 .0 ∙ l .inv .1 .1 .1 .0, l .inv .1 .1 .1 .1 ∙ links-more _ _ _ _ h _ _ (p .ensures .0)),
+          p .kept .1 .1 .1 .0 ∙ l .inv .1 .1 .0,
+          (p .kept .1 .1 .1 .1 .0 ∙ l .inv .1 .1 .1 .0, l .inv .1 .1 .1 .1 ∙ links-more _ _ _ _ h _ _ (p .ensures .0)),
         ),
       ),
     )

@@ -1,4 +1,5 @@
 use native.Mathlib.Omega.{arith}
+use Rattle.desk_crosspoints.specs.Desk.{deskAt}
 use Rattle.sheet_writer.proofs.Entries.{message-put}
 use borrow.Author.Needs.{needs}
 use Rattle.sheet_writer.proofs.put_message.Statement.{statement}
@@ -34,7 +35,7 @@ returns c =
     let the-put-entries = c .before .before .before .before .before .before .before .before .before .put-entries in
     let the-write = c .before .before .before .write in
     let the-end-of = c .end-of in
-    message-put 64 (the-Start .args .f) (the-Start .args .path .now) (the-Start .args .cells .now) (omega arith) (the-Start .pre .0)
+    message-put (deskAt (the-Start .args .f) (the-Start .args .path .now) (the-Start .args .cells .now)) (the-Start .pre .0)
     _ (the-put-entries .ensures .0) _ _ (the-put-entries .ensures .1) (omega (arith, the-put-entries .kept .1 .1 .1 .0))
     _ (the-Start .pre .1) (the-write .ensures) (the-end-of .ensures)
 

@@ -8,21 +8,21 @@ use borrow.Author.Needs.{needs}
 use Rattle.sheet_writer.proofs.write.Statement.{statement}
 use Rattle.sheet_writer.proofs.write.Tie as tie
 
-is-legal-requires : tie.Need-is-legal-requires
-is-legal-requires c κs = search needs
+desk-is-legal-requires : tie.Need-desk-is-legal-requires
+desk-is-legal-requires c κs = search needs
 
 returns : tie.Need-returns
 returns c =
-    let the-is-legal = c .before .is-legal in
-    sheet-setup 64 _ _ _ _ (the-is-legal .ensures ∙ not-true _ (c .if1 .taken))
+    let the-desk-is-legal = c .before .desk-is-legal in
+    sheet-setup _ _ (the-desk-is-legal .ensures ∙ not-true _ (c .if1 .taken))
 
 slice-aggregate-put-message : tie.Need-slice-aggregate-put-message
 slice-aggregate-put-message c = search needs
 
 put-message-requires : tie.Need-put-message-requires
 put-message-requires c κs =
-    let the-is-legal = c .before .before .is-legal in
-    (the-is-legal .ensures ∙ not-false _ (c .before .if1 .left), refl)
+    let the-desk-is-legal = c .before .before .desk-is-legal in
+    (the-desk-is-legal .ensures ∙ not-false _ (c .before .if1 .left), refl)
 
 array-share-prefix-message : tie.Need-array-share-prefix-message
 array-share-prefix-message c = search needs
@@ -63,18 +63,18 @@ same-length c = search needs
 
 returns-2 : tie.Need-returns-2
 returns-2 c =
-    let the-is-legal = c .before .before .before .before .before .before .before .before .before .before .before .before .before .before .is-legal in
+    let the-desk-is-legal = c .before .before .before .before .before .before .before .before .before .before .before .before .before .before .desk-is-legal in
     let the-put-message = c .before .before .before .before .before .before .before .before .before .before .before .put-message in
     let the-put-frames = c .before .before .before .before .before .before .before .put-frames in
     let the-write-lines = c .before .before .before .write-lines in
-    sheet-put 64 _ _ _ _ (omega arith) (the-is-legal .ensures ∙ not-false _ (c .before .before .before .before .before .before .before .before .before .before .before .before .before .if1 .left)) (the-put-message .ensures .0) (the-put-frames .ensures .0)
+    sheet-put _ _ (the-desk-is-legal .ensures ∙ not-false _ (c .before .before .before .before .before .before .before .before .before .before .before .before .before .if1 .left)) (the-put-message .ensures .0) (the-put-frames .ensures .0)
     (the-write-lines .result) (the-write-lines .last .1 .0) (the-write-lines .ensures) (c .tell .ensures)
 
 pub write-spec : {M : Type 1} → statement M
 write-spec =
     tie.close
     (tie.spec
-    is-legal-requires
+    desk-is-legal-requires
     returns
     slice-aggregate-put-message
     put-message-requires

@@ -1,7 +1,7 @@
 use Rattle.turns.proofs.Steps.{other-event, later-none, later-message}
 use lib.Seq.{length-take-le}
 use mathlib.Core.Path.{sym}
-use Rattle.turns.specs.Whole.{deskAt}
+use Rattle.desk_crosspoints.specs.Desk.{deskAt}
 use Rattle.desk_crosspoints.specs.Crosspoints.{clear}
 use borrow.Author.Needs.{needs}
 use Rattle.turns.proofs.turn.Statement.{statement}
