@@ -6,6 +6,7 @@ use mathlib.Core.Bool.{Bool}
 use lib.ListN.{getD}
 use lib.Dec.{leb, eqb}
 use Rattle.ber_integers.specs.Digits.{pick}
+pub use Rattle.glow_rows.specs.Kind.{parameter, command, node, matrix, qualifiedParameter, qualifiedNode, qualifiedMatrix, connection, streamEntry}
 
 -- What stands at a member.
 abbrev pub no : ℕ
@@ -56,34 +57,7 @@ kids = 14  -- children, an ElementCollection (application 4)
 abbrev pub links : ℕ
 links = 15  -- connections, a sequence (universal 16)
 
--- The kinds of entries, and the contents: each has a row of members.
-abbrev pub parameter : ℕ
-parameter = 1
-
-abbrev pub command : ℕ
-command = 2
-
-abbrev pub node : ℕ
-node = 3
-
-abbrev pub matrix : ℕ
-matrix = 4
-
-abbrev pub qualifiedParameter : ℕ
-qualifiedParameter = 5
-
-abbrev pub qualifiedNode : ℕ
-qualifiedNode = 6
-
-abbrev pub qualifiedMatrix : ℕ
-qualifiedMatrix = 7
-
-abbrev pub connection : ℕ
-connection = 8
-
-abbrev pub streamEntry : ℕ
-streamEntry = 9
-
+-- The kinds of entries (crates/glow_rows/specs/Kind.antt) and the contents: each has a row of members.
 abbrev pub parameterContents : ℕ
 parameterContents = 10
 

@@ -10,6 +10,26 @@ use Rattle.ber_values.specs.declared.Value.{Value}
 use Rattle.ber_values.specs.declared.Value.the-variants.{Absent, Int, Real, Text, Bool as Truth, Octets}
 use Rattle.glow_rows.specs.declared.Cell.{Cell}
 
+-- universal tag numbers
+abbrev pub boolean : ℕ
+boolean = 1
+
+abbrev pub integer : ℕ
+integer = 2
+
+abbrev pub octets : ℕ
+octets = 4
+
+abbrev pub real : ℕ
+real = 9
+
+abbrev pub text : ℕ
+text = 12
+
+-- a relative identifier
+abbrev pub numbers : ℕ
+numbers = 13
+
 abbrev pub cell : ℕ → ℕ → ℕ → Cell
 cell k a b = record { kind = k; first = a; second = b }
 
@@ -28,12 +48,12 @@ bitOf false = 0
 -- texts and octets by start and length in the message, a real by its bits; what is no number is no value
 abbrev pub cellOf : Value → Cell
 cellOf Absent = absent
-cellOf (Int z) = cell 2 (wordOf z) 0
-cellOf (Real x) = pick (Ieee.isNan x) absent (cell 9 (Ieee.toBits binary64 x) 0)
-cellOf (Text start len) = cell 12 start len
-cellOf (Truth b) = cell 1 (bitOf b) 0
-cellOf (Octets start len) = cell 4 start len
+cellOf (Int z) = cell integer (wordOf z) 0
+cellOf (Real x) = pick (Ieee.isNan x) absent (cell real (Ieee.toBits binary64 x) 0)
+cellOf (Text start len) = cell text start len
+cellOf (Truth b) = cell boolean (bitOf b) 0
+cellOf (Octets start len) = cell octets start len
 
 -- a relative identifier: a path, or the sources of a connection
 abbrev pub numbersCell : ℕ → ℕ → Cell
-numbersCell start len = cell 13 start len
+numbersCell start len = cell numbers start len

@@ -1,4 +1,8 @@
 // Entries of the Glow tree as rows of words.
+pub mod kinds;
+pub mod places;
+pub mod tags;
+
 use ber_values::Value;
 ghost use mathlib.Core.Path.{_≡_};
 ghost use Rattle.glow_rows.specs.Cell.{cellOf, bitOf, wordOf};
@@ -49,20 +53,20 @@ pub fn cell_of(v: Value) -> Cell
 {
     match v {
         Value::Absent => Cell {
-            kind: 0,
+            kind: tags::ABSENT,
             first: 0,
             second: 0,
         },
         Value::Int(x) => int_cell(x),
         Value::Real(x) => real_cell(x),
         Value::Text { start, len } => Cell {
-            kind: 12,
+            kind: tags::TEXT,
             first: word(start),
             second: word(len),
         },
         Value::Bool(x) => bool_cell(x),
         Value::Octets { start, len } => Cell {
-            kind: 4,
+            kind: tags::OCTETS,
             first: word(start),
             second: word(len),
         },
@@ -75,13 +79,13 @@ fn int_cell(x: i64) -> Cell
     if x < 0 {
         let n = (!x) as u64;
         return Cell {
-            kind: 2,
+            kind: tags::INTEGER,
             first: 18446744073709551615 - n,
             second: 0,
         };
     }
     Cell {
-        kind: 2,
+        kind: tags::INTEGER,
         first: x as u64,
         second: 0,
     }
@@ -92,13 +96,13 @@ fn real_cell(x: f64) -> Cell
 {
     if x != x {
         return Cell {
-            kind: 0,
+            kind: tags::ABSENT,
             first: 0,
             second: 0,
         };
     }
     Cell {
-        kind: 9,
+        kind: tags::REAL,
         first: f64::to_bits(x),
         second: 0,
     }
@@ -109,13 +113,13 @@ fn bool_cell(x: bool) -> Cell
 {
     if x {
         return Cell {
-            kind: 1,
+            kind: tags::BOOLEAN,
             first: 1,
             second: 0,
         };
     }
     Cell {
-        kind: 1,
+        kind: tags::BOOLEAN,
         first: 0,
         second: 0,
     }

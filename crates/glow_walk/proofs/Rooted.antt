@@ -1,6 +1,6 @@
 -- Laws of the whole message.
 use Prim.Native.Nat.{ℕ, suc}
-use mathlib.Core.Path.{_≡_, refl, subst, _∙_}
+use mathlib.Core.Path.{_≡_, refl, _∙_}
 use mathlib.Core.List.{List, []}
 use native.Mathlib.Omega.{arith}
 use borrow.Author.Tests.{eq-eqb, ne-eqb}
@@ -17,9 +17,9 @@ use Rattle.glow_walk.specs.declared.Walked.{Walked}
 use Rattle.glow_walk.specs.declared.Walked.the-variants.{Read, Refused as NotRead}
 use Rattle.glow_walk.specs.declared.Whole.{Whole}
 use Rattle.glow_walk.specs.declared.Whole.the-variants.{Read as ReadWhole, Refused as NotWhole}
-use Rattle.glow_walk.specs.Tree.{ItemsGive}
 use Rattle.glow_walk.specs.Walk.{finished, walk}
-use Rattle.glow_walk.specs.Progress.{counted, whole, Closes, Finishes, Fills, MessageFill}
+use Rattle.glow_walk.specs.Tree.{ItemsGive}
+use Rattle.glow_walk.specs.Progress.{counted, whole, Closes, Finishes, Fills, ItemsFill, MessageFill}
 use Rattle.glow_walk.proofs.Ways.{counted-no, counted-read}
 
 module _ (s : List ℕ) (which : ℕ) {w : Walked} (a : Onto) (n : ℕ) (h : counted a n ≡ w) where
@@ -36,21 +36,17 @@ module _ (s : List ℕ) (which : ℕ) {w : Walked} (a : Onto) (n : ℕ) (h : cou
   finish-left i l = rw (counted-read a n (h ∙ i) .0) (simp (ne-eqb _ _ l))
 
 -- a message as the code reads it
-pub overlay-nothing : (rows : Rows) → rows ≡ overlay [] rows
-unfolding overlay
-overlay-nothing rows = refl
-
 module _ (s : List ℕ) (rows rows′ : Rows) where
   pub message-no : {e : No} → topAt s ≡ NoRoot e → rows′ ≡ rows → MessageFill s rows rows′ (NotWhole e)
   unfolding walk overlay
   message-no h same = record { answers = rw h; holds = rw h same }
 
   pub message-root : {which k : ℕ} {outer : Open} {g : Tag} {w v : Walked} {r : Whole} → topAt s ≡ Root which outer g
-      → Fills (ItemsGive s k (g .inner) which 0 0 (g .start) []) rows rows′ w → k ≡ 62
+      → ItemsFill s k (g .inner) which 0 0 (g .start) 0 rows rows′ w → k ≡ 62
       → Closes s outer 63 w v → Finishes s which v r → MessageFill s rows rows′ r
-  unfolding walk
+  unfolding walk overlay
   message-root {which = which} {g = g} {w = w} h f′ e c d =
-      let f = subst (λ n. Fills (ItemsGive s n (g .inner) which 0 0 (g .start) []) rows rows′ w) e f′ in
+      let f : Fills (ItemsGive s 62 (g .inner) which 0 0 (g .start) []) rows rows′ w = rw (← e) (f′ .filled [] rows refl refl) in
       let x = f .gives (suc (length s)) (omega arith) in
       record {
         answers = rw (h, x) (d _ _ (c _ _ (f .answers)));

@@ -7,12 +7,12 @@ use glow_rows::Cell;
 use glow_steps::Item;
 use glow_steps::Member;
 use glow_steps::Top;
-ghost use Prim.Native.Nat.{_+_, _-_, _≤_, _<_};
+ghost use Prim.Native.Nat.{_+_, _≤_, _<_};
 ghost use mathlib.Core.Path.{_≡_};
-ghost use lib.ListN.{length};
 ghost use Rattle.glow_grammar.specs.Leaf.{cellBy};
 ghost use Rattle.glow_steps.specs.Brief.{openedBy};
-ghost use Rattle.glow_walk.specs.Progress.{WalkedOnward, Keeps, Closes, Finishes, MembersFill, ItemsFill, MessageFill};
+ghost use Rattle.glow_walk.specs.Progress.{WalkedOnward, TurnOnward, Keeps, Closes, Finishes, cursor, onwardOf, endedOf, LeafRoom, LeafTurn};
+ghost use Rattle.glow_walk.specs.Progress.{NestedRoom, MembersTurn, ItemsTurn, ContentsFill, ListFill, EntryFill, MembersFill, ItemsFill, MessageFill};
 
 // The place after what was read, and the count of entries so far.
 pub enum Walked {
@@ -24,6 +24,33 @@ pub enum Walked {
 pub enum Whole {
     Read(u64, usize),
     Refused(No),
+}
+
+// Where the reader stands in a container: the place, what came before it, the count of the path's numbers and that of the entries so far.
+pub struct Cursor {
+    pub place: usize,
+    pub before: u64,
+    pub above: usize,
+    pub count: usize,
+}
+
+// One turn: the cursor after it; or the place after the container's end and the count of entries; or a refusal.
+pub enum Turn {
+    On(Cursor),
+    Read(usize, usize),
+    Refused(No),
+}
+
+// At the beginning of a container.
+fn begin(place: usize, above: usize, count: usize) -> Cursor
+    ensures { λ r. ⌜ cursor place 0 above count ≡ r ⌝ }
+{
+    Cursor {
+        place,
+        before: 0,
+        above,
+        count,
+    }
 }
 
 fn wide(x: u8) -> u64
@@ -97,6 +124,265 @@ fn word(x: usize) -> u64
     x as u64
 }
 
+fn on(place: usize, before: u64, above: usize, count: usize) -> Turn
+    ensures { λ r. ⌜ Turn.On (cursor place before above count) ≡ r ⌝ }
+{
+    Turn::On(Cursor {
+        place,
+        before,
+        above,
+        count,
+    })
+}
+
+// The cursor after a container that was gone into and closed.
+fn onward(before: u64, above: usize, w: Walked) -> Turn
+    ensures { λ r. ⌜ onwardOf before above w ≡ r ⌝ }
+{
+    match w {
+        Walked::Refused(e) => Turn::Refused(e),
+        Walked::Read(place, count) => on(place, before, above, count),
+    }
+}
+
+// The end of a row's members, with the place after it: a required member may be missing.
+fn ended(row: u64, at: Cursor, next: usize) -> Turn
+    ensures { λ r. ⌜ endedOf row at next ≡ r ⌝ }
+{
+    if glow_steps::is_due(row, at.before, 268435456) {
+        return Turn::Refused(No(33, at.place));
+    }
+    Turn::Read(next, at.count)
+}
+
+// A member that holds one value, told at once by its rule `what`: the value goes into its cell.
+fn leaf(s: &[u8], row: u64, me: usize, at: Cursor, what: u64, table: &mut [[u64; 50]]) -> Turn
+    requires { ⌜ LeafRoom (now s) at ⌝ }
+    ensures { λ r. ⌜ LeafTurn (now (s .entry)) row me at what (now (table .entry)) (now (table .exit)) r ⌝ }
+    ensures { λ r. ⌜ TurnOnward (now (s .entry)) (at .place) (at .count) r ⌝ }
+{
+    let p = at.place;
+    let number = wide(s[p] % 32);
+    let c = glow_steps::column_of(row, number);
+    let before = glow_steps::after_listed(row, at.before, number);
+    let kind = wide(s[p + 2]);
+    let len = size(s[p + 3]);
+    let start = p + 4;
+    let first = glow_grammar::word_of(s, kind, start, len, what);
+    if first != 9223372036854775808 {
+        glow_rows::put_cell(table, me, c, worded(kind, first, len));
+        return on(start + len, before, at.above, at.count);
+    }
+    match glow_grammar::read_leaf(s, p + 2, kind, start, len, what, at.above) {
+        Leaf::Refused(no, place) => Turn::Refused(No(no, place)),
+        Leaf::Kept(v, above) => {
+            glow_rows::put_cell(table, me, c, v);
+            on(start + len, before, above, at.count)
+        }
+    }
+}
+
+// Contents from a place on, in their outer tag, for the entry `me`; n entries before them.
+fn contents(
+    s: &[u8],
+    from: usize,
+    o: Open,
+    outer: Open,
+    left: usize,
+    row: u64,
+    me: usize,
+    above: usize,
+    n: usize,
+    table: &mut [[u64; 50]],
+) -> Walked
+    requires { ⌜ (me < n) × (n ≤ from) ⌝ }
+    ensures { λ r. ⌜ ContentsFill (now (s .entry)) o outer left row me above from n (now (table .entry)) (now (table .exit)) r ⌝ }
+    ensures { λ r. ⌜ WalkedOnward from n r ⌝ }
+{
+    let k = ber_containers::less(left);
+    let row = glow_grammar::contents_of(row);
+    let w = element(s, from, o, k, row, me, above, n, table);
+    close(s, outer, left, w)
+}
+
+// A collection from a place on, in its outer tag; n entries before it.
+fn list(
+    s: &[u8],
+    from: usize,
+    o: Open,
+    outer: Open,
+    left: usize,
+    which: u64,
+    parent: usize,
+    above: usize,
+    n: usize,
+    table: &mut [[u64; 50]],
+) -> Walked
+    requires { ⌜ n ≤ from ⌝ }
+    ensures { λ r. ⌜ ListFill (now (s .entry)) o outer left which parent above from n (now (table .entry)) (now (table .exit)) r ⌝ }
+    ensures { λ r. ⌜ WalkedOnward from n r ⌝ }
+{
+    let k = ber_containers::less(left);
+    let w = items(s, from, o, k, which, parent, above, n, table);
+    close(s, outer, left, w)
+}
+
+// A new entry, in its outer tag, with its members from a place on; n entries before it.
+fn entry(
+    s: &[u8],
+    from: usize,
+    o: Open,
+    outer: Open,
+    left: usize,
+    kind: u64,
+    parent: usize,
+    above: usize,
+    n: usize,
+    table: &mut [[u64; 50]],
+) -> Walked
+    requires { ⌜ n < from ⌝ }
+    ensures { λ r. ⌜ EntryFill (now (s .entry)) o outer left kind parent above from n (now (table .entry)) (now (table .exit)) r ⌝ }
+    ensures { λ r. ⌜ WalkedOnward from (n + 1) r ⌝ }
+{
+    glow_rows::blank(table, n, kind, word(parent));
+    let k = ber_containers::less(left);
+    let w = element(s, from, o, k, kind, n, above, n + 1, table);
+    close(s, outer, left, w)
+}
+
+// A member that holds contents or a collection, told at once by its rule `what`.
+fn nested(
+    s: &[u8],
+    o: Open,
+    k: usize,
+    row: u64,
+    me: usize,
+    at: Cursor,
+    what: u64,
+    table: &mut [[u64; 50]],
+) -> Turn
+    requires { ⌜ NestedRoom (now s) k o row me at what ⌝ }
+    ensures { λ r. ⌜ MembersTurn (now (s .entry)) k o row me at (now (table .entry)) (now (table .exit)) r ⌝ }
+    ensures { λ r. ⌜ TurnOnward (now (s .entry)) (at .place) (at .count) r ⌝ }
+{
+    let p = at.place;
+    let after = glow_steps::after_listed(row, at.before, wide(s[p] % 32));
+    let from = p + 4;
+    let inner = opened(from, size(s[p + 3]), o.end);
+    if what == 13 {
+        let w = contents(
+            s,
+            from,
+            inner,
+            inner,
+            k - 1,
+            row,
+            me,
+            at.above,
+            at.count,
+            table,
+        );
+        return onward(after, at.above, w);
+    }
+    let which = glow_steps::collection_of(what);
+    let w = list(
+        s,
+        from,
+        inner,
+        inner,
+        k - 1,
+        which,
+        me + 1,
+        at.above,
+        at.count,
+        table,
+    );
+    onward(after, at.above, w)
+}
+
+// A member by the general turn.
+fn general(
+    s: &[u8],
+    o: Open,
+    k: usize,
+    row: u64,
+    me: usize,
+    at: Cursor,
+    table: &mut [[u64; 50]],
+) -> Turn
+    requires { ⌜ (me < at .count) × (at .count ≤ at .place) ⌝ }
+    ensures { λ r. ⌜ MembersTurn (now (s .entry)) k o row me at (now (table .entry)) (now (table .exit)) r ⌝ }
+    ensures { λ r. ⌜ TurnOnward (now (s .entry)) (at .place) (at .count) r ⌝ }
+{
+    match glow_steps::member_at(s, at.place, o, k, row, at.above, at.before) {
+        Member::Done(next) => Turn::Read(next, at.count),
+        Member::Refused(e) => Turn::Refused(e),
+        Member::Over(before, place) => on(place, before, at.above, at.count),
+        Member::Leaf(before, c, v, above, place) => {
+            glow_rows::put_cell(table, me, c, v);
+            on(place, before, above, at.count)
+        }
+        Member::Contents(before, outer, g, left) => {
+            let w = contents(
+                s,
+                g.start,
+                g.inner,
+                outer,
+                left,
+                row,
+                me,
+                at.above,
+                at.count,
+                table,
+            );
+            onward(before, at.above, w)
+        }
+        Member::Items(before, which, outer, g, left) => {
+            let w = list(
+                s,
+                g.start,
+                g.inner,
+                outer,
+                left,
+                which,
+                me + 1,
+                at.above,
+                at.count,
+                table,
+            );
+            onward(before, at.above, w)
+        }
+    }
+}
+
+// One turn of the members of a row, for the entry `me`.
+fn member_turn(
+    s: &[u8],
+    o: Open,
+    k: usize,
+    row: u64,
+    me: usize,
+    at: Cursor,
+    table: &mut [[u64; 50]],
+) -> Turn
+    requires { ⌜ (me < at .count) × (at .count ≤ at .place) ⌝ }
+    ensures { λ r. ⌜ MembersTurn (now (s .entry)) k o row me at (now (table .entry)) (now (table .exit)) r ⌝ }
+    ensures { λ r. ⌜ TurnOnward (now (s .entry)) (at .place) (at .count) r ⌝ }
+{
+    let z = ber_containers::shut(s, at.place, o);
+    if z != 18446744073709551615 {
+        return ended(row, at, z);
+    }
+    let what = glow_steps::rule_at(s, at.place, o.end, k, row, at.before);
+    if what == 0 {
+        return general(s, o, k, row, me, at, table);
+    }
+    if what < 13 {
+        return leaf(s, row, me, at, what, table);
+    }
+    nested(s, o, k, row, me, at, what, table)
+}
+
 // The members of a row from a place on, for the entry `me`; n entries before them.
 fn element(
     s: &[u8],
@@ -105,176 +391,89 @@ fn element(
     k: usize,
     row: u64,
     me: usize,
-    path: usize,
+    above: usize,
     n: usize,
     table: &mut [[u64; 50]],
 ) -> Walked
     requires { ⌜ (me < n) × (n ≤ from) ⌝ }
-    ensures { λ r. ⌜ MembersFill (now (s .entry)) k o row me path from n (now (table .entry)) (now (table .exit)) r ⌝ }
+    ensures { λ r. ⌜ MembersFill (now (s .entry)) k o row me above from n (now (table .entry)) (now (table .exit)) r ⌝ }
     ensures { λ r. ⌜ WalkedOnward from n r ⌝ }
 {
-    let parent = me + 1;
-    let mut p = from;
-    let mut before: u64 = 0;
-    let mut above = path;
-    let mut count = n;
+    let mut at = begin(from, above, n);
     loop {
-        let z = ber_containers::shut(s, p, o);
-        if z != 18446744073709551615 {
-            if glow_steps::is_due(row, before, 268435456) {
-                return Walked::Refused(No(33, p));
+        match member_turn(s, o, k, row, me, at, table) {
+            Turn::On(next) => {
+                at = next;
             }
-            return Walked::Read(z, count);
-        }
-        let what = glow_steps::rule_at(s, p, o.end, k, row, before);
-        if what != 0 {
-            let number = wide(s[p] % 32);
-            let start = p + 4;
-            let len = size(s[p + 3]);
-            let later = glow_steps::after_listed(row, before, number);
-            if what < 13 {
-                let kind = wide(s[p + 2]);
-                let first = glow_grammar::word_of(s, kind, start, len, what);
-                if first != 9223372036854775808 {
-                    glow_rows::put_cell(
-                        table,
-                        me,
-                        glow_steps::column_of(row, number),
-                        worded(kind, first, len),
-                    );
-                    before = later;
-                    p = start + len;
-                } else {
-                    match glow_grammar::read_leaf(s, p + 2, kind, start, len, what, above) {
-                        Leaf::Refused(no, place) => {
-                            return Walked::Refused(No(no, place));
-                        }
-                        Leaf::Kept(v, numbers) => {
-                            glow_rows::put_cell(table, me, glow_steps::column_of(row, number), v);
-                            before = later;
-                            above = numbers;
-                            p = start + len;
-                        }
-                    }
-                }
-            } else {
-                let inside = opened(start, len, o.end);
-                if what == 13 {
-                    let w = element(
-                        s,
-                        start,
-                        inside,
-                        k - 2,
-                        glow_grammar::contents_of(row),
-                        me,
-                        above,
-                        count,
-                        table,
-                    );
-                    match close(s, inside, k - 1, w) {
-                        Walked::Refused(e) => {
-                            return Walked::Refused(e);
-                        }
-                        Walked::Read(next, c) => {
-                            before = later;
-                            p = next;
-                            count = c;
-                        }
-                    }
-                } else {
-                    let w = items(
-                        s,
-                        start,
-                        inside,
-                        k - 2,
-                        glow_steps::collection_of(what),
-                        parent,
-                        above,
-                        count,
-                        table,
-                    );
-                    match close(s, inside, k - 1, w) {
-                        Walked::Refused(e) => {
-                            return Walked::Refused(e);
-                        }
-                        Walked::Read(next, c) => {
-                            before = later;
-                            p = next;
-                            count = c;
-                        }
-                    }
-                }
+            Turn::Read(next, count) => {
+                return Walked::Read(next, count);
             }
-        } else {
-            match glow_steps::member_at(s, p, o, k, row, above, before) {
-                Member::Done(next) => {
-                    return Walked::Read(next, count);
-                }
-                Member::Refused(e) => {
-                    return Walked::Refused(e);
-                }
-                Member::Over(after, next) => {
-                    before = after;
-                    p = next;
-                }
-                Member::Leaf(after, c, v, numbers, next) => {
-                    glow_rows::put_cell(table, me, c, v);
-                    before = after;
-                    above = numbers;
-                    p = next;
-                }
-                Member::Contents(after, outer, set, left) => {
-                    let w = element(
-                        s,
-                        set.start,
-                        set.inner,
-                        ber_containers::less(left),
-                        glow_grammar::contents_of(row),
-                        me,
-                        above,
-                        count,
-                        table,
-                    );
-                    match close(s, outer, left, w) {
-                        Walked::Refused(e) => {
-                            return Walked::Refused(e);
-                        }
-                        Walked::Read(next, c) => {
-                            before = after;
-                            p = next;
-                            count = c;
-                        }
-                    }
-                }
-                Member::Items(after, which, outer, list, left) => {
-                    let w = items(
-                        s,
-                        list.start,
-                        list.inner,
-                        ber_containers::less(left),
-                        which,
-                        parent,
-                        above,
-                        count,
-                        table,
-                    );
-                    match close(s, outer, left, w) {
-                        Walked::Refused(e) => {
-                            return Walked::Refused(e);
-                        }
-                        Walked::Read(next, c) => {
-                            before = after;
-                            p = next;
-                            count = c;
-                        }
-                    }
-                }
+            Turn::Refused(e) => {
+                return Walked::Refused(e);
             }
         }
     }
 }
 
-// The items of a collection from a place on, n entries before them.
+// One turn of a collection: its end, or an element with its members, a new entry.
+fn item_turn(
+    s: &[u8],
+    o: Open,
+    k: usize,
+    which: u64,
+    parent: usize,
+    at: Cursor,
+    table: &mut [[u64; 50]],
+) -> Turn
+    requires { ⌜ at .count ≤ at .place ⌝ }
+    ensures { λ r. ⌜ ItemsTurn (now (s .entry)) k o which parent at (now (table .entry)) (now (table .exit)) r ⌝ }
+    ensures { λ r. ⌜ TurnOnward (now (s .entry)) (at .place) (at .count) r ⌝ }
+{
+    let p = at.place;
+    let z = ber_containers::shut(s, p, o);
+    if z != 18446744073709551615 {
+        return Turn::Read(z, at.count);
+    }
+    let quick = glow_steps::kind_at(s, p, o.end, k, which);
+    if quick != 0 {
+        let from = p + 4;
+        let inner = opened(from, size(s[p + 3]), o.end);
+        let w = entry(
+            s,
+            from,
+            inner,
+            inner,
+            k - 1,
+            quick,
+            parent,
+            at.above,
+            at.count,
+            table,
+        );
+        return onward(0, at.above, w);
+    }
+    match glow_steps::item_at(s, p, o, k, which) {
+        Item::Done(next) => Turn::Read(next, at.count),
+        Item::Refused(e) => Turn::Refused(e),
+        Item::Element(kind, outer, g, left) => {
+            let w = entry(
+                s,
+                g.start,
+                g.inner,
+                outer,
+                left,
+                kind,
+                parent,
+                at.above,
+                at.count,
+                table,
+            );
+            onward(0, at.above, w)
+        }
+    }
+}
+
+// The items of a collection from a place on; n entries before them.
 fn items(
     s: &[u8],
     from: usize,
@@ -290,69 +489,17 @@ fn items(
     ensures { λ r. ⌜ ItemsFill (now (s .entry)) k o which parent above from n (now (table .entry)) (now (table .exit)) r ⌝ }
     ensures { λ r. ⌜ WalkedOnward from n r ⌝ }
 {
-    let mut p = from;
-    let mut count = n;
+    let mut at = begin(from, above, n);
     loop {
-        let z = ber_containers::shut(s, p, o);
-        if z != 18446744073709551615 {
-            return Walked::Read(z, count);
-        }
-        let quick = glow_steps::kind_at(s, p, o.end, k, which);
-        if quick != 0 {
-            let start = p + 4;
-            let inside = opened(start, size(s[p + 3]), o.end);
-            glow_rows::blank(table, count, quick, word(parent));
-            let w = element(
-                s,
-                start,
-                inside,
-                k - 2,
-                quick,
-                count,
-                above,
-                count + 1,
-                table,
-            );
-            match close(s, inside, k - 1, w) {
-                Walked::Refused(e) => {
-                    return Walked::Refused(e);
-                }
-                Walked::Read(next, c) => {
-                    p = next;
-                    count = c;
-                }
+        match item_turn(s, o, k, which, parent, at, table) {
+            Turn::On(next) => {
+                at = next;
             }
-        } else {
-            match glow_steps::item_at(s, p, o, k, which) {
-                Item::Done(next) => {
-                    return Walked::Read(next, count);
-                }
-                Item::Refused(e) => {
-                    return Walked::Refused(e);
-                }
-                Item::Element(kind, outer, tag, left) => {
-                    glow_rows::blank(table, count, kind, word(parent));
-                    let w = element(
-                        s,
-                        tag.start,
-                        tag.inner,
-                        ber_containers::less(left),
-                        kind,
-                        count,
-                        above,
-                        count + 1,
-                        table,
-                    );
-                    match close(s, outer, left, w) {
-                        Walked::Refused(e) => {
-                            return Walked::Refused(e);
-                        }
-                        Walked::Read(next, c) => {
-                            p = next;
-                            count = c;
-                        }
-                    }
-                }
+            Turn::Read(next, count) => {
+                return Walked::Read(next, count);
+            }
+            Turn::Refused(e) => {
+                return Walked::Refused(e);
             }
         }
     }
@@ -379,8 +526,8 @@ pub fn message(s: &[u8], table: &mut [[u64; 50]]) -> Whole
 {
     match glow_steps::root_of(s) {
         Top::Refused(e) => Whole::Refused(e),
-        Top::Root(which, outer, list) => {
-            let w = items(s, list.start, list.inner, 62, which, 0, 0, 0, table);
+        Top::Root(which, outer, g) => {
+            let w = items(s, g.start, g.inner, 62, which, 0, 0, 0, table);
             finish(s, which, close(s, outer, 63, w))
         }
     }

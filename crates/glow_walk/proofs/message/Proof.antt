@@ -1,8 +1,6 @@
-use Rattle.glow_walk.proofs.Rooted.{overlay-nothing}
-use mathlib.Core.List.{[]}
-use Rattle.glow_walk.proofs.Rooted.{message-no, message-root}
 use mathlib.Core.Path.{refl, _∙_}
 use borrow.Author.Needs.{needs}
+use Rattle.glow_walk.proofs.Rooted.{message-no, message-root}
 use Rattle.glow_walk.proofs.message.Statement.{statement}
 use Rattle.glow_walk.proofs.message.Tie as tie
 
@@ -40,8 +38,7 @@ returns-2 c =
     let the-items = c .before .before .before .items in
     let the-close = c .before .close in
     let the-finish = c .finish in
-    message-root _ _ _ (the-root-of .ensures ∙ the-which .given .1) (the-items .ensures .0 [] _ refl (overlay-nothing _)) refl
-    (the-close .ensures .0) (the-finish .ensures)
+    message-root _ _ _ (the-root-of .ensures ∙ the-which .given .1) (the-items .ensures .0) refl (the-close .ensures .0) (the-finish .ensures)
 
 pub message-spec : {M : Type 1} → statement M
 message-spec =
