@@ -2,19 +2,20 @@
 use Prim.Native.Nat.{ℕ, _+_, _*_, _≤_, _<_}
 use mathlib.Core.Path.{_≡_, refl, sym, ap, _∙_}
 use mathlib.Core.List.{List}
-use mathlib.Core.Bool.{true, false}
+use mathlib.Core.Bool.{Bool, true, false}
 use mathlib.Core.Logic.{⊎-elim}
 use native.Mathlib.Omega.{arith}
 use borrow.Author.Tests.{eqb-true, le-leb, lt-leb, lt-ltb, le-ltb, eq-eqb, ne-eqb}
 use lib.ListN.{length, getD}
 use lib.Dec.{eqb}
+use Rattle.ber_integers.specs.Digits.{pick}
 use Rattle.ber_integers.proofs.Radix.{lt-or-le}
 use Rattle.desk_crosspoints.specs.declared.Figures.{Figures}
-use Rattle.desk_crosspoints.specs.Figures.{both, figuresFit, cellsOf}
+use Rattle.desk_crosspoints.specs.Figures.{both, isCount, figuresFit, cellsOf, sizeOf}
 use Rattle.desk_crosspoints.specs.Crosspoints.{Cells, count, rowAt, withRow, takenFrom, legal}
 use Rattle.desk_crosspoints.specs.Desk.{Desk, deskAt, answer}
-use Rattle.desk_crosspoints.proofs.Laws.{both-left, both-right, fit-sources-some}
-use Rattle.desk_crosspoints.proofs.Under.{rows-apart}
+use Rattle.desk_crosspoints.proofs.Laws.{both-left, both-right, count-some, fit-counts, fit-sources-some}
+use Rattle.desk_crosspoints.proofs.Under.{rows-apart, rows-le}
 use Rattle.desk_crosspoints.proofs.Legal.{legal-fit, legal-length}
 use Rattle.desk_requests.specs.Request.{Request, named, takes, others, rowAfter, result, many, overTotal, checks, judged, asked, requested}
 use Rattle.desk_requests.specs.Steps.{fits, told, freed, carried}
@@ -58,6 +59,26 @@ module _ (f : Figures) (l : List ℕ) (operation ones : ℕ) (cells : Cells) whe
   pub freed-others : count (named (f .sources) l) ≡ ones → freed f l operation ones cells ≡ others f l operation cells
   unfolding freed others takes
   freed-others e = rw e
+
+-- figures out of range have no size, and others have one
+module _ (f : Figures) (n : ℕ) (e : sizeOf f ≡ n) where
+  pub size-none : n ≡ 0 → figuresFit f ≡ false
+  unfolding sizeOf
+  size-none z = go (figuresFit f) refl e
+    where
+      go : (u : Bool) → figuresFit f ≡ u → pick u (cellsOf f) 0 ≡ n → figuresFit f ≡ false
+      go false k y = k
+      go true k y =
+          let t = count-some (f .targets) (both-left (isCount (f .targets)) _ (fit-counts f k)) in
+          absurd (omega (arith, y, z, rows-le 1 (f .targets) (f .sources) t, fit-sources-some f k))
+
+  pub size-some : (n ≡ 0 → ⊥) → figuresFit f ≡ true
+  unfolding sizeOf
+  size-some z = go (figuresFit f) refl e
+    where
+      go : (u : Bool) → figuresFit f ≡ u → pick u (cellsOf f) 0 ≡ n → figuresFit f ≡ true
+      go true k y = k
+      go false k y = absurd (z (sym y))
 
 module _ (f : Figures) (n w : ℕ) where
   pub fits-figures : figuresFit f ≡ false → fits f n w ≡ false
@@ -123,8 +144,8 @@ module _ (d : Desk) (req : Request) (row : Cells) where
     carried-rest t k = rw (h, lt-ltb _ _ t, lt-ltb _ _ k)
 
     pub carried-done : req .target < d .figures .targets → getD (req .sources) 0 0 < d .figures .sources
-        → (w : ℕ) (some after : Cells) → w ≡ d .figures .sources → some ≡ freed (d .figures) (req .sources) (req .operation) ones (d .crosspoints) → after ≡ withRow w some (req .target) row
-        → after ≡ carried d req ones row
+        → (w : ℕ) (some after : Cells) → w ≡ d .figures .sources
+        → some ≡ freed (d .figures) (req .sources) (req .operation) ones (d .crosspoints) → after ≡ withRow w some (req .target) row → after ≡ carried d req ones row
     carried-done t k w some after e g a =
         a ∙ ap (λ (x : ℕ). withRow x some (req .target) row) e ∙ ap (λ (x : Cells). withRow (d .figures .sources) x (req .target) row) g
         ∙ sym (carried-rest t k)

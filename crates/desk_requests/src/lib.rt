@@ -235,10 +235,11 @@ fn judge_limits(
 fn is_fit(f: Figures, n: usize, w: usize) -> bool
     ensures { λ r. ⌜ fits f n w ≡ r ⌝ }
 {
-    if !desk_crosspoints::figures_fit(f) {
+    let size = desk_crosspoints::size(f);
+    if size == 0 {
         return false;
     }
-    if n != desk_crosspoints::size(f) {
+    if n != size {
         return false;
     }
     w == index(f.sources)

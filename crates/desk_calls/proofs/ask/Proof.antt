@@ -4,10 +4,6 @@ use native.Mathlib.Omega.{arith}
 use borrow.Author.Needs.{needs}
 use Rattle.desk_calls.proofs.ask.Statement.{statement}
 use Rattle.desk_calls.proofs.ask.Tie as tie
-use Rattle.desk_calls.proofs.ask.Reads as reads
-use Rattle.desk_calls.proofs.ask.Lts as lts
-use Rattle.desk_requests.proofs.carry_out.Reads as carry-out-reads
-use Rattle.desk_requests.proofs.judge.Reads as judge-reads
 
 judge-requires : tie.Need-judge-requires
 judge-requires c κs = search needs

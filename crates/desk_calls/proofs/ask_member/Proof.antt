@@ -4,10 +4,6 @@ use native.Mathlib.Omega.{arith}
 use borrow.Author.Needs.{needs}
 use Rattle.desk_calls.proofs.ask_member.Statement.{statement}
 use Rattle.desk_calls.proofs.ask_member.Tie as tie
-use Rattle.desk_calls.proofs.ask_member.Reads as reads
-use Rattle.desk_calls.proofs.ask_member.Lts as lts
-use Rattle.desk_calls.proofs.request_legal.Reads as request-legal-reads
-use Rattle.desk_sources.proofs.sources_of.Reads as sources-of-reads
 
 slice-aggregate-sources-of : tie.Need-slice-aggregate-sources-of
 slice-aggregate-sources-of c = search needs

@@ -6,10 +6,6 @@ use native.Mathlib.Omega.{arith}
 use borrow.Author.Needs.{needs}
 use Rattle.desk_calls.proofs.request_legal.Statement.{statement}
 use Rattle.desk_calls.proofs.request_legal.Tie as tie
-use Rattle.desk_calls.proofs.request_legal.Reads as reads
-use Rattle.desk_calls.proofs.request_legal.Lts as lts
-use Rattle.desk_calls.proofs.ask.Reads as ask-reads
-use Rattle.desk_calls.proofs.index.Reads as index-reads
 
 index-requires : tie.Need-index-requires
 index-requires c κs = search needs

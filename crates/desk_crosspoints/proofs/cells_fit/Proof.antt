@@ -5,14 +5,6 @@ use native.Mathlib.Omega.{arith}
 use borrow.Author.Needs.{needs}
 use Rattle.desk_crosspoints.proofs.cells_fit.Statement.{statement}
 use Rattle.desk_crosspoints.proofs.cells_fit.Tie as tie
-use Rattle.desk_crosspoints.proofs.cells_fit.Reads as reads
-use Rattle.desk_crosspoints.proofs.cells_fit.Lts as lts
-use Rattle.desk_crosspoints.proofs.all_bits.Reads as all-bits-reads
-use Rattle.desk_crosspoints.proofs.index.Reads as index-reads
-use Rattle.desk_crosspoints.proofs.cells_of.Reads as cells-of-reads
-use Rattle.desk_crosspoints.proofs.kind_fits.Reads as kind-fits-reads
-use Rattle.desk_crosspoints.proofs.most_each.Reads as most-each-reads
-use Rattle.desk_crosspoints.proofs.rows_fit.Reads as rows-fit-reads
 
 cells-of-requires : tie.Need-cells-of-requires
 cells-of-requires c κs = search needs
@@ -86,7 +78,8 @@ returns-4 c =
     let the-if3 = c .before .if3 in
     let the-kind-fits = c .kind-fits in
     cells-rest _ _ (the-if1 .left ∙ sym (the-cells-of .ensures)) (the-all-bits .ensures ∙ not-false _ (the-if2 .left))
-    (rows-are _ _ _ _ _ _ (the-index .ensures) (the-index2 .ensures) (the-most-each .ensures) (the-rows-fit .ensures ∙ not-false _ (the-if3 .left))) ∙ the-kind-fits .ensures
+    (rows-are _ _ _ _ _ _ (the-index .ensures) (the-index2 .ensures) (the-most-each .ensures) (the-rows-fit .ensures ∙ not-false _ (the-if3 .left)))
+    ∙ the-kind-fits .ensures
 
 pub cells-fit-spec : {M : Type 1} → statement M
 cells-fit-spec =

@@ -9,10 +9,6 @@ use borrow.Author.Needs.{needs}
 use native.Mathlib.Omega.{arith}
 use Rattle.desk_crosspoints.proofs.columns_fit.Statement.{statement}
 use Rattle.desk_crosspoints.proofs.columns_fit.Tie as tie
-use Rattle.desk_crosspoints.proofs.columns_fit.Reads as reads
-use Rattle.desk_crosspoints.proofs.columns_fit.Lts as lts
-use Rattle.desk_crosspoints.proofs.add_row.Reads as add-row-reads
-use Rattle.desk_crosspoints.proofs.all_bits.Reads as all-bits-reads
 
 abbrev Inv-loop : tie.InvT-loop
 Inv-loop n w cells sums₀ t₀ sums t = Held w cells t sums × (t ≤ n)
@@ -20,13 +16,11 @@ Inv-loop n w cells sums₀ t₀ sums t = Held w cells t sums × (t ≤ n)
 abbrev μ-loop : tie.MeasureT-loop
 μ-loop n w cells sums₀ t₀ sums t = n - t
 
--- src/lib.rt:261:5
 loop-holds : tie.Need-loop-holds Inv-loop μ-loop
 loop-holds c =
     let the-Start = c .before .before in
     (held-none _ _ _ (the-Start .pre .1), omega arith)
 
--- src/lib.rt:262:20
 mul-from : tie.Need-mul-from Inv-loop μ-loop
 mul-from c =
     let the-Start = c .before .before .before .before in
@@ -34,7 +28,6 @@ mul-from c =
     let the-loop-test = c .loop-test in
     omega (arith, rows-apart (the-loop .t) (the-Start .args .n) (the-Start .args .w) (the-loop-test .taken))
 
--- src/lib.rt:263:18
 add-to : tie.Need-add-to Inv-loop μ-loop
 add-to c =
     let the-Start = c .before .before .before .before in
@@ -42,15 +35,12 @@ add-to c =
     let the-loop-test = c .loop-test in
     omega (arith, rows-apart (the-loop .t) (the-Start .args .n) (the-Start .args .w) (the-loop-test .taken))
 
--- src/lib.rt:264:23
 sub-add-row : tie.Need-sub-add-row Inv-loop μ-loop
 sub-add-row c = omega arith
 
--- src/lib.rt:264:23
 part-add-row-start : tie.Need-part-add-row-start Inv-loop μ-loop
 part-add-row-start c = omega arith
 
--- src/lib.rt:264:23
 part-add-row-end : tie.Need-part-add-row-end Inv-loop μ-loop
 part-add-row-end c =
     let the-Start = c .before .before .before .before .before in
@@ -58,7 +48,6 @@ part-add-row-end c =
     let the-loop-test = c .before .loop-test in
     omega (arith, rows-apart (the-loop .t) (the-Start .args .n) (the-Start .args .w) (the-loop-test .taken))
 
--- src/lib.rt:264:9
 add-row-requires : tie.Need-add-row-requires Inv-loop μ-loop
 add-row-requires c κs =
     let the-Start = c .before .before .before .before .before .before in
@@ -67,33 +56,27 @@ add-row-requires c κs =
     the-loop .inv .0 .room
     ∙ sym (part-length _ _ (the-loop .t) (omega (arith, rows-apart (the-loop .t) (the-Start .args .n) (the-Start .args .w) (the-loop-test .taken))))
 
--- src/lib.rt:265:9
 add-t : tie.Need-add-t Inv-loop μ-loop
 add-t c = omega arith
 
--- src/lib.rt:261:5
 loop-less : tie.Need-loop-less Inv-loop μ-loop
 loop-less c = omega arith
 
--- src/lib.rt:261:5
 loop-again : tie.Need-loop-again Inv-loop μ-loop
 loop-again c =
     let the-loop = c .before .before .before .before .before .before .loop in
     let the-add-row = c .before .before .add-row in
     (held-more _ _ (the-loop .t) _ _ _ _ (the-loop .inv .0) refl refl (the-add-row .kept .0) (the-add-row .ensures), omega arith)
 
--- src/lib.rt:267:5
 all-bits-requires : tie.Need-all-bits-requires Inv-loop μ-loop
 all-bits-requires c κs = search needs
 
--- src/lib.rt:255:1
 same-length : tie.Need-same-length Inv-loop μ-loop
 same-length c =
     let the-Start = c .before .before .before .before .before .before in
     let the-loop = c .before .before .before .loop in
     the-loop .inv .0 .room ∙ sym (ap length (the-Start .pre .1) ∙ clear-length _)
 
--- src/lib.rt:255:1
 returns : tie.Need-returns Inv-loop μ-loop
 returns c =
     let the-loop = c .before .before .before .loop in

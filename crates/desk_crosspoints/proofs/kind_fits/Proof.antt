@@ -7,22 +7,13 @@ use native.Mathlib.Omega.{arith}
 use borrow.Author.Needs.{needs}
 use Rattle.desk_crosspoints.proofs.kind_fits.Statement.{statement}
 use Rattle.desk_crosspoints.proofs.kind_fits.Tie as tie
-use Rattle.desk_crosspoints.proofs.kind_fits.Reads as reads
-use Rattle.desk_crosspoints.proofs.kind_fits.Lts as lts
-use Rattle.desk_crosspoints.proofs.count.Reads as count-reads
-use Rattle.desk_crosspoints.proofs.in_total.Reads as in-total-reads
-use Rattle.desk_crosspoints.proofs.index.Reads as index-reads
-use Rattle.desk_crosspoints.proofs.sources_fit.Reads as sources-fit-reads
 
--- src/lib.rt:287:28
 index-requires : tie.Need-index-requires
 index-requires c κs = search needs
 
--- src/lib.rt:287:46
 index-requires-2 : tie.Need-index-requires-2
 index-requires-2 c κs = search needs
 
--- src/lib.rt:287:9
 sources-fit-requires : tie.Need-sources-fit-requires
 sources-fit-requires c κs =
     let the-Start = c .before .before .before .before .before in
@@ -31,7 +22,6 @@ sources-fit-requires c κs =
     let z = size-is (the-Start .args .f) (the-Start .args .cells .now) _ _ (the-index .ensures) (the-index2 .ensures) (the-Start .pre .1) in
     (omega (arith, the-index2 .ensures), z)
 
--- src/lib.rt:287:9
 returns : tie.Need-returns
 returns c =
     let the-index = c .before .before .index in
@@ -39,15 +29,12 @@ returns c =
     let the-sources-fit = c .sources-fit in
     kind-sources _ _ _ _ _ (omega arith) (the-index .ensures) (the-index2 .ensures) (the-sources-fit .ensures)
 
--- src/lib.rt:290:28
 count-requires : tie.Need-count-requires
 count-requires c κs = search needs
 
--- src/lib.rt:290:9
 in-total-requires : tie.Need-in-total-requires
 in-total-requires c κs = search needs
 
--- src/lib.rt:290:9
 returns-2 : tie.Need-returns-2
 returns-2 c =
     let the-Start = c .before .before .before .before .before .before .before in
@@ -55,7 +42,6 @@ returns-2 c =
     let the-in-total = c .in-total in
     kind-many _ _ (omega arith) ∙ ap (λ (n : ℕ). leb n (mostTotal (the-Start .args .f))) (the-count .ensures) ∙ the-in-total .ensures
 
--- src/lib.rt:281:1
 returns-3 : tie.Need-returns-3
 returns-3 c = kind-other _ _ (λ e. omega arith) (λ e. omega arith)
 

@@ -5,12 +5,6 @@ use Rattle.desk_crosspoints.proofs.Laws.{open-figures, open-count, open
 use borrow.Author.Needs.{needs}
 use Rattle.desk_crosspoints.proofs.open.Statement.{statement}
 use Rattle.desk_crosspoints.proofs.open.Tie as tie
-use Rattle.desk_crosspoints.proofs.open.Reads as reads
-use Rattle.desk_crosspoints.proofs.open.Lts as lts
-use Rattle.desk_crosspoints.proofs.cells_of.Reads as cells-of-reads
-use Rattle.desk_crosspoints.proofs.figures_fit.Reads as figures-fit-reads
-use Rattle.desk_crosspoints.proofs.path_fits.Reads as path-fits-reads
-use Rattle.desk_crosspoints.proofs.wipe.Reads as wipe-reads
 
 figures-fit-requires : tie.Need-figures-fit-requires
 figures-fit-requires c κs = search needs

@@ -8,9 +8,6 @@ use borrow.Author.Needs.{needs}
 use native.Mathlib.Omega.{arith}
 use Rattle.desk_crosspoints.proofs.rows_fit.Statement.{statement}
 use Rattle.desk_crosspoints.proofs.rows_fit.Tie as tie
-use Rattle.desk_crosspoints.proofs.rows_fit.Reads as reads
-use Rattle.desk_crosspoints.proofs.rows_fit.Lts as lts
-use Rattle.desk_crosspoints.proofs.count.Reads as count-reads
 
 abbrev Inv-loop : tie.InvT-loop
 Inv-loop n w most cells t₀ t = (rowsFit w most cells n ≡ rowsFit w most cells t) × (t ≤ n)
@@ -18,48 +15,39 @@ Inv-loop n w most cells t₀ t = (rowsFit w most cells n ≡ rowsFit w most cell
 abbrev μ-loop : tie.MeasureT-loop
 μ-loop n w most cells t₀ t = t
 
--- src/lib.rt:221:5
 loop-holds : tie.Need-loop-holds Inv-loop μ-loop
 loop-holds c = (refl, omega arith)
 
--- src/lib.rt:222:9
 sub-t : tie.Need-sub-t Inv-loop μ-loop
 sub-t c = search needs
 
--- src/lib.rt:223:20
 mul-from : tie.Need-mul-from Inv-loop μ-loop
 mul-from c =
     let the-Start = c .before .before .before in
     let the-loop = c .before .loop in
     omega (arith, rows-apart (the-loop .t - 1) (the-Start .args .n) (the-Start .args .w) (omega arith))
 
--- src/lib.rt:224:18
 add-to : tie.Need-add-to Inv-loop μ-loop
 add-to c =
     let the-Start = c .before .before .before in
     let the-loop = c .before .loop in
     omega (arith, rows-apart (the-loop .t - 1) (the-Start .args .n) (the-Start .args .w) (omega arith))
 
--- src/lib.rt:225:25
 sub-count : tie.Need-sub-count Inv-loop μ-loop
 sub-count c = search needs
 
--- src/lib.rt:225:25
 part-count-start : tie.Need-part-count-start Inv-loop μ-loop
 part-count-start c = search needs
 
--- src/lib.rt:225:25
 part-count-end : tie.Need-part-count-end Inv-loop μ-loop
 part-count-end c =
     let the-Start = c .before .before .before in
     let the-loop = c .before .loop in
     omega (arith, rows-apart (the-loop .t - 1) (the-Start .args .n) (the-Start .args .w) (omega arith))
 
--- src/lib.rt:225:19
 count-requires : tie.Need-count-requires Inv-loop μ-loop
 count-requires c κs = search needs
 
--- src/lib.rt:226:13
 returns : tie.Need-returns Inv-loop μ-loop
 returns c =
     let the-loop = c .before .before .before .before .loop in
@@ -68,11 +56,9 @@ returns c =
     the-loop .inv .0 ∙ rows-not _ _ _ (the-loop .t) (the-loop .t - 1) (omega arith)
     (row-says _ _ _ (the-loop .t - 1) _ _ _ refl (the-count .ensures) (lt-leb _ _ (the-if1 .taken)))
 
--- src/lib.rt:221:5
 loop-less : tie.Need-loop-less Inv-loop μ-loop
 loop-less c = search needs
 
--- src/lib.rt:221:5
 loop-again : tie.Need-loop-again Inv-loop μ-loop
 loop-again c =
     let the-loop = c .before .before .before .before .loop in
@@ -81,7 +67,6 @@ loop-again c =
     let r = row-says _ _ _ (the-loop .t - 1) _ _ _ refl (the-count .ensures) (le-leb _ _ (the-if1 .left)) in
     (the-loop .inv .0 ∙ rows-more _ _ _ (the-loop .t) (the-loop .t - 1) (omega arith) r, omega arith)
 
--- src/lib.rt:216:1
 returns-2 : tie.Need-returns-2 Inv-loop μ-loop
 returns-2 c =
     let the-loop = c .before .loop in

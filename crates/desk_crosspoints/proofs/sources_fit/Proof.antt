@@ -8,26 +8,19 @@ use native.Mathlib.Omega.{arith}
 use borrow.Author.Needs.{needs}
 use Rattle.desk_crosspoints.proofs.sources_fit.Statement.{statement}
 use Rattle.desk_crosspoints.proofs.sources_fit.Tie as tie
-use Rattle.desk_crosspoints.proofs.sources_fit.Reads as reads
-use Rattle.desk_crosspoints.proofs.sources_fit.Lts as lts
-use Rattle.desk_crosspoints.proofs.columns_fit.Reads as columns-fit-reads
 
--- src/lib.rt:277:30
 array-borrow-prefix-sums : tie.Need-array-borrow-prefix-sums
 array-borrow-prefix-sums c = search needs
 
--- src/lib.rt:277:30
 slice-aggregate-columns-fit : tie.Need-slice-aggregate-columns-fit
 slice-aggregate-columns-fit c = let the-Start = c .before .before in sym (length-take-le (the-Start .args .w) _ (omega (arith, the-Start .pre .0)))
 
--- src/lib.rt:277:5
 columns-fit-requires : tie.Need-columns-fit-requires
 unfolding clear
 columns-fit-requires c κs =
     let the-Start = c .before .before in
     (the-Start .pre .1, clear-take (the-Start .args .w) side (the-Start .pre .0))
 
--- src/lib.rt:271:1
 returns : tie.Need-returns
 returns c = search needs
 

@@ -5,12 +5,6 @@ use borrow.Author.Tests.{not-true, not-false}
 use borrow.Author.Needs.{needs}
 use Rattle.desk_requests.proofs.carry_out.Statement.{statement}
 use Rattle.desk_requests.proofs.carry_out.Tie as tie
-use Rattle.desk_requests.proofs.carry_out.Reads as reads
-use Rattle.desk_requests.proofs.carry_out.Lts as lts
-use Rattle.desk_requests.proofs.first.Reads as first-reads
-use Rattle.desk_requests.proofs.free.Reads as free-reads
-use Rattle.desk_requests.proofs.is_fit.Reads as is-fit-reads
-use Rattle.desk_requests.proofs.put_row.Reads as put-row-reads
 
 is-fit-requires : tie.Need-is-fit-requires
 is-fit-requires c κs = search needs

@@ -4,10 +4,6 @@ use Rattle.desk_requests.proofs.Steps.{freed-kind, freed-less, freed-no
 use borrow.Author.Needs.{needs}
 use Rattle.desk_requests.proofs.free.Statement.{statement}
 use Rattle.desk_requests.proofs.free.Tie as tie
-use Rattle.desk_requests.proofs.free.Reads as reads
-use Rattle.desk_requests.proofs.free.Lts as lts
-use Rattle.desk_requests.proofs.first.Reads as first-reads
-use Rattle.desk_requests.proofs.take_from.Reads as take-from-reads
 
 returns : tie.Need-returns
 returns c = sym (freed-kind _ _ _ _ _ (λ e. omega arith))

@@ -7,13 +7,6 @@ use borrow.Author.Tests.{not-true, not-false}
 use borrow.Author.Needs.{needs}
 use Rattle.desk_requests.proofs.judge.Statement.{statement}
 use Rattle.desk_requests.proofs.judge.Tie as tie
-use Rattle.desk_requests.proofs.judge.Reads as reads
-use Rattle.desk_requests.proofs.judge.Lts as lts
-use Rattle.desk_crosspoints.proofs.count.Reads as count-reads
-use Rattle.desk_requests.proofs.all_below.Reads as all-below-reads
-use Rattle.desk_requests.proofs.is_fit.Reads as is-fit-reads
-use Rattle.desk_requests.proofs.judge_limits.Reads as judge-limits-reads
-use Rattle.desk_requests.proofs.list_row.Reads as list-row-reads
 
 is-fit-requires : tie.Need-is-fit-requires
 is-fit-requires c κs = search needs

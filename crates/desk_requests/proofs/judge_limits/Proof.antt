@@ -8,13 +8,6 @@ use native.Mathlib.Omega.{arith}
 use borrow.Author.Needs.{needs}
 use Rattle.desk_requests.proofs.judge_limits.Statement.{statement}
 use Rattle.desk_requests.proofs.judge_limits.Tie as tie
-use Rattle.desk_requests.proofs.judge_limits.Reads as reads
-use Rattle.desk_requests.proofs.judge_limits.Lts as lts
-use Rattle.desk_crosspoints.proofs.count.Reads as count-reads
-use Rattle.desk_requests.proofs.become_row.Reads as become-row-reads
-use Rattle.desk_requests.proofs.get_row.Reads as get-row-reads
-use Rattle.desk_requests.proofs.is_many.Reads as is-many-reads
-use Rattle.desk_requests.proofs.over_total.Reads as over-total-reads
 
 get-row-requires : tie.Need-get-row-requires
 get-row-requires c κs =

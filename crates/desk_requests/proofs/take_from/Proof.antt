@@ -8,9 +8,6 @@ use borrow.Author.Needs.{needs}
 use native.Mathlib.Omega.{arith}
 use Rattle.desk_requests.proofs.take_from.Statement.{statement}
 use Rattle.desk_requests.proofs.take_from.Tie as tie
-use Rattle.desk_requests.proofs.take_from.Reads as reads
-use Rattle.desk_requests.proofs.take_from.Lts as lts
-use Rattle.desk_requests.proofs.put.Reads as put-reads
 
 abbrev Inv-loop : tie.InvT-loop
 Inv-loop cells₀ n w s t₀ cells t = (takenFrom w cells₀ s n ≡ takenFrom w cells s t) × ((length cells ≡ length cells₀) × (t ≤ n))

@@ -5,11 +5,6 @@ use native.Mathlib.Omega.{arith}
 use borrow.Author.Needs.{needs}
 use Rattle.desk_sources.proofs.sources_of.Statement.{statement}
 use Rattle.desk_sources.proofs.sources_of.Tie as tie
-use Rattle.desk_sources.proofs.sources_of.Reads as reads
-use Rattle.desk_sources.proofs.sources_of.Lts as lts
-use Rattle.desk_connections.proofs.part_of.Reads as part-of-reads
-use Rattle.desk_sources.proofs.gather.Reads as gather-reads
-use Rattle.desk_sources.proofs.index.Reads as index-reads
 
 returns : tie.Need-returns
 returns c = (λ h. absurd (omega (arith, h)), omega arith)
