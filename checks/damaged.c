@@ -383,7 +383,9 @@ static void lend_desk(int f, int p, int c, size_t *words, size_t *numbers, size_
 {
     *words = about(EMBER_FIGURES_WORDS, 9);
     *numbers = about(2, 18);
-    *cells = one_in(60) ? EMBER_CROSSPOINTS - 1 + below(3) : EMBER_CROSSPOINTS;
+    *cells = (size_t)ember_desk_size(figures, EMBER_FIGURES_WORDS);
+    if (one_in(60))
+        *cells = one_in(2) ? *cells - 1 : *cells + 1;
     lend_words(f, *words);
     if (!one_in(30))
         memcpy(lent[f].bytes, figures, *words < EMBER_FIGURES_WORDS ? 8 * *words : sizeof figures);
@@ -394,7 +396,7 @@ static void lend_desk(int f, int p, int c, size_t *words, size_t *numbers, size_
         memcpy(lent[p].bytes, desk_path, (*numbers < 2 ? *numbers : 2) * 8);
     lend_bytes(c, *cells);
     memcpy(lent[c].bytes, crosspoints, *cells < sizeof crosspoints ? *cells : sizeof crosspoints);
-    if (one_in(40))
+    if (one_in(40) && *cells > 0)
         damage(lent[c].bytes, *cells);
 }
 
@@ -403,18 +405,30 @@ static void desk_went(uint64_t number, int f, int c, size_t words)
 {
     if (number == EMBER_DONE && words == EMBER_FIGURES_WORDS) {
         memcpy(figures, lent[f].bytes, sizeof figures);
-        memcpy(crosspoints, lent[c].bytes, sizeof crosspoints);
+        memcpy(crosspoints, lent[c].bytes, (size_t)ember_desk_size(figures, EMBER_FIGURES_WORDS));
     }
     if (one_in(50)) {
         memset(crosspoints, 0, sizeof crosspoints);
         figures[0] = below(3);
-        figures[1] = 1 + below(64);
-        figures[2] = 1 + below(64);
+        figures[1] = 1 + below(EMBER_SIDE_MAX);
+        figures[2] = 1 + below(EMBER_SIDE_MAX);
         figures[3] = below(2);
         figures[4] = figures[3] * (1 + below(12));
         figures[5] = below(2);
         figures[6] = figures[5] * (1 + below(4));
     }
+}
+
+static void desk_size(void)
+{
+    size_t words, numbers, cells;
+    uint64_t number;
+    lend_desk(0, 1, 2, &words, &numbers, &cells);
+    remember();
+    number = ember_desk_size((uint64_t *)lent[0].bytes, words);
+    count("ember_desk_size", number > 0);
+    if (number > EMBER_CROSSPOINTS || !same(0))
+        wrong("more than the largest desk has");
 }
 
 static void desk_open(void)
@@ -692,8 +706,13 @@ static void read_sheet(void)
         wrong("a refusal changed figures, path or crosspoints");
     if (number == EMBER_DONE && (answer[0] < 1 || answer[0] > EMBER_PATH_MAX || !same_from(3, 8 * answer[0])))
         wrong("another path");
-    if (number == EMBER_DONE && ember_desk_is_legal((uint64_t *)lent[2].bytes, words, (uint64_t *)lent[3].bytes, answer[0], lent[4].bytes, cells) != 1)
-        wrong("read, and not legal");
+    if (number == EMBER_DONE) {
+        size_t size = (size_t)ember_desk_size((uint64_t *)lent[2].bytes, words);
+        if (ember_desk_is_legal((uint64_t *)lent[2].bytes, words, (uint64_t *)lent[3].bytes, answer[0], lent[4].bytes, size) != 1)
+            wrong("read, and not legal");
+        if (!same_from(4, size))
+            wrong("crosspoints past the desk's");
+    }
 }
 
 static void start(void)
@@ -715,7 +734,7 @@ int main(int words, char **word_of)
     } all[] = {
         {"ember_feed", feed},           {"ember_turn", turn},           {"ember_turn", turn},     {"ember_read", read_tree},         {"ember_write", write_tree},
         {"ember_write_", write_frames}, {"ember_desk_open", desk_open}, {"ember_start", start},   {"ember_desk_call", desk_call},    {"ember_desk_request", desk_request},
-        {"ember_desk_is_legal", desk_is_legal}, {"ember_sheet_write", write_sheet}, {"ember_sheet_read", read_sheet},
+        {"ember_desk_is_legal", desk_is_legal}, {"ember_desk_size", desk_size}, {"ember_sheet_write", write_sheet}, {"ember_sheet_read", read_sheet},
     };
     uint64_t wanted = words > 1 ? strtoull(word_of[1], NULL, 10) : 1000000;
     state = words > 2 ? strtoull(word_of[2], NULL, 10) : 20250101;

@@ -351,14 +351,20 @@ static void limit(size_t given, size_t word, uint64_t most)
     figures[word] = most;
 }
 
+/* How many crosspoints the desk has. */
+static size_t size(void)
+{
+    return (size_t)ember_desk_size(figures, EMBER_FIGURES_WORDS);
+}
+
 static uint64_t open_desk(void)
 {
-    return ember_desk_open(figures, EMBER_FIGURES_WORDS, 0, path, 2, crosspoints, EMBER_CROSSPOINTS);
+    return ember_desk_open(figures, EMBER_FIGURES_WORDS, 0, path, 2, crosspoints, size());
 }
 
 static uint64_t is_legal(void)
 {
-    return ember_desk_is_legal(figures, EMBER_FIGURES_WORDS, path, 2, crosspoints, EMBER_CROSSPOINTS);
+    return ember_desk_is_legal(figures, EMBER_FIGURES_WORDS, path, 2, crosspoints, size());
 }
 
 static uint64_t ask(uint64_t target, uint64_t operation, size_t count, uint64_t first, uint64_t second)
@@ -366,7 +372,7 @@ static uint64_t ask(uint64_t target, uint64_t operation, size_t count, uint64_t 
     uint64_t sources[2];
     sources[0] = first;
     sources[1] = second;
-    return ember_desk_request(figures, EMBER_FIGURES_WORDS, target, sources, count, operation, crosspoints, EMBER_CROSSPOINTS);
+    return ember_desk_request(figures, EMBER_FIGURES_WORDS, target, sources, count, operation, crosspoints, size());
 }
 
 static void desk(void)
@@ -389,8 +395,13 @@ static void desk(void)
     expect("it is legal", is_legal(), 1);
     expect("without a path it is not", ember_desk_is_legal(figures, EMBER_FIGURES_WORDS, path, 0, crosspoints, EMBER_CROSSPOINTS), 0);
 
+    expect("the largest desk", size(), EMBER_CROSSPOINTS);
+    expect("no words", ember_desk_size(figures, EMBER_FIGURES_WORDS - 1), 0);
+
     make_figures(EMBER_N_TO_N, EMBER_SIDE_MAX + 1, 1);
     expect("65 targets", open_desk(), EMBER_BAD_DESK);
+    expect("they have no size", size(), 0);
+    expect("whatever is lent", ember_desk_open(figures, EMBER_FIGURES_WORDS, 0, path, 2, crosspoints, EMBER_SIDE_MAX + 1), EMBER_BAD_DESK);
     make_figures(EMBER_N_TO_N, 1, EMBER_SIDE_MAX + 1);
     expect("65 sources", open_desk(), EMBER_BAD_DESK);
     make_figures(EMBER_N_TO_N + 1, 1, 1);
@@ -409,21 +420,29 @@ static void desk(void)
 
     /* 1:N: a target has one source */
     make_figures(EMBER_ONE_TO_N, 2, 3);
+    memset(crosspoints, 0xee, sizeof crosspoints);
+    expect("two rows of three", size(), 6);
+    for (int more = -1; more <= 1; more++) {
+        uint64_t wanted = more == 0 ? EMBER_DONE : EMBER_SETUP;
+        expect("crosspoints", ember_desk_open(figures, EMBER_FIGURES_WORDS, 0, path, 2, crosspoints, size() + more), wanted);
+        expect("legal", ember_desk_is_legal(figures, EMBER_FIGURES_WORDS, path, 2, crosspoints, size() + more), more == 0);
+    }
+    expect("the next byte", crosspoints[6], 0xee);
     expect("open", open_desk(), EMBER_DONE);
     expect("EMBER_NO_TARGET", ask(2, EMBER_CONNECT, 1, 0, 0), EMBER_NO_TARGET);
     expect("EMBER_NO_SOURCE", ask(1, EMBER_CONNECT, 1, 3, 0), EMBER_NO_SOURCE);
     expect("EMBER_BAD_MANY", ask(1, EMBER_CONNECT, 2, 0, 1), EMBER_BAD_MANY);
     expect("no operation", ask(1, EMBER_DISCONNECT + 1, 1, 0, 0), EMBER_SETUP);
     expect("connect", ask(1, EMBER_CONNECT, 1, 2, 0), EMBER_DONE);
-    expect("connected", crosspoints[EMBER_CROSSPOINT(1, 2)], 1);
+    expect("connected", crosspoints[EMBER_CROSSPOINT(figures, 1, 2)], 1);
     expect("replaced", ask(1, EMBER_CONNECT, 1, 0, 0), EMBER_DONE);
-    expect("gone", crosspoints[EMBER_CROSSPOINT(1, 2)], 0);
+    expect("gone", crosspoints[EMBER_CROSSPOINT(figures, 1, 2)], 0);
     expect("shared", ask(0, EMBER_ABSOLUTE, 1, 0, 0), EMBER_DONE);
-    expect("both have it", crosspoints[EMBER_CROSSPOINT(0, 0)] + crosspoints[EMBER_CROSSPOINT(1, 0)], 2);
+    expect("both have it", crosspoints[EMBER_CROSSPOINT(figures, 0, 0)] + crosspoints[EMBER_CROSSPOINT(figures, 1, 0)], 2);
     expect("disconnect", ask(1, EMBER_DISCONNECT, 1, 0, 0), EMBER_DONE);
-    expect("gone", crosspoints[EMBER_CROSSPOINT(1, 0)], 0);
-    crosspoints[EMBER_CROSSPOINT(1, 3)] = 1;
-    expect("a source that there is not", is_legal(), 0);
+    expect("gone", crosspoints[EMBER_CROSSPOINT(figures, 1, 0)], 0);
+    crosspoints[EMBER_CROSSPOINT(figures, 1, 2)] = 2;
+    expect("a cell of 2", is_legal(), 0);
     expect("so nothing is done", ask(1, EMBER_DISCONNECT, 1, 0, 0), EMBER_SETUP);
 
     /* 1:1: a source has one target */
@@ -431,8 +450,8 @@ static void desk(void)
     expect("open", open_desk(), EMBER_DONE);
     expect("connect", ask(0, EMBER_CONNECT, 1, 2, 0), EMBER_DONE);
     expect("take", ask(1, EMBER_CONNECT, 1, 2, 0), EMBER_DONE);
-    expect("taken", crosspoints[EMBER_CROSSPOINT(0, 2)], 0);
-    expect("here", crosspoints[EMBER_CROSSPOINT(1, 2)], 1);
+    expect("taken", crosspoints[EMBER_CROSSPOINT(figures, 0, 2)], 0);
+    expect("here", crosspoints[EMBER_CROSSPOINT(figures, 1, 2)], 1);
 
     /* N:N with limits */
     make_figures(EMBER_N_TO_N, 2, 3);
@@ -488,27 +507,27 @@ static void desk_calls(void)
     expect("open", open_desk(), EMBER_DONE);
     for (int more = -1; more <= 1; more += 2)
         expect("words", ember_desk_call(figures, EMBER_FIGURES_WORDS, path, 2, ember_rows(table), count, count, EMBER_ELEMENTS, octets, sizeof octets, crosspoints,
-                                        EMBER_CROSSPOINTS, answers, words, EMBER_CALL_WORDS + more), EMBER_SETUP);
+                                        size(), answers, words, EMBER_CALL_WORDS + more), EMBER_SETUP);
     memset(answers, 9, sizeof answers);
     memcpy(many, table, count * sizeof *table);
     memcpy(bytes, octets, sizeof octets);
     expect("a table of 257 rows", ember_desk_call(figures, EMBER_FIGURES_WORDS, path, 2, ember_rows(many), EMBER_ROWS_MAX + 1, count, EMBER_ELEMENTS, bytes, EMBER_MESSAGE_MAX,
-                                                  crosspoints, EMBER_CROSSPOINTS, answers, words, EMBER_CALL_WORDS), EMBER_SETUP);
+                                                  crosspoints, size(), answers, words, EMBER_CALL_WORDS), EMBER_SETUP);
     expect("a message of 16,385 bytes", ember_desk_call(figures, EMBER_FIGURES_WORDS, path, 2, ember_rows(many), EMBER_ROWS_MAX, count, EMBER_ELEMENTS, bytes, EMBER_MESSAGE_MAX + 1,
-                                                        crosspoints, EMBER_CROSSPOINTS, answers, words, EMBER_CALL_WORDS), EMBER_SETUP);
+                                                        crosspoints, size(), answers, words, EMBER_CALL_WORDS), EMBER_SETUP);
     expect("no tree", ember_desk_call(figures, EMBER_FIGURES_WORDS, path, 2, ember_rows(table), count, count, EMBER_STREAMS, octets, sizeof octets, crosspoints,
-                                      EMBER_CROSSPOINTS, answers, words, EMBER_CALL_WORDS), EMBER_SETUP);
+                                      size(), answers, words, EMBER_CALL_WORDS), EMBER_SETUP);
     expect("as they were", answers[0] + answers[EMBER_ANSWERS_MAX - 1], 18);
     expect("the most of both", ember_desk_call(figures, EMBER_FIGURES_WORDS, path, 2, ember_rows(many), EMBER_ROWS_MAX, count, EMBER_ELEMENTS, bytes, EMBER_MESSAGE_MAX, crosspoints,
-                                               EMBER_CROSSPOINTS, answers, words, EMBER_CALL_WORDS), EMBER_DONE);
+                                               size(), answers, words, EMBER_CALL_WORDS), EMBER_DONE);
     expect("then zeros", answers[2] + answers[EMBER_ANSWERS_MAX - 1], 0);
     words[1] = 7;
     expect("served", ember_desk_call(figures, EMBER_FIGURES_WORDS, path, 2, ember_rows(table), count, count, EMBER_ELEMENTS, octets, sizeof octets, crosspoints,
-                                     EMBER_CROSSPOINTS, answers, words, EMBER_CALL_WORDS), EMBER_DONE);
+                                     size(), answers, words, EMBER_CALL_WORDS), EMBER_DONE);
     expect("answers", words[0], 2);
     expect("ours", answers[0], EMBER_DONE);
     expect("another's", answers[1], EMBER_NO_MATRIX);
-    expect("connected", crosspoints[EMBER_CROSSPOINT(1, 2)], 1);
+    expect("connected", crosspoints[EMBER_CROSSPOINT(figures, 1, 2)], 1);
 }
 
 /* ---- a whole turn */
@@ -532,18 +551,18 @@ static void turns(void)
     expect("frames", ember_write_message(message, message_bytes, frames, sizeof frames, &count), EMBER_DONE);
     fresh();
     memset(table, 0xee, sizeof table);
-    expect("rows", turn(frames, count, EMBER_ROWS_MAX + 1, 2, EMBER_CROSSPOINTS, EMBER_TURN_WORDS), EMBER_SETUP);
-    expect("no path", turn(frames, count, EMBER_ROWS_MAX, 0, EMBER_CROSSPOINTS, EMBER_TURN_WORDS), EMBER_SETUP);
-    expect("a path of 17", turn(frames, count, EMBER_ROWS_MAX, EMBER_PATH_MAX + 1, EMBER_CROSSPOINTS, EMBER_TURN_WORDS), EMBER_SETUP);
-    expect("crosspoints", turn(frames, count, EMBER_ROWS_MAX, 2, EMBER_CROSSPOINTS - 1, EMBER_TURN_WORDS), EMBER_SETUP);
-    expect("crosspoints", turn(frames, count, EMBER_ROWS_MAX, 2, EMBER_CROSSPOINTS + 1, EMBER_TURN_WORDS), EMBER_SETUP);
-    expect("words", turn(frames, count, EMBER_ROWS_MAX, 2, EMBER_CROSSPOINTS, EMBER_TURN_WORDS - 1), EMBER_SETUP);
-    expect("words", turn(frames, count, EMBER_ROWS_MAX, 2, EMBER_CROSSPOINTS, EMBER_TURN_WORDS + 1), EMBER_SETUP);
+    expect("rows", turn(frames, count, EMBER_ROWS_MAX + 1, 2, size(), EMBER_TURN_WORDS), EMBER_SETUP);
+    expect("no path", turn(frames, count, EMBER_ROWS_MAX, 0, size(), EMBER_TURN_WORDS), EMBER_SETUP);
+    expect("a path of 17", turn(frames, count, EMBER_ROWS_MAX, EMBER_PATH_MAX + 1, size(), EMBER_TURN_WORDS), EMBER_SETUP);
+    expect("crosspoints", turn(frames, count, EMBER_ROWS_MAX, 2, size() - 1, EMBER_TURN_WORDS), EMBER_SETUP);
+    expect("crosspoints", turn(frames, count, EMBER_ROWS_MAX, 2, size() + 1, EMBER_TURN_WORDS), EMBER_SETUP);
+    expect("words", turn(frames, count, EMBER_ROWS_MAX, 2, size(), EMBER_TURN_WORDS - 1), EMBER_SETUP);
+    expect("words", turn(frames, count, EMBER_ROWS_MAX, 2, size(), EMBER_TURN_WORDS + 1), EMBER_SETUP);
     memset(turn_answers, 9, sizeof turn_answers);
-    expect("nor then", turn(frames, count, EMBER_ROWS_MAX, 0, EMBER_CROSSPOINTS, EMBER_TURN_WORDS), EMBER_SETUP);
+    expect("nor then", turn(frames, count, EMBER_ROWS_MAX, 0, size(), EMBER_TURN_WORDS), EMBER_SETUP);
     expect("as they were", turn_answers[0] + turn_answers[EMBER_ANSWERS_MAX - 1], 18);
-    expect("a turn with no bytes", turn(frames, 0, EMBER_ROWS_MAX, 2, EMBER_CROSSPOINTS, EMBER_TURN_WORDS), EMBER_DONE);
-    expect("a turn", turn(frames, count, EMBER_ROWS_MAX, 2, EMBER_CROSSPOINTS, EMBER_TURN_WORDS), EMBER_MESSAGE);
+    expect("a turn with no bytes", turn(frames, 0, EMBER_ROWS_MAX, 2, size(), EMBER_TURN_WORDS), EMBER_DONE);
+    expect("a turn", turn(frames, count, EMBER_ROWS_MAX, 2, size(), EMBER_TURN_WORDS), EMBER_MESSAGE);
     expect("nothing thrown away", turn_words[EMBER_DISCARDED], 0);
     expect("all consumed", turn_words[EMBER_CONSUMED], count);
     expect("the message", turn_words[EMBER_LENGTH], message_bytes);
@@ -556,10 +575,10 @@ static void turns(void)
     expect("ours", turn_answers[0], EMBER_DONE);
     expect("another's", turn_answers[1], EMBER_NO_MATRIX);
     expect("then zeros", turn_answers[2] + turn_answers[EMBER_ANSWERS_MAX - 1], 0);
-    expect("connected", crosspoints[EMBER_CROSSPOINT(1, 2)], 1);
+    expect("connected", crosspoints[EMBER_CROSSPOINT(figures, 1, 2)], 1);
     expect("rows past the count", table[4][0], 0xeeeeeeeeeeeeeeeeull);
 
-    expect("three rows", turn(frames, count, 3, 2, EMBER_CROSSPOINTS, EMBER_TURN_WORDS), EMBER_MESSAGE);
+    expect("three rows", turn(frames, count, 3, 2, size(), EMBER_TURN_WORDS), EMBER_MESSAGE);
     expect("EMBER_NO_ROOM", turn_words[EMBER_TURN_TREE], EMBER_NO_ROOM);
     expect("the desk not called", turn_answers[1], 0);
     expect("how many", turn_words[EMBER_TURN_COUNT], 4);
@@ -567,22 +586,22 @@ static void turns(void)
     /* one byte too many after Root */
     message[message_bytes] = 0;
     expect("frames", ember_write_message(message, message_bytes + 1, frames, sizeof frames, &count), EMBER_DONE);
-    expect("a turn", turn(frames, count, EMBER_ROWS_MAX, 2, EMBER_CROSSPOINTS, EMBER_TURN_WORDS), EMBER_MESSAGE);
+    expect("a turn", turn(frames, count, EMBER_ROWS_MAX, 2, size(), EMBER_TURN_WORDS), EMBER_MESSAGE);
     expect("EMBER_BAD_BER", turn_words[EMBER_TURN_TREE], EMBER_BAD_BER);
     expect("its place", turn_words[EMBER_TURN_PLACE], message_bytes);
 
     /* a desk that is not legal: the message is read, and the desk says 1 */
-    crosspoints[EMBER_CROSSPOINT(63, 63)] = 1;
+    crosspoints[EMBER_CROSSPOINT(figures, 0, 0)] = 2;
     expect("frames", ember_write_message(message, message_bytes, frames, sizeof frames, &count), EMBER_DONE);
-    expect("a turn", turn(frames, count, EMBER_ROWS_MAX, 2, EMBER_CROSSPOINTS, EMBER_TURN_WORDS), EMBER_MESSAGE);
+    expect("a turn", turn(frames, count, EMBER_ROWS_MAX, 2, size(), EMBER_TURN_WORDS), EMBER_MESSAGE);
     expect("EMBER_SETUP", turn_words[EMBER_TURN_DESK], EMBER_SETUP);
     expect("no answers", turn_words[EMBER_TURN_ANSWERS], 0);
 
     figures[EMBER_FIGURES_HAS_EACH] = 3;
-    expect("no figures", turn(frames, count, EMBER_ROWS_MAX, 2, EMBER_CROSSPOINTS, EMBER_TURN_WORDS), EMBER_SETUP);
+    expect("no figures", turn(frames, count, EMBER_ROWS_MAX, 2, size(), EMBER_TURN_WORDS), EMBER_SETUP);
     figures[EMBER_FIGURES_HAS_EACH] = 0;
     session[0] = 6;
-    expect("no session", turn(frames, count, EMBER_ROWS_MAX, 2, EMBER_CROSSPOINTS, EMBER_TURN_WORDS), EMBER_SETUP);
+    expect("no session", turn(frames, count, EMBER_ROWS_MAX, 2, size(), EMBER_TURN_WORDS), EMBER_SETUP);
 }
 
 /* ---- route sheets */
@@ -638,6 +657,19 @@ static void sheets(void)
     expect("the first", path[0], 2147483647u);
     expect("figures", (uint64_t)memcmp(figures, was, sizeof was), 0);
     expect("all connected", (uint64_t)memcmp(crosspoints, all, sizeof all), 0);
+
+    /* a small desk: its own crosspoints are the first, and the others stay */
+    make_figures(EMBER_ONE_TO_N, 2, 3);
+    expect("open", open_desk(), EMBER_DONE);
+    expect("connect", ask(1, EMBER_CONNECT, 1, 2, 0), EMBER_DONE);
+    expect("written", ember_sheet_write(figures, EMBER_FIGURES_WORDS, path, 2, crosspoints, size(), sheet, sizeof sheet, length, EMBER_SHEET_WORDS),
+           EMBER_DONE);
+    memset(crosspoints, 0xee, sizeof crosspoints);
+    expect("read", read_sheet(length[0], EMBER_STORE_BYTES, EMBER_FIGURES_WORDS, EMBER_PATH_MAX, EMBER_CROSSPOINTS, EMBER_SHEET_WORDS), EMBER_DONE);
+    expect("its size", size(), 6);
+    expect("its crosspoints", (uint64_t)memcmp(crosspoints, "\0\0\0\0\0\1", 6), 0);
+    for (size_t i = 6; i < sizeof crosspoints; i++)
+        expect("the others", crosspoints[i], 0xee);
 }
 
 /* ---- ember_entries.h: a row with every member, written and read again */

@@ -106,27 +106,31 @@ static void readings(void)
     READ(node, 1, EMBER_BAD_NUMBER, 10, 0, 0);
 }
 
-/* "first of all": EMBER_SETUP for a wrong count of crosspoints, also where the path, the mode or a figure is out of its range too. */
+/* "first of all": EMBER_SETUP for a wrong count of crosspoints, also where the path or the mode is out of its range too. Figures out of range have no
+ * size, and are EMBER_BAD_DESK whatever is lent. */
 static void openings(void)
 {
     static const uint64_t figures[7] = {EMBER_N_TO_N, 2, 2, 0, 0, 0, 0}, no_targets[7] = {EMBER_N_TO_N, 0, 2, 0, 0, 0, 0};
     static const uint64_t path[17] = {1, 1, 1, 1, 1, 1, 1, 1, 1, 1, 1, 1, 1, 1, 1, 1, 1}, zero[3] = {1, 2, 0}, over[3] = {1, 2, 2147483648u};
-    static uint8_t cells[EMBER_CROSSPOINTS + 1], same[EMBER_CROSSPOINTS + 1];
+    enum { SIZE = 4 };
+    static uint8_t cells[SIZE + 1], same[SIZE + 1];
+    expect("its size", ember_desk_size(figures, 7), SIZE);
+    expect("no size", ember_desk_size(no_targets, 7), 0);
     for (int more = -1; more <= 1; more++) {
         uint64_t wanted = more == 0 ? EMBER_BAD_DESK : EMBER_SETUP;
         memset(cells, 1, sizeof cells);
         memcpy(same, cells, sizeof cells);
-        expect("a path of none", ember_desk_open(figures, 7, 0, path, 0, cells, (size_t)(EMBER_CROSSPOINTS + more)), wanted);
-        expect("a path of 17", ember_desk_open(figures, 7, 0, path, 17, cells, (size_t)(EMBER_CROSSPOINTS + more)), wanted);
-        expect("0 last in a path", ember_desk_open(figures, 7, 0, zero, 3, cells, (size_t)(EMBER_CROSSPOINTS + more)), wanted);
-        expect("over the range last in a path", ember_desk_open(figures, 7, 0, over, 3, cells, (size_t)(EMBER_CROSSPOINTS + more)), wanted);
-        expect("a mode", ember_desk_open(figures, 7, 1, path, 16, cells, (size_t)(EMBER_CROSSPOINTS + more)), wanted);
-        expect("no targets", ember_desk_open(no_targets, 7, 0, path, 16, cells, (size_t)(EMBER_CROSSPOINTS + more)), wanted);
+        expect("a path of none", ember_desk_open(figures, 7, 0, path, 0, cells, (size_t)(SIZE + more)), wanted);
+        expect("a path of 17", ember_desk_open(figures, 7, 0, path, 17, cells, (size_t)(SIZE + more)), wanted);
+        expect("0 last in a path", ember_desk_open(figures, 7, 0, zero, 3, cells, (size_t)(SIZE + more)), wanted);
+        expect("over the range last in a path", ember_desk_open(figures, 7, 0, over, 3, cells, (size_t)(SIZE + more)), wanted);
+        expect("a mode", ember_desk_open(figures, 7, 1, path, 16, cells, (size_t)(SIZE + more)), wanted);
+        expect("no targets", ember_desk_open(no_targets, 7, 0, path, 16, cells, (size_t)(SIZE + more)), EMBER_BAD_DESK);
         expect("the crosspoints", (uint64_t)memcmp(cells, same, sizeof cells), 0);
         wanted = more == 0 ? EMBER_DONE : EMBER_SETUP;
-        expect("what is right", ember_desk_open(figures, 7, 0, path, 16, cells, (size_t)(EMBER_CROSSPOINTS + more)), wanted);
+        expect("what is right", ember_desk_open(figures, 7, 0, path, 16, cells, (size_t)(SIZE + more)), wanted);
         expect("the crosspoints after it", cells[0], more == 0 ? 0 : 1);
-        expect("the byte after them", cells[EMBER_CROSSPOINTS], 1);
+        expect("the byte after them", cells[SIZE], 1);
     }
 }
 
@@ -135,7 +139,7 @@ static void turned(const char *what, const uint8_t *message, size_t message_byte
 {
     static const uint64_t figures[EMBER_FIGURES_WORDS] = {EMBER_N_TO_N, 2, 2, 0, 0, 0, 0}, path[1] = {1};
     static ember_row table[1];
-    static uint8_t frames[EMBER_FRAME_MAX], cells[EMBER_CROSSPOINTS], answers[EMBER_ANSWERS_MAX];
+    static uint8_t frames[EMBER_FRAME_MAX], cells[4], answers[EMBER_ANSWERS_MAX];
     uint64_t words[EMBER_TURN_WORDS], count = 0;
     expect("the desk", ember_desk_open(figures, EMBER_FIGURES_WORDS, 0, path, 1, cells, sizeof cells), EMBER_DONE);
     expect("ember_start", ember_start(session, EMBER_SESSION_WORDS), EMBER_DONE);

@@ -517,6 +517,11 @@ static void rows(void)
 
 /* ---- the desk. These three functions alone know how answers and tables are lent to the library: as 256 bytes and none, or as words and rows. */
 
+static size_t size_of(const uint64_t *figures)
+{
+    return (size_t)ember_desk_size(figures, EMBER_FIGURES_WORDS);
+}
+
 static uint64_t call_desk(uint64_t *figures, uint64_t *path, size_t path_words, const ember_row *table, size_t count, uint64_t root, const uint8_t *message,
                           size_t bytes, uint8_t *crosspoints, uint8_t *answers, uint64_t *answer)
 {
@@ -524,7 +529,7 @@ static uint64_t call_desk(uint64_t *figures, uint64_t *path, size_t path_words, 
     uint64_t number;
     remember();
     number = done("ember_desk_call", ember_desk_call(figures, EMBER_FIGURES_WORDS, path, path_words, table, count, count, root, message, bytes, crosspoints,
-                                                     EMBER_CROSSPOINTS, lent_answers, answer, EMBER_CALL_WORDS));
+                                                     size_of(figures), lent_answers, answer, EMBER_CALL_WORDS));
     for (size_t i = 0; number == EMBER_DONE && i < answer[0]; i++)
         answers[i] = (uint8_t)lent_answers[i];
     return number;
@@ -537,7 +542,7 @@ static uint64_t call_turn(uint64_t *session, uint8_t *store, const uint8_t *chun
     uint64_t number;
     remember();
     number = done("ember_turn", ember_turn(session, EMBER_SESSION_WORDS, store, EMBER_STORE_BYTES, chunk, chunk_bytes, table, rows, figures,
-                                           EMBER_FIGURES_WORDS, path, path_words, crosspoints, EMBER_CROSSPOINTS, lent_answers, answer, EMBER_TURN_WORDS));
+                                           EMBER_FIGURES_WORDS, path, path_words, crosspoints, size_of(figures), lent_answers, answer, EMBER_TURN_WORDS));
     for (size_t i = 0; number == EMBER_MESSAGE && i < answer[EMBER_TURN_ANSWERS]; i++)
         answers[i] = (uint8_t)lent_answers[i];
     return number;
@@ -574,9 +579,9 @@ static uint64_t make_desk(void)
     begin();
     figures = lend(sizeof desk_figures, desk_figures);
     path = lend(8 * desk_path_words, desk_path);
-    crosspoints = lend(EMBER_CROSSPOINTS, NULL);
+    crosspoints = lend(size_of(desk_figures), NULL);
     remember();
-    number = done("ember_desk_open", ember_desk_open(figures, EMBER_FIGURES_WORDS, below(32) == 0, path, desk_path_words, crosspoints, EMBER_CROSSPOINTS));
+    number = done("ember_desk_open", ember_desk_open(figures, EMBER_FIGURES_WORDS, below(32) == 0, path, desk_path_words, crosspoints, size_of(figures)));
     must(number == EMBER_DONE || same(crosspoints), "45 opens nothing");
     if (number == EMBER_DONE)
         for (uint64_t more = below(5); more > 0; more--) {
@@ -588,16 +593,16 @@ static uint64_t make_desk(void)
                 sources[i] = below(10);
             remember();
             number = done("ember_desk_request",
-                          ember_desk_request(figures, EMBER_FIGURES_WORDS, below(10), sources, n, below(4), crosspoints, EMBER_CROSSPOINTS));
+                          ember_desk_request(figures, EMBER_FIGURES_WORDS, below(10), sources, n, below(4), crosspoints, size_of(figures)));
             seen(7, number, desk_figures[0], n);
             must(number == EMBER_DONE || same(crosspoints), "40 to 44 leave the crosspoints");
-            must(done("ember_desk_is_legal", ember_desk_is_legal(figures, EMBER_FIGURES_WORDS, path, desk_path_words, crosspoints, EMBER_CROSSPOINTS)) == 1,
+            must(done("ember_desk_is_legal", ember_desk_is_legal(figures, EMBER_FIGURES_WORDS, path, desk_path_words, crosspoints, size_of(figures))) == 1,
                  "a legal desk stays legal");
         }
-    memcpy(desk_crosspoints, crosspoints, sizeof desk_crosspoints);
+    memcpy(desk_crosspoints, crosspoints, size_of(desk_figures));
     if (below(16) == 0)
-        desk_crosspoints[word() % EMBER_CROSSPOINTS] = (uint8_t)byte();
-    return ember_desk_is_legal(desk_figures, EMBER_FIGURES_WORDS, desk_path, desk_path_words, desk_crosspoints, EMBER_CROSSPOINTS);
+        desk_crosspoints[word() % (size_of(desk_figures) + 1) % EMBER_CROSSPOINTS] = (uint8_t)byte();
+    return ember_desk_is_legal(desk_figures, EMBER_FIGURES_WORDS, desk_path, desk_path_words, desk_crosspoints, size_of(desk_figures));
 }
 
 static void desks(void)
@@ -619,7 +624,7 @@ static void desks(void)
     begin();
     figures = lend(sizeof desk_figures, desk_figures);
     path = lend(8 * desk_path_words, desk_path);
-    crosspoints = lend(EMBER_CROSSPOINTS, desk_crosspoints);
+    crosspoints = lend(size_of(desk_figures), desk_crosspoints);
     table = lend(count * sizeof *made, made);
     message = lend(arena.used, parts);
     answer = lend(8 * EMBER_CALL_WORDS, NULL);
@@ -636,7 +641,7 @@ static void desks(void)
         must(answers[i] == 0 || (answers[i] >= 40 && answers[i] <= 44), "an answer");
         must(ember_kind(table[ember_answered(table, count, i)]) == EMBER_KIND_CONNECTION, "and its row");
     }
-    must(ember_desk_is_legal(figures, EMBER_FIGURES_WORDS, path, desk_path_words, crosspoints, EMBER_CROSSPOINTS) == 1, "a legal desk stays legal");
+    must(ember_desk_is_legal(figures, EMBER_FIGURES_WORDS, path, desk_path_words, crosspoints, size_of(figures)) == 1, "a legal desk stays legal");
 }
 
 /* Whole turns, whole and in chunks, and by struct ember_line: the same desk at the end, the same answers on the way. */
@@ -670,7 +675,7 @@ static void turns(void)
         table = lend(rows * sizeof *table, NULL);
         figures = lend(sizeof desk_figures, desk_figures);
         path = lend(8 * desk_path_words, desk_path);
-        crosspoints = lend(EMBER_CROSSPOINTS, desk_crosspoints);
+        crosspoints = lend(size_of(desk_figures), desk_crosspoints);
         answer = lend(8 * EMBER_TURN_WORDS, NULL);
         ember_start(session, EMBER_SESSION_WORDS);
         ember_line_listen(&line);
@@ -713,9 +718,9 @@ static void turns(void)
                 sums[run] = sums[run] * 31 + answers[i] + 1;
             sums[run] = sums[run] * 31 + answer[EMBER_TURN_TREE] * 1000 + answer[EMBER_TURN_PLACE] + answer[EMBER_TURN_COUNT] + answer[EMBER_TURN_DESK];
         }
-        memcpy(after[run], run == 2 ? line.crosspoints : crosspoints, EMBER_CROSSPOINTS);
-        must(run == 0 || (sums[run] == sums[0] && memcmp(after[run], after[0], EMBER_CROSSPOINTS) == 0), "the cuts do not matter to desk and answers");
-        must(!legal || ember_desk_is_legal(desk_figures, EMBER_FIGURES_WORDS, desk_path, desk_path_words, after[run], EMBER_CROSSPOINTS), "it stays legal");
+        memcpy(after[run], run == 2 ? line.crosspoints : crosspoints, size_of(figures));
+        must(run == 0 || (sums[run] == sums[0] && memcmp(after[run], after[0], size_of(desk_figures)) == 0), "the cuts do not matter to desk and answers");
+        must(!legal || ember_desk_is_legal(desk_figures, EMBER_FIGURES_WORDS, desk_path, desk_path_words, after[run], size_of(desk_figures)), "it stays legal");
     }
 }
 
@@ -736,8 +741,8 @@ static void sheets(void)
         uint64_t cut = 1 + byte();
         if (how == 2 && make_desk() == 1) {
             uint64_t length[1] = {0};
-            ember_sheet_write(desk_figures, EMBER_FIGURES_WORDS, desk_path, desk_path_words, desk_crosspoints, EMBER_CROSSPOINTS, sheet, sizeof sheet, length,
-                              EMBER_SHEET_WORDS);
+            ember_sheet_write(desk_figures, EMBER_FIGURES_WORDS, desk_path, desk_path_words, desk_crosspoints, size_of(desk_figures), sheet, sizeof sheet,
+                              length, EMBER_SHEET_WORDS);
             bytes = (size_t)length[0];
             for (uint64_t damage = below(3); damage > 0 && bytes > 0; damage--)
                 sheet[(byte() << 8 | byte()) % bytes] = (uint8_t)byte();
@@ -770,17 +775,17 @@ static void sheets(void)
     must(words >= 1 && words <= EMBER_PATH_MAX, "a path");
     memcpy(desk_figures, figures, sizeof desk_figures);
     memcpy(desk_path, path, sizeof desk_path);
-    memcpy(desk_crosspoints, crosspoints, sizeof desk_crosspoints);
+    memcpy(desk_crosspoints, crosspoints, size_of(desk_figures));
     begin();
     figures = lend(sizeof desk_figures, desk_figures);
     path = lend(8 * words, desk_path);
-    crosspoints = lend(EMBER_CROSSPOINTS, desk_crosspoints);
+    crosspoints = lend(size_of(desk_figures), desk_crosspoints);
     text = lend(EMBER_SHEET_MAX, NULL);
     answer = lend(8 * EMBER_SHEET_WORDS, NULL);
     remember();
-    number = done("ember_desk_is_legal", ember_desk_is_legal(figures, EMBER_FIGURES_WORDS, path, words, crosspoints, EMBER_CROSSPOINTS));
+    number = done("ember_desk_is_legal", ember_desk_is_legal(figures, EMBER_FIGURES_WORDS, path, words, crosspoints, size_of(figures)));
     must(number == 1, "what is read is legal");
-    number = done("ember_sheet_write", ember_sheet_write(figures, EMBER_FIGURES_WORDS, path, words, crosspoints, EMBER_CROSSPOINTS, text, EMBER_SHEET_MAX,
+    number = done("ember_sheet_write", ember_sheet_write(figures, EMBER_FIGURES_WORDS, path, words, crosspoints, size_of(figures), text, EMBER_SHEET_MAX,
                                                          answer, EMBER_SHEET_WORDS));
     must(number == EMBER_DONE && answer[0] <= EMBER_SHEET_MAX, "its sheet fits");
     bytes = (size_t)answer[0];
@@ -794,7 +799,7 @@ static void sheets(void)
     answer = lend(8 * EMBER_SHEET_WORDS, NULL);
     number = call_sheet(text, bytes, store, figures, path, crosspoints, answer);
     must(number == EMBER_DONE && answer[0] == words && memcmp(figures, desk_figures, sizeof desk_figures) == 0 && memcmp(path, desk_path, 8 * words) == 0
-             && memcmp(crosspoints, desk_crosspoints, EMBER_CROSSPOINTS) == 0,
+             && memcmp(crosspoints, desk_crosspoints, size_of(desk_figures)) == 0,
          "its sheet is read as the same desk");
 }
 

@@ -1,12 +1,12 @@
 //! The proved turn, through the C library (crates/ember/include/ember.h). Compiled only where build.rs finds it.
-use super::{Figures, Host, Turn, CELLS, SIDE};
+use super::{Figures, Host, Turn};
 use crate::glow::{Row, ENTRIES};
 use crate::STORE;
 
 extern "C" {
     /// One turn. Lent: the session's four words (as `framing_feed` has them), the store, the chunk, the table, the desk (seven
     /// words: type, targets, sources, whether there is a total limit and which, whether there is one per target and which), its
-    /// path's numbers, its 4,096 cells, 256 bytes for the answers of the desk's call, and nine words that say what the calls
+    /// path's numbers, its cells, one for each target and source, 256 bytes for the answers of the desk's call, and nine words that say what the calls
     /// answered. Returned is the session's number; of the nine words the benchmark uses the second, the bytes consumed, the fourth,
     /// the tree reader's number (0 if it was not called), the eighth, the desk call's number, and the ninth, the count of its answers.
     fn ember_turn(
@@ -53,7 +53,7 @@ impl Proved {
             table: vec![[0; 50]; ENTRIES],
             desk: [figures.kind, figures.targets, figures.sources, has_total, total, has_per_target, per_target],
             path: figures.path.clone(),
-            cells: vec![0; CELLS],
+            cells: vec![0; (figures.targets * figures.sources) as usize],
             bytes: [0; 256],
             answers: vec![0; ENTRIES],
         }
@@ -100,6 +100,7 @@ impl Host for Proved {
     }
 
     fn holds(&self, target: usize, source: usize) -> bool {
-        self.cells[SIDE * target + source] == 1
+        let (targets, sources) = (self.desk[1] as usize, self.desk[2] as usize);
+        target < targets && source < sources && self.cells[sources * target + source] == 1
     }
 }

@@ -336,9 +336,10 @@ enum ember_matrix_type {
 /* The path of the desk's matrix: 1 to 16 words, each 1 to 2,147,483,647. */
 #define EMBER_PATH_MAX 16
 
-/* The crosspoints: 4,096 bytes; that of target t and source s is at 64 t + s, 1 if they are connected, else 0. */
-#define EMBER_CROSSPOINTS 4096
-#define EMBER_CROSSPOINT(target, source) ((size_t)(target) * 64 + (size_t)(source))
+/* The crosspoints: a byte for each target and source and no other, as many as ember_desk_size says, at most EMBER_CROSSPOINTS. That of
+ * target t and source s is at t times the count of sources + s: EMBER_CROSSPOINT(figures, t, s). It is 1 if they are connected, else 0. */
+#define EMBER_CROSSPOINTS (EMBER_SIDE_MAX * EMBER_SIDE_MAX)
+#define EMBER_CROSSPOINT(figures, target, source) ((size_t)(target) * (size_t)(figures)[EMBER_FIGURES_SOURCES] + (size_t)(source))
 
 /* The operations: the target's sources become the list, are joined by it, lose it. But in EMBER_ONE_TO_N and EMBER_ONE_TO_ONE
  * EMBER_CONNECT with one source takes the place of the target's source, EMBER_ABSOLUTE or EMBER_CONNECT with more is EMBER_BAD_MANY,
@@ -349,13 +350,20 @@ enum ember_operation {
     EMBER_DISCONNECT = 2
 };
 
+/* How many crosspoints a desk with these figures has: targets times sources, 1 to EMBER_CROSSPOINTS. Every call on a desk is lent exactly
+ * these. 0 if the figures are none (EMBER_SETUP of ember_desk_open) or out of their ranges (EMBER_BAD_DESK).
+ * Never changes anything. */
+uint64_t ember_desk_size(const uint64_t *figures, size_t figures_words);
+
 /* Opens a desk: clears its crosspoints. EMBER_DONE; EMBER_BAD_DESK if figures, mode (0 is the only one) or path are out of their
- * ranges; EMBER_SETUP if figures_words is not 7, a limit is neither 0 and 0 nor 1 and a number, or crosspoint_bytes not 4,096.
+ * ranges; EMBER_SETUP if figures_words is not 7, a limit is neither 0 and 0 nor 1 and a number, or, for figures in their ranges,
+ * crosspoint_bytes is not as ember_desk_size says.
  * Never changes a crosspoint unless it answers EMBER_DONE. */
 uint64_t ember_desk_open(const uint64_t *figures, size_t figures_words, uint64_t mode, const uint64_t *path,
                          size_t path_words, uint8_t *crosspoints, size_t crosspoint_bytes);
 
-/* 1 if a desk is legal: its figures and path could be opened, and its crosspoints fit its counts, type and limits; else 0.
+/* 1 if a desk is legal: its figures and path could be opened, and its crosspoints are as many as ember_desk_size says and fit its
+ * counts, type and limits; else 0.
  * Never changes anything. */
 uint64_t ember_desk_is_legal(const uint64_t *figures, size_t figures_words, const uint64_t *path, size_t path_words,
                              const uint8_t *crosspoints, size_t crosspoint_bytes);
@@ -402,8 +410,8 @@ uint64_t ember_desk_call(const uint64_t *figures, size_t figures_words, const ui
 /* Takes a turn: the session's call on a chunk; if it gives EMBER_MESSAGE, the tree reader's call on that message; if that gives
  * EMBER_DONE, the desk's call on those entries. Answers the event's number, 2 to 24, or EMBER_DONE; offer the rest of the chunk
  * again. EMBER_SETUP for what ember_feed refuses, figures that are none, a table over 256 rows, path_words not 1 to 16,
- * crosspoint_bytes not 4,096, or answer_words not 9: nothing was consumed or changed then. Else `answers` are those of this turn,
- * all zeros where the desk was not called.
+ * crosspoint_bytes not as ember_desk_size says, or answer_words not 9: nothing was consumed or changed then. Else `answers` are
+ * those of this turn, all zeros where the desk was not called.
  * Over any calls on one line and one legal desk with one count of table_rows, refused ones among them, on whatever chunks: what they
  * tell is what the rules of framing, tree and desk tell for the bytes consumed, each event once and in order, and what they keep is
  * what the rules keep.
@@ -429,10 +437,11 @@ uint64_t ember_sheet_write(const uint64_t *figures, size_t figures_words, const 
                            const uint8_t *crosspoints, size_t crosspoint_bytes, uint8_t *out, size_t out_bytes,
                            uint64_t *answer, size_t answer_words);
 
-/* Reads a sheet of any length: EMBER_DONE, and figures, path and crosspoints are those of its desk, which is legal; or the first refusal:
+/* Reads a sheet of any length: EMBER_DONE, and figures, path and crosspoints are those of its desk, which is legal: the first of the lent
+ * crosspoints, as many as ember_desk_size says of these figures, the others as they were; or the first refusal:
  * EMBER_BAD_BYTE for a bad line, 10 to 24, EMBER_BAD_GLOW unless it is one message of one qualified matrix and its connections, 30 to 38,
  * 41 to 45. ember_sheet_line (ember_line.h) says at which line, and which spellings are read. EMBER_SETUP if store_bytes is not 17,408,
- * figures_words not 7, path_words not 16, crosspoint_bytes not 4,096 or answer_words not 1. The store is as it was after EMBER_SETUP and
+ * figures_words not 7, path_words not 16, crosspoint_bytes not EMBER_CROSSPOINTS or answer_words not 1. The store is as it was after EMBER_SETUP and
  * a bad line; else as ember_feed leaves it that is fed the sheet's bytes, up to and including that of the first event from 10 up, or all
  * of them: a line's own store is not lent to it, then.
  * Never changes figures, path or crosspoints unless it answers EMBER_DONE. */

@@ -49,8 +49,15 @@ struct ember_line {
     uint64_t figures[EMBER_FIGURES_WORDS];
     uint64_t path[EMBER_PATH_MAX];
     size_t path_words;
-    uint8_t crosspoints[EMBER_CROSSPOINTS];
+    uint8_t crosspoints[EMBER_CROSSPOINTS]; /* its own are the first, as many as ember_line_size says */
 };
+
+/* How many crosspoints the line's desk has; 0 if its figures are out of their ranges.
+ * Never more than EMBER_CROSSPOINTS. */
+static inline size_t ember_line_size(const struct ember_line *line)
+{
+    return (size_t)ember_desk_size(line->figures, EMBER_FIGURES_WORDS);
+}
 
 /* Starts a line with no desk, to listen: messages are read, and no connection is served. EMBER_DONE.
  * Never fails. */
@@ -75,7 +82,7 @@ static inline uint64_t ember_line_start(struct ember_line *line, uint64_t type, 
     line->figures[EMBER_FIGURES_TOTAL] = total;
     line->figures[EMBER_FIGURES_HAS_EACH] = each != 0;
     line->figures[EMBER_FIGURES_EACH] = each;
-    number = ember_desk_open(line->figures, EMBER_FIGURES_WORDS, 0, path, path_words, line->crosspoints, sizeof line->crosspoints);
+    number = ember_desk_open(line->figures, EMBER_FIGURES_WORDS, 0, path, path_words, line->crosspoints, ember_line_size(line));
     if (number != EMBER_DONE)
         return number;
     memcpy(line->path, path, path_words * sizeof *path);
@@ -103,7 +110,7 @@ static inline uint64_t ember_line_turn(struct ember_line *line, const uint8_t *c
             told[EMBER_TURN_TREE] = ember_read(line->store, (size_t)told[EMBER_LENGTH], line->table, EMBER_ROWS_MAX, told + EMBER_TURN_PLACE, EMBER_READ_WORDS);
     } else {
         line->event = ember_turn(line->session, EMBER_SESSION_WORDS, line->store, sizeof line->store, chunk, chunk_bytes, line->table, EMBER_ROWS_MAX,
-                                 line->figures, EMBER_FIGURES_WORDS, line->path, line->path_words, line->crosspoints, sizeof line->crosspoints,
+                                 line->figures, EMBER_FIGURES_WORDS, line->path, line->path_words, line->crosspoints, ember_line_size(line),
                                  line->answers, told, EMBER_TURN_WORDS);
     }
     line->consumed = line->event == EMBER_SETUP ? chunk_bytes : (size_t)told[EMBER_CONSUMED];
@@ -152,10 +159,11 @@ static inline size_t ember_line_answered(const struct ember_line *line, size_t i
 }
 
 /* 1 if a source is connected to a target of the line's desk; else 0.
- * Never looks past 63, whatever is asked. */
+ * Never looks past the desk's crosspoints, whatever is asked. */
 static inline int ember_line_connected(const struct ember_line *line, uint64_t target, uint64_t source)
 {
-    return target < EMBER_SIDE_MAX && source < EMBER_SIDE_MAX && line->crosspoints[EMBER_CROSSPOINT(target, source)] == 1;
+    return target < line->figures[EMBER_FIGURES_TARGETS] && source < line->figures[EMBER_FIGURES_SOURCES] && ember_line_size(line) != 0
+           && line->crosspoints[EMBER_CROSSPOINT(line->figures, target, source)] == 1;
 }
 
 /* The sources of a target of the line's desk, ascending: into sources, which has EMBER_SIDE_MAX words, and how many.
@@ -177,7 +185,7 @@ static inline uint64_t ember_line_request(struct ember_line *line, uint64_t targ
     if (line->path_words == 0)
         return EMBER_SETUP;
     return ember_desk_request(line->figures, EMBER_FIGURES_WORDS, target, sources, source_words, operation, line->crosspoints,
-                              sizeof line->crosspoints);
+                              ember_line_size(line));
 }
 
 /* Writes the route sheet of the line's desk: EMBER_DONE and *count, how many bytes, at most EMBER_SHEET_MAX; EMBER_NO_OUT if out is too short;
@@ -186,7 +194,7 @@ static inline uint64_t ember_line_request(struct ember_line *line, uint64_t targ
 static inline uint64_t ember_line_sheet_write(const struct ember_line *line, uint8_t *out, size_t out_bytes, size_t *count)
 {
     uint64_t length[EMBER_SHEET_WORDS], number;
-    number = ember_sheet_write(line->figures, EMBER_FIGURES_WORDS, line->path, line->path_words, line->crosspoints, sizeof line->crosspoints, out, out_bytes,
+    number = ember_sheet_write(line->figures, EMBER_FIGURES_WORDS, line->path, line->path_words, line->crosspoints, ember_line_size(line), out, out_bytes,
                                length, EMBER_SHEET_WORDS);
     if (number == EMBER_DONE)
         *count = (size_t)length[0];

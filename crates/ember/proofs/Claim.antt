@@ -24,20 +24,20 @@ use Rattle.framing_answers.specs.Answers.{accepts}
 use Rattle.framing_c.specs.Calls.{Called, told as framed, calls}
 use Rattle.framing_words.proofs.Laws.{words-back}
 use Rattle.glow_rows.specs.Entry.{Rows}
-use Rattle.desk_crosspoints.specs.Figures.{both}
+use Rattle.desk_crosspoints.specs.Figures.{both, sizeOf}
 use Rattle.desk_crosspoints.specs.Crosspoints.{Cells}
+use Rattle.desk_crosspoints.specs.Desk.{Desk, deskLegal}
 use Rattle.turns.specs.declared.After.{After}
-use Rattle.turns.specs.Rules.{Desk, isLegal}
 use Rattle.turns.specs.Turns as claim
 use Rattle.turns.specs.Turns.{none as no-more}
-use Rattle.turns.specs.Whole.{deskAt, Left, left, laterAt, laterOf, gave}
+use Rattle.turns.specs.Whole.{Left, left, laterAt, laterOf, gave}
 use Rattle.framing_session.proofs.Laws.{number-apart, legal-true}
 use Rattle.framing.proofs.Sayable.{legal-answered}
 use Rattle.turns.proofs.Comes.{said-at, function-turn}
 use Rattle.turns.proofs.Claim.{claim as rules-claim}
-use Rattle.ember.specs.Words.{figuresAt, isFigures}
+use Rattle.ember.specs.Words.{figuresAt, deskIn, isFigures}
 use Rattle.ember.specs.Calls.{lengthsFit, next, Turn, turn, told, turnAfter, turned, turns}
-use Rattle.ember.specs.Rounds.{Round, Rounds, none, round, refused, Tells, AllTell, more, silent}
+use Rattle.ember.specs.Rounds.{Round, Rounds, none, round, refused, Tells, AllTell, more, silent, Claimed}
 use Rattle.ember.specs.Rounds as rounds
 
 -- ---- what comes after an event, by its number
@@ -109,7 +109,7 @@ module _ (ws t c : List ℕ) (table : Rows) (fs path : List ℕ) (cells : Cells)
 
 module _ (ws t c : List ℕ) (table : Rows) (fs path : List ℕ) (cells : Cells) (lent a : List ℕ) where
   abbrev d : Desk
-  d = deskAt (figuresAt fs) path cells
+  d = deskIn fs path cells
 
   record Taken (x : Turn) : Type 0 where
     pub fed : Fed
@@ -196,7 +196,7 @@ module _ (ws t c : List ℕ) (table : Rows) (fs path : List ℕ) (cells : Cells)
           )
 
   abbrev fit : Bool
-  fit = lengthsFit (length table) (length cells) (length path) (length a)
+  fit = lengthsFit (length table) (sizeOf (figuresAt fs)) (length cells) (length path) (length a)
 
   by-turn : (x : Turn) → turns ws t c table fs path cells lent a ≡ x
       → ((x .number ≡ 1 → ⊥) → Taken x) × (x .number ≡ 1 → AsWas ws t c table fs path cells lent a x)
@@ -220,7 +220,7 @@ pub record Made (rows : ℕ) (fs path ws t : List ℕ) (cells : Cells) (bytes : 
     (rest : List ℕ) : Type 0 where
   pub list : List claim.Turn
   pub tell : AllTell xs list
-  pub made : claim.Turns rows (sessionAt ws) t (deskAt (figuresAt fs) path cells) bytes list (sessionAt ws″) t″ (deskAt (figuresAt fs) path cells″) rest
+  pub made : claim.Turns rows (sessionAt ws) t (deskIn fs path cells) bytes list (sessionAt ws″) t″ (deskIn fs path cells″) rest
 
 -- a call that is answered with 1, before others
 module _ {rows : ℕ} {fs path ws t : List ℕ} {cells : Cells} {bytes : List ℕ} {xs : List Round} {ws″ t″ : List ℕ} {cells″ : Cells} {rest : List ℕ} where
@@ -256,8 +256,8 @@ rounds-made {rows} {fs} {path} {ws} {t} {cells} {ws″ = ws″} {t″} {cells″
     -- the turns after this one, from a session and with a count of bytes consumed
     onward : Session → ℕ → List claim.Turn → Type 0
     onward v i list =
-        claim.Turns rows v (x .store) (deskAt (figuresAt fs) path (x .crosspoints)) (drop i (c ++ later)) list (sessionAt ws″) t″
-        (deskAt (figuresAt fs) path cells″) rest
+        claim.Turns rows v (x .store) (deskIn fs path (x .crosspoints)) (drop i (c ++ later)) list (sessionAt ws″) t″
+        (deskIn fs path cells″) rest
 
     joined : {xs : List Round} → Made rows fs path (x .session) (x .store) (x .crosspoints) (drop (getD (x .answer) 1 0) (c ++ later)) xs ws″ t″ cells″ rest
         → Made rows fs path ws t cells (c ++ later) (record { offered = c; left = x } ∷ xs) ws″ t″ cells″ rest
@@ -275,21 +275,13 @@ rounds-made {rows} {fs} {path} {ws} {t} {cells} {ws″ = ws″} {t″} {cells″
 
 -- ---- THE CLAIM
 
-pub record Claimed (rows : ℕ) (fs path : List ℕ) (cells : Cells) (bytes : List ℕ) (xs : List Round) (ws t : List ℕ) (cells′ : Cells)
-    (rest : List ℕ) : Type 0 where
-  pub list : List claim.Turn
-  -- what the calls answered and left is what these turns told
-  pub tell : AllTell xs list
-  -- and that is what the rules tell and keep for the bytes consumed
-  pub holds : claim.AsRules rows begin (deskAt (figuresAt fs) path cells) 0 list (sessionAt ws) t (deskAt (figuresAt fs) path cells′) bytes rest
-
 pub ember-claim : {rows : ℕ} {fs path t : List ℕ} {cells : Cells} {bytes : List ℕ} {xs : List Round} {ws′ t′ : List ℕ} {cells′ : Cells} {rest : List ℕ}
-    → length t ≡ storeLength → isLegal (deskAt (figuresAt fs) path cells) ≡ true → Below 256 bytes
+    → length t ≡ storeLength → deskLegal (deskIn fs path cells) ≡ true → Below 256 bytes
     → Rounds rows fs path (wordsOf (sessionOf begin)) t cells bytes xs ws′ t′ cells′ rest
     → Claimed rows fs path cells bytes xs ws′ t′ cells′ rest
 ember-claim {rows} {fs} {path} {t} {cells} {bytes} {ws′ = ws′} {t′} {cells′} {rest} room g b k =
     let m = rounds-made k in
     let fresh = subst
-    (λ (s : Session). claim.Turns rows s t (deskAt (figuresAt fs) path cells) bytes (m .list) (sessionAt ws′) t′ (deskAt (figuresAt fs) path cells′) rest)
+    (λ (s : Session). claim.Turns rows s t (deskIn fs path cells) bytes (m .list) (sessionAt ws′) t′ (deskIn fs path cells′) rest)
     (words-back (sessionOf begin)) (m .made) in
     record { list = m .list; tell = m .tell; holds = rules-claim room g b fresh }

@@ -16,16 +16,16 @@ use Rattle.framing_c.specs.Calls.{calls}
 use Rattle.desk_crosspoints.specs.declared.Figures.{Figures}
 use Rattle.desk_crosspoints.specs.declared.Limit.{Limit}
 use Rattle.desk_crosspoints.specs.declared.Limit.the-variants.{Absent, Most}
-use Rattle.desk_crosspoints.specs.Figures.{side, both}
-use Rattle.desk_crosspoints.specs.Crosspoints.{Cells, Answer, answer}
-use Rattle.desk_requests.specs.Request.{requested}
+use Rattle.desk_crosspoints.specs.Figures.{both, sizeOf}
+use Rattle.desk_crosspoints.specs.Crosspoints.{Cells}
+use Rattle.desk_crosspoints.specs.Desk.{Desk, deskAt, deskLegal, Answer, answer, deskOpened}
+use Rattle.desk_requests.specs.Request.{request, requested}
 use Rattle.desk_calls.specs.declared.Called as asked
-use Rattle.desk_calls.specs.Calls.{deskLegal, deskOpened, Outcome, called, told as answered}
+use Rattle.desk_calls.specs.Calls.{Outcome, called, told as answered}
 use Rattle.turns.specs.declared.After.{After}
 use Rattle.turns.specs.declared.After.the-variants as after
-use Rattle.turns.specs.Rules.{Desk}
 use Rattle.turns.specs.Turns.{none}
-use Rattle.turns.specs.Whole.{deskAt, Left, left, unasked, readTo, laterOf, gave}
+use Rattle.turns.specs.Whole.{Left, left, unasked, readTo, laterOf, gave}
 use Rattle.framing_packets.specs.Written.{Outcome as Wrote}
 use Rattle.sheet_writer.specs.declared.Answer as written
 use Rattle.sheet_writer.specs.declared.Answer.the-variants as writtens
@@ -36,7 +36,7 @@ use Rattle.sheet_reader.specs.Calls as sheet
 use Rattle.sheet_reader.specs.Calls.{sheetRead, told as readAs}
 use Rattle.ember.specs.declared.after.Six.{Six}
 use Rattle.ember.specs.Words.{wordsOf, givenWord, limitWord, limitAt, figuresAt, isLimit, isFigures}
-use Rattle.ember.specs.Calls.{opens, legals, requests, DeskCall, deskCall, counted, deskCalls, lengthsFit, laterWords, treeWords, next}
+use Rattle.ember.specs.Calls.{sizes, opens, legals, requests, DeskCall, deskCall, counted, deskCalls, lengthsFit, laterWords, treeWords, next}
 use Rattle.ember.specs.Calls.{Turn, turned, turns}
 use Rattle.ember.specs.Calls.{SheetPut, sheetPut, measured, sheetWrites, SheetCall, sheetCall, given, sheetReads}
 use Rattle.ember.specs.Steps.{wordsIn, Words}
@@ -94,8 +94,18 @@ module _ (ws : List ℕ) where
 
 -- ---- the desk
 
+module _ (fs : List ℕ) {b : Bool} (i : b ≡ isFigures fs) where
+  pub size-told : {f : Figures} {n r : ℕ} → b ≡ true → f ≡ figuresAt fs → sizeOf f ≡ n → r ≡ n → sizes fs ≡ r
+  unfolding sizes
+  size-told y e h q = rw (sym i ∙ y, ← e) (h ∙ sym q)
+
+  pub size-setup : b ≡ false → sizes fs ≡ 0
+  unfolding sizes
+  size-setup n = rw (sym i ∙ n) refl
+
 module _ (fs path cells : List ℕ) {b : Bool} (i : b ≡ isFigures fs) where
-  pub open-called : {f : Figures} (mode : ℕ) {x : Answer} → b ≡ true → f ≡ figuresAt fs → deskOpened side f path mode cells ≡ x → opens fs path mode cells ≡ x
+  pub open-called : {f : Figures} (mode : ℕ) {x : Answer} → b ≡ true → f ≡ figuresAt fs → deskOpened (deskAt f path cells) mode ≡ x
+      → opens fs path mode cells ≡ x
   unfolding opens
   open-called mode y e h = rw (sym i ∙ y, ← e) h
 
@@ -103,11 +113,11 @@ module _ (fs path cells : List ℕ) {b : Bool} (i : b ≡ isFigures fs) where
   unfolding opens
   open-setup mode n = rw (sym i ∙ n) refl
 
-  pub legal-yes : {f : Figures} {t : Bool} → b ≡ true → f ≡ figuresAt fs → deskLegal side f path cells ≡ t → t ≡ true → legals fs path cells ≡ 1
+  pub legal-yes : {f : Figures} {t : Bool} → b ≡ true → f ≡ figuresAt fs → deskLegal (deskAt f path cells) ≡ t → t ≡ true → legals fs path cells ≡ 1
   unfolding legals
   legal-yes y e h g = rw (sym i ∙ y, ← e, h ∙ g) refl
 
-  pub legal-no : {f : Figures} {t : Bool} → b ≡ true → f ≡ figuresAt fs → deskLegal side f path cells ≡ t → t ≡ false → legals fs path cells ≡ 0
+  pub legal-no : {f : Figures} {t : Bool} → b ≡ true → f ≡ figuresAt fs → deskLegal (deskAt f path cells) ≡ t → t ≡ false → legals fs path cells ≡ 0
   unfolding legals
   legal-no y e h g = rw (sym i ∙ y, ← e, h ∙ g) refl
 
@@ -116,7 +126,7 @@ module _ (fs path cells : List ℕ) {b : Bool} (i : b ≡ isFigures fs) where
   legal-setup n = rw (sym i ∙ n) refl
 
 module _ (fs : List ℕ) (target : ℕ) (sources : List ℕ) (operation : ℕ) (cells : List ℕ) {b : Bool} (i : b ≡ isFigures fs) where
-  pub request-called : {f : Figures} {x : Answer} → b ≡ true → f ≡ figuresAt fs → requested side f target sources operation cells ≡ x
+  pub request-called : {f : Figures} {x : Answer} → b ≡ true → f ≡ figuresAt fs → requested (deskAt f [] cells) (request target sources operation) ≡ x
       → requests fs target sources operation cells ≡ x
   unfolding requests
   request-called y e h = rw (sym i ∙ y, ← e) h
@@ -139,7 +149,7 @@ module _ (fs path : List ℕ) (root : ℕ) (rows : Rows) (n : ℕ) (s lent cells
   desk-setup i m = rw (sym i ∙ m) refl
 
   pub desk-called : {b : Bool} {f : Figures} {o : Outcome} {x : DeskCall} → length words ≡ 1 → b ≡ isFigures fs → b ≡ true → f ≡ figuresAt fs
-      → called side f path root rows n s cells ≡ o → counted o lent words ≡ x → deskCalls fs path root rows n s lent cells words ≡ x
+      → called (deskAt f path cells) root rows n s ≡ o → counted o lent words ≡ x → deskCalls fs path root rows n s lent cells words ≡ x
   unfolding deskCalls
   desk-called w i y e h g = rw (sym i ∙ y, eq-eqb _ _ w, ← e, h) g
 
@@ -205,27 +215,27 @@ set-nine [] a b c d e f g h i k = absurd (omega arith)
 
 -- ---- a turn
 
-module _ (rows cells path words : ℕ) where
-  pub fit-answer : (words ≡ 9 → ⊥) → false ≡ lengthsFit rows cells path words
+module _ (rows size cells path words : ℕ) where
+  pub fit-answer : (words ≡ 9 → ⊥) → false ≡ lengthsFit rows size cells path words
   unfolding lengthsFit
   fit-answer h = simp (ne-eqb _ _ h)
 
   module _ (w : words ≡ 9) where
-    pub fit-rows : 256 < rows → false ≡ lengthsFit rows cells path words
+    pub fit-rows : 256 < rows → false ≡ lengthsFit rows size cells path words
     unfolding lengthsFit
     fit-rows h = simp (eq-eqb _ _ w, lt-leb _ _ h)
 
     module _ (g : rows ≤ 256) where
-      pub fit-cells : (cells ≡ 4096 → ⊥) → false ≡ lengthsFit rows cells path words
+      pub fit-cells : (cells ≡ size → ⊥) → false ≡ lengthsFit rows size cells path words
       unfolding lengthsFit
       fit-cells h = simp (eq-eqb _ _ w, le-leb _ _ g, ne-eqb _ _ h)
 
-      module _ (c : cells ≡ 4096) where
-        pub fit-path : path < 1 → false ≡ lengthsFit rows cells path words
+      module _ (c : cells ≡ size) where
+        pub fit-path : path < 1 → false ≡ lengthsFit rows size cells path words
         unfolding lengthsFit
         fit-path h = simp (eq-eqb _ _ w, le-leb _ _ g, eq-eqb _ _ c, lt-leb _ _ h)
 
-        pub fit-all : 1 ≤ path → leb path 16 ≡ lengthsFit rows cells path words
+        pub fit-all : 1 ≤ path → leb path 16 ≡ lengthsFit rows size cells path words
         unfolding lengthsFit
         fit-all h = simp (eq-eqb _ _ w, le-leb _ _ g, eq-eqb _ _ c, le-leb _ _ h)
 
@@ -270,26 +280,30 @@ module _ (ws t bytes : List ℕ) (table : Rows) (fs path cells lent a : List ℕ
   unfolding turns
   turns-figures n = rw (sym i ∙ n) refl
 
-  module _ (y : b ≡ true) {k : Bool} (j : k ≡ lengthsFit (length table) (length cells) (length path) (length a)) where
+  module _ (y : b ≡ true) {f : Figures} (e : f ≡ figuresAt fs) {n : ℕ} (m : sizeOf f ≡ n) {k : Bool}
+      (j : k ≡ lengthsFit (length table) n (length cells) (length path) (length a)) where
+    fit-is : k ≡ lengthsFit (length table) (sizeOf (figuresAt fs)) (length cells) (length path) (length a)
+    fit-is = j ∙ ap (λ (i : ℕ). lengthsFit (length table) i (length cells) (length path) (length a)) (sym m ∙ ap sizeOf e)
+
     pub turns-lengths : k ≡ false → turns ws t bytes table fs path cells lent a
         ≡ record { number = 1; session = ws; store = t; table = table; crosspoints = cells; answers = lent; answer = a }
     unfolding turns
-    turns-lengths n = rw (sym i ∙ y, sym j ∙ n) refl
+    turns-lengths z = rw (sym i ∙ y, sym fit-is ∙ z) refl
 
-    pub turns-on : {f : Figures} {x : Turn} → k ≡ true → f ≡ figuresAt fs → turned ws t bytes (deskAt f path cells) table lent a ≡ x
+    pub turns-on : {x : Turn} → k ≡ true → turned ws t bytes (deskAt f path cells) table lent a ≡ x
         → turns ws t bytes table fs path cells lent a ≡ x
     unfolding turns
-    turns-on g e h = rw (sym i ∙ y, sym j ∙ g, ← e) h
+    turns-on g h = rw (sym i ∙ y, sym fit-is ∙ g, ← e) h
 
 never : false ≡ true → ⊥
 never g = let z : _≡_ {A = ℕ} 0 1 = cc in omega arith
 
 -- lengths that fit: the answer has nine words
-pub fit-words : (rows cells path words : ℕ) → lengthsFit rows cells path words ≡ true → words ≡ 9
+pub fit-words : (rows size cells path words : ℕ) → lengthsFit rows size cells path words ≡ true → words ≡ 9
 unfolding lengthsFit
-fit-words rows cells path words h = by (eqb words 9) refl h
+fit-words rows size cells path words h = by (eqb words 9) refl h
   where
-    by : (t : Bool) → eqb words 9 ≡ t → both t (both (leb rows 256) (both (eqb cells 4096) (both (leb 1 path) (leb path 16)))) ≡ true → words ≡ 9
+    by : (t : Bool) → eqb words 9 ≡ t → both t (both (leb rows 256) (both (eqb cells size) (both (leb 1 path) (leb path 16)))) ≡ true → words ≡ 9
     by true e g = eqb-true _ _ e
     by false e g = absurd (never g)
 
@@ -353,7 +367,7 @@ module _ (fs path cells out words : List ℕ) where
   sheet-figures i m = rw (sym i ∙ m) refl
 
   pub sheet-wrote : {b : Bool} {f : Figures} {o : Wrote} {x : SheetPut} → length words ≡ 1 → b ≡ isFigures fs → b ≡ true → f ≡ figuresAt fs
-      → writesSheet side f path cells out ≡ o → measured o words ≡ x → sheetWrites fs path cells out words ≡ x
+      → writesSheet (deskAt f path cells) out ≡ o → measured o words ≡ x → sheetWrites fs path cells out words ≡ x
   unfolding sheetWrites
   sheet-wrote w i y e h g = rw (sym i ∙ y, eq-eqb _ _ w, ← e, h) g
 
@@ -366,7 +380,7 @@ module _ (text store fs path : List ℕ) (cells : Cells) (words : List ℕ) wher
   unfolding sheetReads
   sheet-no-words h = rw (ne-eqb _ _ h, both-no (eqb (length fs) 7)) refl
 
-  pub sheet-read : {o : sheet.Outcome} {x : SheetCall} → length fs ≡ 7 → length words ≡ 1 → sheetRead side text store path cells ≡ o → given o fs words ≡ x
+  pub sheet-read : {o : sheet.Outcome} {x : SheetCall} → length fs ≡ 7 → length words ≡ 1 → sheetRead text store path cells ≡ o → given o fs words ≡ x
       → sheetReads text store fs path cells words ≡ x
   unfolding sheetReads
   sheet-read h k e g = rw (eq-eqb _ _ h, eq-eqb _ _ k, e) g

@@ -13,22 +13,23 @@ use Rattle.glow_rows.specs.Entry.{Rows}
 use Rattle.framing_content.specs.Numbers.{feedNumbers}
 use Rattle.framing_c.specs.Calls.{Called, calls}
 use Rattle.framing_c.proofs.Calls.{feed-numbers}
-use Rattle.desk_crosspoints.specs.Figures.{side, both}
-use Rattle.desk_crosspoints.specs.Crosspoints.{Cells, Answer}
-use Rattle.desk_calls.specs.Calls.{deskLegal, Outcome, called}
-use Rattle.desk_calls.specs.Steps.{has}
+use Rattle.desk_crosspoints.specs.Figures.{both, sizeOf}
+use Rattle.desk_crosspoints.specs.Crosspoints.{Cells}
+use Rattle.desk_crosspoints.specs.Desk.{Desk, deskLegal, Answer}
+use Rattle.desk_requests.specs.Lists.{has}
+use Rattle.desk_requests.specs.Request.{request}
+use Rattle.desk_calls.specs.Calls.{Outcome, called}
 use Rattle.desk_calls.specs.Numbers.{openNumbers, requestNumbers, callNumbers}
 use Rattle.desk_calls.proofs.Numbers.{open-numbers, request-numbers, call-numbers}
-use Rattle.turns.specs.Rules.{Desk}
 use Rattle.turns.specs.Turns.{none}
-use Rattle.turns.specs.Whole.{deskAt, left}
+use Rattle.turns.specs.Whole.{left}
 use Rattle.framing_packets.specs.Written.{into}
 use Rattle.framing_packets.specs.Written.{Outcome as Wrote}
-use Rattle.sheet_rules.specs.Sheet.{desk, sheetOf}
+use Rattle.sheet_rules.specs.Sheet.{sheetOf}
 use Rattle.sheet_writer.specs.Calls.{writesSheet}
 use Rattle.sheet_reader.specs.Calls.{sheetNumbers}
 use Rattle.sheet_reader.proofs.Numbered.{sheet-numbers}
-use Rattle.ember.specs.Words.{figuresAt, isFigures}
+use Rattle.ember.specs.Words.{figuresAt, deskIn, isFigures}
 use Rattle.ember.specs.Calls.{opens, requests, DeskCall, deskCall, counted, deskCalls, lengthsFit, next, Turn, turn, told, turnAfter, turned, turns}
 use Rattle.ember.specs.Calls.{SheetPut, measured, sheetWrites, SheetCall, given, sheetReads}
 
@@ -36,7 +37,7 @@ use Rattle.ember.specs.Calls.{SheetPut, measured, sheetWrites, SheetCall
 pub desk-open-numbers : (fs path : List ℕ) (mode : ℕ) (cells : Cells) → has openNumbers (opens fs path mode cells .number) ≡ true
 unfolding opens has
 desk-open-numbers fs path mode cells =
-    pick-by (λ (x : Answer). has openNumbers (x .number) ≡ true) (isFigures fs) (λ e. open-numbers side (figuresAt fs) path mode cells) (λ e. refl)
+    pick-by (λ (x : Answer). has openNumbers (x .number) ≡ true) (isFigures fs) (λ e. open-numbers (deskIn fs path cells) mode) (λ e. refl)
 
 -- `ember_desk_request`: 0, 1, 41 to 44
 pub desk-request-numbers : (fs : List ℕ) (target : ℕ) (sources : List ℕ) (operation : ℕ) (cells : Cells)
@@ -44,7 +45,7 @@ pub desk-request-numbers : (fs : List ℕ) (target : ℕ) (sources : List ℕ) (
 unfolding requests has
 desk-request-numbers fs target sources operation cells =
     pick-by (λ (x : Answer). has requestNumbers (x .number) ≡ true) (isFigures fs)
-    (λ e. request-numbers side (figuresAt fs) target sources operation cells) (λ e. refl)
+    (λ e. request-numbers (deskIn fs [] cells) (request target sources operation)) (λ e. refl)
 
 -- `ember_desk_call`: 0 or 1
 counted-numbers : (o : Outcome) (lent words : List ℕ) → has callNumbers (o .number) ≡ true → has callNumbers (counted o lent words .number) ≡ true
@@ -57,7 +58,7 @@ unfolding deskCalls has
 desk-call-numbers fs path root rows n s lent cells words =
     pick-by (λ (x : DeskCall). has callNumbers (x .number) ≡ true) (both (isFigures fs) (eqb (length words) 1))
     (λ e.
-    counted-numbers (called side (figuresAt fs) path root rows n s cells) lent words (call-numbers side (figuresAt fs) path root rows n s cells))
+    counted-numbers (called (deskIn fs path cells) root rows n s) lent words (call-numbers (deskIn fs path cells) root rows n s))
     (λ e. refl)
 
 -- `ember_turn`: the numbers of a session's call
@@ -74,9 +75,10 @@ pub turn-numbers : (ws t c : List ℕ) (table : Rows) (fs path : List ℕ) (cell
     → OneOf feedNumbers (turns ws t c table fs path cells lent a .number)
 unfolding turns turned
 turn-numbers ws t c table fs path cells lent a =
-    pick-by (λ (x : Turn). OneOf feedNumbers (x .number)) (both (isFigures fs) (lengthsFit (length table) (length cells) (length path) (length a)))
+    pick-by (λ (x : Turn). OneOf feedNumbers (x .number))
+    (both (isFigures fs) (lengthsFit (length table) (sizeOf (figuresAt fs)) (length cells) (length path) (length a)))
     (λ e.
-    subst (OneOf feedNumbers) (sym (after-number (calls ws t c (0 ∷ 0 ∷ 0 ∷ [])) (deskAt (figuresAt fs) path cells) table lent a))
+    subst (OneOf feedNumbers) (sym (after-number (calls ws t c (0 ∷ 0 ∷ 0 ∷ [])) (deskIn fs path cells) table lent a))
     (feed-numbers ws t c (0 ∷ 0 ∷ 0 ∷ [])))
     (λ e. hit feedNumbers 1 tt)
 
@@ -91,13 +93,13 @@ sheet-read-numbers text store fs path cells words =
 abbrev pub sheetPutNumbers : List ℕ
 sheetPutNumbers = 0 ∷ 1 ∷ 46 ∷ []
 
-written-numbers : (fs path : List ℕ) (cells : Cells) (out : List ℕ) → OneOf sheetPutNumbers (writesSheet side (figuresAt fs) path cells out .number)
+written-numbers : (fs path : List ℕ) (cells : Cells) (out : List ℕ) → OneOf sheetPutNumbers (writesSheet (deskIn fs path cells) out .number)
 unfolding writesSheet into
 written-numbers fs path cells out =
-    pick-by (λ (x : Wrote). OneOf sheetPutNumbers (x .number)) (deskLegal side (figuresAt fs) path cells)
+    pick-by (λ (x : Wrote). OneOf sheetPutNumbers (x .number)) (deskLegal (deskIn fs path cells))
     (λ e.
     pick-by (λ (x : Wrote). OneOf sheetPutNumbers (x .number))
-    (leb (length (sheetOf side (desk (figuresAt fs) path cells))) (length out)) (λ k. hit sheetPutNumbers 0 tt) (λ k. hit sheetPutNumbers 46 tt))
+    (leb (length (sheetOf (deskIn fs path cells))) (length out)) (λ k. hit sheetPutNumbers 0 tt) (λ k. hit sheetPutNumbers 46 tt))
     (λ e. hit sheetPutNumbers 1 tt)
 
 pub sheet-write-numbers : (fs path : List ℕ) (cells : Cells) (out words : List ℕ) → OneOf sheetPutNumbers (sheetWrites fs path cells out words .number)

@@ -1,5 +1,5 @@
 -- The claim for `ember_turn` speaks of something: for every stream, every way to cut it and every legal desk there is a list of calls.
-use Prim.Native.Nat.{ℕ, suc, _*_, _≤_}
+use Prim.Native.Nat.{ℕ, suc, _≤_}
 use mathlib.Core.Bool.{Bool, true, false}
 use mathlib.Core.List.{List, [], _∷_, append-nil}
 use mathlib.Core.Path.{_≡_, refl, sym, ap, subst, _∙_}
@@ -23,19 +23,19 @@ use Rattle.framing_answers.specs.Answers.{accepts}
 use Rattle.framing_c.specs.Calls.{told as framed, calls}
 use Rattle.framing_words.proofs.Laws.{words-back, words-session}
 use Rattle.glow_rows.specs.Entry.{Rows}
-use Rattle.desk_crosspoints.specs.declared.Figures.{Figures}
-use Rattle.desk_crosspoints.specs.Figures.{side, both, figuresFit}
-use Rattle.desk_crosspoints.specs.Crosspoints.{Cells, cellsFit, legal}
-use Rattle.desk_crosspoints.proofs.Laws.{both-left, both-right}
-use Rattle.desk_calls.specs.Calls.{pathFits, allNumbers}
-use Rattle.desk_calls.proofs.Setup.{desk-fits, desk-legal, path-short}
-use Rattle.turns.specs.Rules.{Desk, isLegal, keep, tells, after}
+use Rattle.desk_crosspoints.specs.Figures.{both, sizeOf}
+use Rattle.desk_crosspoints.specs.Crosspoints.{Cells}
+use Rattle.desk_crosspoints.specs.Desk.{Desk, allNumbers, pathFits, deskLegal}
+use Rattle.desk_crosspoints.proofs.Laws.{both-left}
+use Rattle.desk_crosspoints.proofs.Legal.{legal-fit, legal-length}
+use Rattle.desk_crosspoints.proofs.Paths.{path-short, desk-fits, desk-legal}
+use Rattle.turns.specs.Rules.{keep, tells, after}
 use Rattle.turns.specs.Turns as claim
-use Rattle.turns.specs.Whole.{deskAt, laterOf}
+use Rattle.turns.specs.Whole.{laterOf}
 use Rattle.turns.proofs.Follows.{comes-legal}
 use Rattle.turns.proofs.Comes.{comes-at, said-at, function-turn}
 use Rattle.turns.proofs.Claim.{claim as rules-claim}
-use Rattle.ember.specs.Words.{figuresAt, isFigures}
+use Rattle.ember.specs.Words.{figuresAt, deskIn, isFigures}
 use Rattle.ember.specs.Calls.{lengthsFit, Turn, told, turnAfter, turned, turns}
 use Rattle.ember.specs.Rounds.{Round, Rounds, none, round, AllTell, more}
 use Rattle.ember.specs.Rounds as rounds
@@ -43,24 +43,26 @@ use Rattle.ember.proofs.Claim.{next-later, comes, comes-after, tells-to
 
 -- ---- a legal desk has lengths that fit
 
-legal-length : (w : ℕ) (f : Figures) (cells : Cells) → legal w f cells ≡ true → length cells ≡ w * w
-unfolding legal cellsFit
-legal-length w f cells h = eqb-true _ _ (both-left _ _ (both-right (figuresFit w f) _ h))
-
 path-some : (path : List ℕ) → pathFits path ≡ true → 1 ≤ length path
 unfolding pathFits
 path-some path h = leb-true _ _ (both-left _ _ (both-left _ (allNumbers path) h))
 
-fit : (rows cells path words : ℕ) → words ≡ 9 → rows ≤ 256 → cells ≡ 4096 → 1 ≤ path → path ≤ 16 → lengthsFit rows cells path words ≡ true
+fit : (rows size cells path words : ℕ) → words ≡ 9 → rows ≤ 256 → cells ≡ size → 1 ≤ path → path ≤ 16 → lengthsFit rows size cells path words ≡ true
 unfolding lengthsFit
-fit rows cells path words a b d e f = rw (eq-eqb words 9 a, le-leb _ _ b, eq-eqb cells 4096 d, le-leb _ _ e, le-leb _ _ f) refl
+fit rows size cells path words a b d e f = rw (eq-eqb words 9 a, le-leb _ _ b, eq-eqb _ _ d, le-leb _ _ e, le-leb _ _ f) refl
+
+sized-legal : (d : Desk) → deskLegal d ≡ true → length (d .crosspoints) ≡ sizeOf (d .figures)
+unfolding sizeOf
+sized-legal d g =
+    let h = desk-legal d g in
+    legal-length (d .figures) (d .crosspoints) h ∙ rw (legal-fit (d .figures) (d .crosspoints) h) refl
 
 -- ---- a call with a legal session and a legal desk is a turn
 
 module _ (s : Session) (t c : List ℕ) (table : Rows) (fs path : List ℕ) (cells : Cells) (lent a : List ℕ) (r : Fed) (t′ : List ℕ)
     (l : Legal s t) (e : feeds s t c ≡ answers r t′) where
   abbrev d : Desk
-  d = deskAt (figuresAt fs) path cells
+  d = deskIn fs path cells
 
   accepted : accepts (wordsOf s) (length t) 3 ≡ true
   unfolding accepts
@@ -77,7 +79,7 @@ module _ (s : Session) (t c : List ℕ) (table : Rows) (fs path : List ℕ) (cel
   unfolding framed
   after-is = rw (not-one, next-later d t′ table (r .event)) refl
 
-  made-told : isFigures fs ≡ true → lengthsFit (length table) (length cells) (length path) (length a) ≡ true
+  made-told : isFigures fs ≡ true → lengthsFit (length table) (sizeOf (figuresAt fs)) (length cells) (length path) (length a) ≡ true
       → turns (wordsOf s) t c table fs path cells lent a ≡ told (framed (answers r t′)) (comes d c table r t′)
   unfolding turns turned
   made-told g h = rw (g, h, calls-are) after-is
@@ -87,14 +89,14 @@ module _ (s : Session) (t c : List ℕ) (table : Rows) (fs path : List ℕ) (cel
 module _ (rows : ℕ) (most : rows ≤ 256) (tables : ℕ → Rows) (sized : (i : ℕ) → length (tables i) ≡ rows) (lents : ℕ → List ℕ)
     (words : ℕ → List ℕ) (nine : (i : ℕ) → length (words i) ≡ 9) (fs path : List ℕ) (figures : isFigures fs ≡ true) where
   abbrev desk : Cells → Desk
-  desk cells = deskAt (figuresAt fs) path cells
+  desk cells = deskIn fs path cells
 
-  lengths : (i : ℕ) (cells : Cells) → isLegal (desk cells) ≡ true
-      → lengthsFit (length (tables i)) (length cells) (length path) (length (words i)) ≡ true
+  lengths : (i : ℕ) (cells : Cells) → deskLegal (desk cells) ≡ true
+      → lengthsFit (length (tables i)) (sizeOf (figuresAt fs)) (length cells) (length path) (length (words i)) ≡ true
   lengths i cells g =
-      let f = desk-fits side (figuresAt fs) path cells g in
+      let f = desk-fits (desk cells) g in
       let n : length (tables i) ≡ rows = sized i in
-      fit _ _ _ _ (nine i) (omega arith) (legal-length side (figuresAt fs) cells (desk-legal side (figuresAt fs) path cells g)) (path-some path f)
+      fit _ _ _ _ _ (nine i) (omega arith) (sized-legal (desk cells) g) (path-some path f)
       (path-short path f)
 
   record Some (s : Session) (t : List ℕ) (cells : Cells) (rest : List ℕ) (cs : List offers.Turn) (s″ : Session) (t″ rest″ : List ℕ) : Type 0 where
@@ -106,7 +108,7 @@ module _ (rows : ℕ) (most : rows ≤ 256) (tables : ℕ → Rows) (sized : (i 
     pub tell : AllTell made list
     pub same : claim.calls list ≡ cs
 
-  some : {s s″ : Session} {t t″ rest rest″ : List ℕ} {cs : List offers.Turn} (i : ℕ) (cells : Cells) → isLegal (desk cells) ≡ true → Legal s t
+  some : {s s″ : Session} {t t″ rest rest″ : List ℕ} {cs : List offers.Turn} (i : ℕ) (cells : Cells) → deskLegal (desk cells) ≡ true → Legal s t
       → offers.Turns s t rest cs s″ t″ rest″ → Some s t cells rest cs s″ t″ rest″
   unfolding framed
   some i cells g l offers.none =
@@ -151,7 +153,7 @@ module _ (rows : ℕ) (most : rows ≤ 256) (tables : ℕ → Rows) (sized : (i 
     pub keeps : keep (stateOf (sessionAt session) store) (desk cells′) ≡ after rows (keep begin (desk cells)) bytes
 
   pub ember-every-cut : (bytes : List ℕ) → Below 256 bytes → (chunks : List (List ℕ)) → offers.joined chunks ≡ bytes → (t : List ℕ)
-      → length t ≡ storeLength → (cells : Cells) → isLegal (desk cells) ≡ true → Offered t cells bytes chunks
+      → length t ≡ storeLength → (cells : Cells) → deskLegal (desk cells) ≡ true → Offered t cells bytes chunks
   ember-every-cut bytes b chunks e t room cells g =
       let k = framing.some-turns chunks (sessionOf begin) t (fresh-legal room) in
       let m = some 0 cells g (fresh-legal room) (k .made) in

@@ -10,31 +10,36 @@ use Rattle.ber_integers.specs.Digits.{pick}
 use Rattle.glow_rows.specs.Entry.{Rows}
 use Rattle.glow_reader.specs.Message.{saidBy, Said}
 use Rattle.framing_c.specs.Calls.{Called, calls}
-use Rattle.desk_crosspoints.specs.Figures.{side, both}
-use Rattle.desk_crosspoints.specs.Crosspoints.{Cells, Answer, answer}
-use Rattle.desk_requests.specs.Request.{requested}
-use Rattle.desk_calls.specs.Calls.{deskLegal, deskOpened, Outcome, called}
-use Rattle.turns.specs.Rules.{Desk}
+use Rattle.desk_crosspoints.specs.Figures.{both, sizeOf}
+use Rattle.desk_crosspoints.specs.Crosspoints.{Cells}
+use Rattle.desk_crosspoints.specs.Desk.{Desk, deskLegal, Answer, answer, deskOpened}
+use Rattle.desk_requests.specs.Request.{request, requested}
+use Rattle.desk_calls.specs.Calls.{Outcome, called}
 use Rattle.turns.specs.Turns.{Later, none, read, desk}
-use Rattle.turns.specs.Whole.{deskAt, Left, left, unasked, readTo}
+use Rattle.turns.specs.Whole.{Left, left, unasked, readTo}
 use Rattle.framing_packets.specs.Written.{Outcome as Wrote}
 use Rattle.sheet_writer.specs.Calls.{writesSheet}
 use Rattle.sheet_reader.specs.Calls as sheet
 use Rattle.sheet_reader.specs.Calls.{sheetRead}
-use Rattle.ember.specs.Words.{wordsOf, figuresAt, isFigures}
+use Rattle.ember.specs.Words.{wordsOf, figuresAt, deskIn, isFigures}
 
 -- ---- the desk; words that are no figures are 1, with everything as it was
 
+-- how many crosspoints a host lends for a desk; 0 for words that are no figures, and for figures out of range
+unfoldable pub sizes : List ℕ → ℕ
+sizes fs = pick (isFigures fs) (sizeOf (figuresAt fs)) 0
+
 unfoldable pub opens : List ℕ → List ℕ → ℕ → Cells → Answer
-opens fs path mode cells = pick (isFigures fs) (deskOpened side (figuresAt fs) path mode cells) (answer 1 cells)
+opens fs path mode cells = pick (isFigures fs) (deskOpened (deskIn fs path cells) mode) (answer 1 cells)
 
 -- 1 where the desk is legal, else 0
 unfoldable pub legals : List ℕ → List ℕ → Cells → ℕ
-legals fs path cells = pick (both (isFigures fs) (deskLegal side (figuresAt fs) path cells)) 1 0
+legals fs path cells = pick (both (isFigures fs) (deskLegal (deskIn fs path cells))) 1 0
 
+-- a request; no path is lent, since it is not looked at
 unfoldable pub requests : List ℕ → ℕ → List ℕ → ℕ → Cells → Answer
 requests fs target sources operation cells =
-    pick (isFigures fs) (requested side (figuresAt fs) target sources operation cells) (answer 1 cells)
+    pick (isFigures fs) (requested (deskIn fs [] cells) (request target sources operation)) (answer 1 cells)
 
 -- The desk's call: a number, the 256 bytes lent for answers, the crosspoints, and one word for how many answers there are.
 pub record DeskCall : Type 0 where
@@ -55,18 +60,18 @@ counted o lent words =
 unfoldable pub deskCalls : List ℕ → List ℕ → ℕ → Rows → ℕ → List ℕ → List ℕ → Cells → List ℕ → DeskCall
 deskCalls fs path root rows n s lent cells words =
     pick (both (isFigures fs) (eqb (length words) 1))
-    (counted (called side (figuresAt fs) path root rows n s cells) lent words)
+    (counted (called (deskIn fs path cells) root rows n s) lent words)
     (deskCall 1 lent cells words)
 
 -- ---- a whole turn
 
--- 1 SETUP, first of all: words that are no figures, and lengths: a table over 256 rows, crosspoints that are not 4,096, a path that has not 1 to 16 numbers, an
--- answer that is not nine words
-unfoldable pub lengthsFit : ℕ → ℕ → ℕ → ℕ → Bool
-lengthsFit rows cells path words =
+-- 1 SETUP, first of all: words that are no figures, and lengths: a table over 256 rows, crosspoints that are not as many as the figures say, a path that has
+-- not 1 to 16 numbers, an answer that is not nine words
+unfoldable pub lengthsFit : ℕ → ℕ → ℕ → ℕ → ℕ → Bool
+lengthsFit rows size cells path words =
     both (eqb words 9)
     (both (leb rows 256)
-    (both (eqb cells 4096)
+    (both (eqb cells size)
     (both (leb 1 path) (leb path 16))))
 
 -- What came after the session's call, in six words: the tree's number, its place, its count and Root's kind, the desk's number, and its count of answers.
@@ -122,8 +127,8 @@ turned ws t bytes d table lent a = turnAfter (calls ws t bytes (0 ∷ 0 ∷ 0 �
 
 unfoldable pub turns : List ℕ → List ℕ → List ℕ → Rows → List ℕ → List ℕ → Cells → List ℕ → List ℕ → Turn
 turns ws t bytes table fs path cells lent a =
-    pick (both (isFigures fs) (lengthsFit (length table) (length cells) (length path) (length a)))
-    (turned ws t bytes (deskAt (figuresAt fs) path cells) table lent a)
+    pick (both (isFigures fs) (lengthsFit (length table) (sizeOf (figuresAt fs)) (length cells) (length path) (length a)))
+    (turned ws t bytes (deskIn fs path cells) table lent a)
     (record { number = 1; session = ws; store = t; table = table; crosspoints = cells; answers = lent; answer = a })
 
 -- ---- route sheets
@@ -144,7 +149,7 @@ measured o words = sheetPut (o .number) (o .output) (pick (eqb (o .number) 1) wo
 -- words that are no figures are 1, and so is an answer of other than one word
 unfoldable pub sheetWrites : List ℕ → List ℕ → Cells → List ℕ → List ℕ → SheetPut
 sheetWrites fs path cells out words =
-    pick (both (isFigures fs) (eqb (length words) 1)) (measured (writesSheet side (figuresAt fs) path cells out) words) (sheetPut 1 out words)
+    pick (both (isFigures fs) (eqb (length words) 1)) (measured (writesSheet (deskIn fs path cells) out) words) (sheetPut 1 out words)
 
 -- Reading: a number, the store, the figures' words, the path, the crosspoints, and one word for how many numbers the path has.
 pub record SheetCall : Type 0 where
@@ -175,5 +180,5 @@ given o fs words = sheetCall (o .number) (o .store) (figuresOf (o .given) fs) (o
 -- figures that have not seven words are 1, and so is an answer of other than one word
 unfoldable pub sheetReads : List ℕ → List ℕ → List ℕ → List ℕ → Cells → List ℕ → SheetCall
 sheetReads text store fs path cells words =
-    pick (both (eqb (length fs) 7) (eqb (length words) 1)) (given (sheetRead side text store path cells) fs words)
+    pick (both (eqb (length fs) 7) (eqb (length words) 1)) (given (sheetRead text store path cells) fs words)
     (sheetCall 1 store fs path cells words)

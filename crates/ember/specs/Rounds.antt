@@ -4,13 +4,15 @@ use mathlib.Core.Bool.{cond}
 use mathlib.Core.List.{List, [], _∷_, _++_}
 use mathlib.Core.Path.{_≡_}
 use lib.ListN.{length, getD, take, drop}
-use Rattle.framing_session.specs.Rules.{Said}
+use Rattle.framing_session.specs.Rules.{Said, begin}
 use Rattle.framing_session.specs.Session.{saidBy}
+use Rattle.framing_words.specs.Words.{sessionAt}
 use Rattle.glow_rows.specs.Entry.{Rows}
 use Rattle.desk_crosspoints.specs.Crosspoints.{Cells}
 use Rattle.turns.specs.declared.After.{After}
 use Rattle.turns.specs.Turns as claim
 use Rattle.turns.specs.Whole.{laterOf}
+use Rattle.ember.specs.Words.{deskIn}
 use Rattle.ember.specs.Calls.{laterWords, Turn, turns}
 
 -- A call: what was offered, and what it answered and left.
@@ -48,3 +50,12 @@ pub data AllTell : List Round → List claim.Turn → Type 0 where
   none : AllTell [] []
   more : {r : Round} {y : claim.Turn} {rs : List Round} {ys : List claim.Turn} → Tells r y → AllTell rs ys → AllTell (r ∷ rs) (y ∷ ys)
   silent : {r : Round} {rs : List Round} {ys : List claim.Turn} → r .left .number ≡ 1 → AllTell rs ys → AllTell (r ∷ rs) ys
+
+-- What the claim says of a list of calls, from a fresh session's words and a desk.
+pub record Claimed (rows : ℕ) (fs path : List ℕ) (cells : Cells) (bytes : List ℕ) (xs : List Round) (ws t : List ℕ) (cells′ : Cells)
+    (rest : List ℕ) : Type 0 where
+  pub list : List claim.Turn
+  -- what the calls answered and left is what these turns told
+  pub tell : AllTell xs list
+  -- and that is what the rules tell and keep for the bytes consumed
+  pub holds : claim.AsRules rows begin (deskIn fs path cells) 0 list (sessionAt ws) t (deskIn fs path cells′) bytes rest

@@ -19,12 +19,12 @@ pub v-words : map laterWords (none ∷ read (Refused 34 12) [] ∷ read (Room 25
     ∷ []
 v-words = refl
 
--- Each length of a turn at its limit, and one beside it: rows, crosspoints, the path's numbers, the answer's words.
-pub v-lengths : lengthsFit 256 4096 16 9 ∷ lengthsFit 0 4096 1 9 ∷ [] ≡ true ∷ true ∷ []
+-- Each length of a turn at its limit, and one beside it: rows, crosspoints, here those of a desk of 3 by 4, the path's numbers, the answer's words.
+pub v-lengths : lengthsFit 256 12 12 16 9 ∷ lengthsFit 0 12 12 1 9 ∷ [] ≡ true ∷ true ∷ []
 unfolding lengthsFit
 v-lengths = refl
 
-pub v-other-lengths : lengthsFit 257 4096 16 9 ∷ lengthsFit 256 4095 16 9 ∷ lengthsFit 256 4097 16 9 ∷ lengthsFit 256 4096 0 9 ∷ lengthsFit 256 4096 17 9
-    ∷ lengthsFit 256 4096 16 8 ∷ lengthsFit 256 4096 16 10 ∷ [] ≡ false ∷ false ∷ false ∷ false ∷ false ∷ false ∷ false ∷ []
+pub v-other-lengths : lengthsFit 257 12 12 16 9 ∷ lengthsFit 256 12 11 16 9 ∷ lengthsFit 256 12 13 16 9 ∷ lengthsFit 256 12 12 0 9
+    ∷ lengthsFit 256 12 12 17 9 ∷ lengthsFit 256 12 12 16 8 ∷ lengthsFit 256 12 12 16 10 ∷ [] ≡ false ∷ false ∷ false ∷ false ∷ false ∷ false ∷ false ∷ []
 unfolding lengthsFit
 v-other-lengths = refl

@@ -9,6 +9,8 @@ use Rattle.desk_crosspoints.specs.declared.Limit.{Limit}
 use Rattle.desk_crosspoints.specs.declared.Limit.the-variants.{Absent, Most}
 use Rattle.desk_crosspoints.specs.declared.Figures.{Figures}
 use Rattle.desk_crosspoints.specs.Figures.{both}
+use Rattle.desk_crosspoints.specs.Crosspoints.{Cells}
+use Rattle.desk_crosspoints.specs.Desk.{Desk, deskAt}
 
 abbrev pub givenWord : Limit → ℕ
 givenWord Absent = 0
@@ -36,6 +38,10 @@ figuresAt ws =
       total = limitAt (getD ws 3 0) (getD ws 4 0);
       each = limitAt (getD ws 5 0) (getD ws 6 0);
     }
+
+-- the desk that lent words of figures, a path and crosspoints are
+abbrev pub deskIn : List ℕ → List ℕ → Cells → Desk
+deskIn ws path cells = deskAt (figuresAt ws) path cells
 
 -- Words that are a limit's: 0 and 0, or 1 and a number. Whether the number is in its range is the desk's to say.
 unfoldable pub isLimit : ℕ → ℕ → Bool

@@ -15,10 +15,11 @@ ghost use lib.ListN.{length, take};
 ghost use Rattle.framing_packets.specs.Written.{frame, requestBody, responseBody, into, frameInto, messageInto};
 ghost use Rattle.framing_c.specs.Calls.{starts, calls, puts};
 ghost use Rattle.glow_c.specs.Calls.{call, calls as readCalls, writing, writeCalls, acceptCalls};
-ghost use Rattle.desk_crosspoints.specs.Crosspoints.{Cells, answer as answered};
+ghost use Rattle.desk_crosspoints.specs.Crosspoints.{Cells};
+ghost use Rattle.desk_crosspoints.specs.Desk.{deskAt, answer as answered};
 ghost use Rattle.desk_calls.specs.Calls.{told};
-ghost use Rattle.turns.specs.Whole.{deskAt, gave};
-ghost use Rattle.ember.specs.Calls.{opens, legals, requests, counted, deskCall, deskCalls, lengthsFit, next, turned, turns};
+ghost use Rattle.turns.specs.Whole.{gave};
+ghost use Rattle.ember.specs.Calls.{sizes, opens, legals, requests, counted, deskCall, deskCalls, lengthsFit, next, turned, turns};
 ghost use Rattle.ember.specs.Calls.{sheetPut, sheetWrites, sheetCall, sheetReads};
 ghost use Rattle.ember.specs.Steps.{wordsIn};
 
@@ -118,6 +119,17 @@ pub extern "C" fn ember_accepts(rows: &[[u64; 50]], count: usize, root: u64, mes
 
 // ---- the desk
 
+// How many crosspoints a host lends for a desk with these figures: targets times sources; 0 where the words are no figures, or figures out of range.
+#[no_mangle]
+pub extern "C" fn ember_desk_size(figures: &[u64]) -> u64
+    ensures { λ r. ⌜ sizes (now (figures .entry)) ≡ r ⌝ }
+{
+    if words::is_figures(figures) {
+        return framing_words::word(desk_crosspoints::size(words::figures_at(figures)));
+    }
+    0
+}
+
 // Opens a desk: 0 and its crosspoints cleared; 45 or 1, and they stay as they were.
 #[no_mangle]
 pub extern "C" fn ember_desk_open(
@@ -129,7 +141,7 @@ pub extern "C" fn ember_desk_open(
     ensures { λ r. ⌜ opens (now (figures .entry)) (now (path .entry)) mode (now (crosspoints .entry)) ≡ answered r (now (crosspoints .exit)) ⌝ }
 {
     if words::is_figures(figures) {
-        return desk_calls::open(words::figures_at(figures), mode, path, crosspoints);
+        return desk_crosspoints::open(words::figures_at(figures), mode, path, crosspoints);
     }
     1
 }
@@ -140,7 +152,7 @@ pub extern "C" fn ember_desk_is_legal(figures: &[u64], path: &[u64], crosspoints
     ensures { λ r. ⌜ legals (now (figures .entry)) (now (path .entry)) (now (crosspoints .entry)) ≡ r ⌝ }
 {
     if words::is_figures(figures) {
-        if desk_calls::is_legal(words::figures_at(figures), path, crosspoints) {
+        if desk_crosspoints::desk_is_legal(words::figures_at(figures), path, crosspoints) {
             return 1;
         }
         return 0;
@@ -224,8 +236,8 @@ pub extern "C" fn ember_desk_call(
 
 // ---- a whole turn
 
-fn lengths_fit(rows: usize, cells: usize, path: usize, words: usize) -> bool
-    ensures { λ r. ⌜ r ≡ lengthsFit rows cells path words ⌝ }
+fn lengths_fit(rows: usize, size: usize, cells: usize, path: usize, words: usize) -> bool
+    ensures { λ r. ⌜ r ≡ lengthsFit rows size cells path words ⌝ }
 {
     if words != 9 {
         return false;
@@ -233,7 +245,7 @@ fn lengths_fit(rows: usize, cells: usize, path: usize, words: usize) -> bool
     if 256 < rows {
         return false;
     }
-    if cells != 4096 {
+    if cells != size {
         return false;
     }
     if path < 1 {
@@ -357,13 +369,21 @@ pub extern "C" fn ember_turn(
         } ⌝ }
 {
     if words::is_figures(figures) {
-        if lengths_fit(table.len(), crosspoints.len(), path.len(), answer.len()) {
+        let f = words::figures_at(figures);
+        let size = desk_crosspoints::size(f);
+        if lengths_fit(
+            table.len(),
+            size,
+            crosspoints.len(),
+            path.len(),
+            answer.len(),
+        ) {
             return go(
                 session,
                 store,
                 chunk,
                 table,
-                words::figures_at(figures),
+                f,
                 path,
                 crosspoints,
                 answers,

@@ -37,18 +37,18 @@ pub octets-all : (s : List ℕ) → ((i : ℕ) → getD s i 0 < 256) → Below 2
 octets-all [] h = tt
 octets-all (x ∷ xs) h = (h 0, octets-all xs (λ i. h (suc i)))
 
-module _ (w : ℕ) (m : List ℕ) (table : Rows) (few : length m ≤ 16384) (sized : length table ≡ 256) where
+module _ (m : List ℕ) (table : Rows) (few : length m ≤ 16384) (sized : length table ≡ 256) where
   -- by the tree reader's answer
   abbrev sheetFor : Answer → Entries → reading.Sheet
   sheetFor glow.Setup es = refused 1
   sheetFor (glow.Refused number place) es = refused number
   sheetFor (glow.Room count) es = refused 38
-  sheetFor (glow.Read root count) es = ofEntries w (itemsOf m es)
+  sheetFor (glow.Read root count) es = ofEntries (itemsOf m es)
 
-  for-answer : (which : ℕ) (es : Entries) (a : Onto) → ofAnswer w m es a ≡ sheetFor (readOf table which es a .answer) es
+  for-answer : (which : ℕ) (es : Entries) (a : Onto) → ofAnswer m es a ≡ sheetFor (readOf table which es a .answer) es
   for-answer which es (Next next) = rw sized (go (ltb 256 (length es)))
     where
-      go : (u : Bool) → pick u (refused 38) (ofEntries w (itemsOf m es))
+      go : (u : Bool) → pick u (refused 38) (ofEntries (itemsOf m es))
           ≡ sheetFor (pick u (result (glow.Room (length es)) table) (result (glow.Read which (length es)) (overlay es table)) .answer) es
       go true = refl
       go false = refl
@@ -62,7 +62,7 @@ module _ (w : ℕ) (m : List ℕ) (table : Rows) (few : length m ≤ 16384) (siz
   unfolding readAt
   read-is = rw not-setup
 
-  by-answer : (a : Answer) (after : Rows) → readAt m table ≡ result a after → ofMessage w m ≡ sheetFor a (walk m .out .entries)
+  by-answer : (a : Answer) (after : Rows) → readAt m table ≡ result a after → ofMessage m ≡ sheetFor a (walk m .out .entries)
   unfolding ofMessage
   by-answer a after q =
       for-answer (walk m .which) (walk m .out .entries) (walk m .out .answer)
@@ -93,11 +93,11 @@ module _ (w : ℕ) (m : List ℕ) (table : Rows) (few : length m ≤ 16384) (siz
       omega arith
 
   module _ (a : Answer) (after : Rows) (q : readAt m table ≡ result a after) (path cells : List ℕ) where
-    pub tells-refused : (number place : ℕ) → a ≡ glow.Refused number place → Tells (ofMessage w m) path cells (Refused number) path cells
+    pub tells-refused : (number place : ℕ) → a ≡ glow.Refused number place → Tells (ofMessage m) path cells (Refused number) path cells
     tells-refused number place h store =
         ap (λ (x : reading.Sheet). leaves x store path cells) (by-answer a after q ∙ ap (λ (x : Answer). sheetFor x (walk m .out .entries)) h)
 
-    pub tells-room : (count : ℕ) → a ≡ glow.Room count → Tells (ofMessage w m) path cells (Refused 38) path cells
+    pub tells-room : (count : ℕ) → a ≡ glow.Room count → Tells (ofMessage m) path cells (Refused 38) path cells
     tells-room count h store =
         ap (λ (x : reading.Sheet). leaves x store path cells) (by-answer a after q ∙ ap (λ (x : Answer). sheetFor x (walk m .out .entries)) h)
 
@@ -130,9 +130,9 @@ module _ (w : ℕ) (m : List ℕ) (table : Rows) (few : length m ≤ 16384) (siz
       pub rows-few : length after ≤ 256
       rows-few = let l : length after ≡ length table = ap length (sym rows-are) ∙ rows-kept m table in omega (arith, l, sized)
 
-      pub tells-entries : (x : Sheet) (path′ cells′ : List ℕ) → Tells (ofEntries w (itemsIn m after count)) path cells x path′ cells′
-          → Tells (ofMessage w m) path cells x path′ cells′
+      pub tells-entries : (x : Sheet) (path′ cells′ : List ℕ) → Tells (ofEntries (itemsIn m after count)) path cells x path′ cells′
+          → Tells (ofMessage m) path cells x path′ cells′
       tells-entries x path′ cells′ t store =
           ap (λ (y : reading.Sheet). leaves y store path cells)
-          (by-answer a after q ∙ ap (λ (y : Answer). sheetFor y (walk m .out .entries)) h ∙ ap (ofEntries w) (sym entries-in))
+          (by-answer a after q ∙ ap (λ (y : Answer). sheetFor y (walk m .out .entries)) h ∙ ap ofEntries (sym entries-in))
           ∙ t store

@@ -1,5 +1,5 @@
 -- With which numbers a sheet is read: 0, 1, the events' from 10 up, 30 to 38, and 40 to 45.
-use Prim.Native.Nat.{ℕ, _*_, _≤_}
+use Prim.Native.Nat.{ℕ, _≤_}
 use mathlib.Core.Path.{_≡_, refl, sym, ap, subst, _∙_}
 use mathlib.Core.List.{List, [], _∷_}
 use mathlib.Core.Bool.{Bool, true, false, true≢false}
@@ -22,21 +22,23 @@ use Rattle.glow_reader.proofs.Within.{walk-in}
 use Rattle.glow_trees.specs.Content.{Item, itemsOf}
 use Rattle.trees_accepted.proofs.Message.{is-legal}
 use Rattle.desk_crosspoints.specs.declared.Figures.{Figures}
-use Rattle.desk_crosspoints.specs.Figures.{side, both, figuresFit}
-use Rattle.desk_crosspoints.specs.Crosspoints.{Cells, clear, opened, answer}
+use Rattle.desk_crosspoints.specs.Figures.{both, figuresFit, cellsOf}
+use Rattle.desk_crosspoints.specs.Crosspoints.{Cells, clear}
+use Rattle.desk_crosspoints.specs.Desk.{Desk, withCells, pathFits, deskLegal, answer, deskOpened}
 use Rattle.desk_crosspoints.proofs.Counts.{clear-length}
+use Rattle.desk_crosspoints.proofs.Paths.{desk-legal}
+use Rattle.desk_crosspoints.proofs.Opened.{open-legal}
 use Rattle.desk_connections.specs.Connections.{asksOf}
 use Rattle.desk_connections.proofs.Paths.{asks-down}
 use Rattle.desk_connections.proofs.Operations.{Operations, legal-operations}
-use Rattle.desk_calls.specs.Calls.{requests, pathFits, deskLegal, deskOpened, handled}
-use Rattle.desk_calls.specs.Steps.{has}
+use Rattle.desk_requests.specs.Lists.{has}
+use Rattle.desk_calls.specs.Calls.{handled}
 use Rattle.desk_calls.specs.Numbers.{answerNumbers, allHas}
-use Rattle.desk_calls.proofs.Setup.{desk-legal}
-use Rattle.desk_calls.proofs.Claims.{desk-opened-legal}
 use Rattle.desk_calls.proofs.Numbers.{served-numbers}
 use Rattle.sheet_rules.specs.Lines.{linesIn}
 use Rattle.sheet_rules.specs.Reading as reading
-use Rattle.sheet_rules.specs.Reading.{Held, refusal, message, refused, firstRefused, applied, begun, opens, figuresIn, pathIn, modeIn, allLinks, ofEntries}
+use Rattle.sheet_rules.specs.Reading.{Held, refusal, message, refused, firstRefused, applied, begun, emptyDesk, opens}
+use Rattle.sheet_rules.specs.Reading.{figuresIn, pathIn, modeIn, allLinks, ofEntries}
 use Rattle.sheet_rules.specs.Reading.{ofAnswer, ofMessage, heldIn, ofHeld, readSheet}
 use Rattle.sheet_stream.specs.Finding.{heldNumbers, storeAfter}
 use Rattle.sheet_stream.proofs.Messages.{held-short, held-octets}
@@ -101,37 +103,39 @@ first-refused (n ∷ ns) h z = go (eqb n 0) refl (has answerNumbers n) refl h z 
         ⊎-elim (λ (d : n ≡ 0). absurd (g d)) (λ (r : OneOf (40 ∷ 41 ∷ 42 ∷ 43 ∷ 44 ∷ []) n). r) (one-has answerNumbers n q)
 
 -- opening an empty desk: 0 or 45
-open-number : (w : ℕ) (f : Figures) (path : List ℕ) (mode : ℕ) → (deskOpened w f path mode (clear (w * w)) .number ≡ 0 → ⊥)
-    → deskOpened w f path mode (clear (w * w)) .number ≡ 45
-unfolding deskOpened opened
-open-number w f path mode = rw (eq-eqb _ _ (clear-length (w * w))) (go (pathFits path) (both (figuresFit w f) (eqb mode 0)))
+open-number : (f : Figures) (path : List ℕ) (mode : ℕ) → (deskOpened (emptyDesk f path) mode .number ≡ 0 → ⊥)
+    → deskOpened (emptyDesk f path) mode .number ≡ 45
+unfolding deskOpened
+open-number f path mode = rw (eq-eqb _ _ (clear-length (cellsOf f))) (go (figuresFit f) (both (eqb mode 0) (pathFits path)))
   where
-    go : (u v : Bool)
-        → (pick u (pick v (answer 0 (clear (w * w))) (answer 45 (clear (w * w)))) (answer 45 (clear (w * w))) .number ≡ 0 → ⊥)
-        → pick u (pick v (answer 0 (clear (w * w))) (answer 45 (clear (w * w)))) (answer 45 (clear (w * w))) .number ≡ 45
+    x : Cells
+    x = clear (cellsOf f)
+
+    go : (u v : Bool) → (pick u (pick v (answer 0 x) (answer 45 x)) (answer 45 x) .number ≡ 0 → ⊥)
+        → pick u (pick v (answer 0 x) (answer 45 x)) (answer 45 x) .number ≡ 45
     go true true z = absurd (z refl)
     go true false z = refl
     go false v z = refl
 
 module _ (es : List Item) (operations : Operations (asksOf es)) where
-  applied-numbers : (f : Figures) (path : List ℕ) (cells : Cells) → deskLegal side f path cells ≡ true
-      → Numbered (applied f path (handled side f path es cells))
+  applied-numbers : (d : Desk) → deskLegal d ≡ true → (e : Desk) → Numbered (applied e (handled d es))
   unfolding applied handled allIn has
-  applied-numbers f path cells h =
-      let ns = handled side f path es cells .answers in
-      let k = served-numbers side f path (asksOf es) cells (desk-legal side f path cells h) operations in
+  applied-numbers d h e =
+      let ns = handled d es .answers in
+      let k = served-numbers d (asksOf es) (desk-legal d h) operations in
       pick-by Numbered (eqb (firstRefused ns) 0) (λ e. tt)
       (λ e. widen (40 ∷ 41 ∷ 42 ∷ 43 ∷ 44 ∷ []) refusedNumbers _ refl (first-refused ns k (eqb-false (firstRefused ns) 0 e)))
 
-  opens-numbers : (f : Figures) (path : List ℕ) (mode : ℕ) → Numbered (opens side f path mode es)
+  opens-numbers : (f : Figures) (path : List ℕ) (mode : ℕ) → Numbered (opens f path mode es)
   unfolding opens begun
   opens-numbers f path mode =
-      let a = deskOpened side f path mode (clear (side * side)) in
+      let d = emptyDesk f path in
+      let a = deskOpened d mode in
       pick-by Numbered (eqb (a .number) 0)
-      (λ e. applied-numbers f path (a .cells) (desk-opened-legal side f path mode (clear (side * side)) (eqb-true (a .number) 0 e)))
-      (λ e. subst (OneOf refusedNumbers) (sym (open-number side f path mode (eqb-false (a .number) 0 e))) (hit refusedNumbers 45 tt))
+      (λ e. applied-numbers (withCells d (a .cells)) (open-legal d mode (eqb-true (a .number) 0 e)) d)
+      (λ e. subst (OneOf refusedNumbers) (sym (open-number f path mode (eqb-false (a .number) 0 e))) (hit refusedNumbers 45 tt))
 
-entries-numbers : (es : List Item) → Operations (asksOf es) → Numbered (ofEntries side es)
+entries-numbers : (es : List Item) → Operations (asksOf es) → Numbered (ofEntries es)
 unfolding ofEntries
 entries-numbers [] o = hit refusedNumbers 33 tt
 entries-numbers (e ∷ es) o =
@@ -139,7 +143,7 @@ entries-numbers (e ∷ es) o =
 
 -- "Type and operation are 0 to 2": so are those of a message that is read
 answer-numbers : (m : List ℕ) → Below 256 m → length m ≤ 16384 → (a : Onto) → walk m .out .answer ≡ a → OntoIn m 0 a
-    → Numbered (ofAnswer side m (walk m .out .entries) a)
+    → Numbered (ofAnswer m (walk m .out .entries) a)
 unfolding allIn has
 answer-numbers m octets short (Next next) e w =
     let l = is-legal m octets short e in
@@ -148,11 +152,11 @@ answer-numbers m octets short (Next next) e w =
     pick-by Numbered (ltb 256 (length (walk m .out .entries))) (λ h. hit refusedNumbers 38 tt) (λ h. entries-numbers (itemsOf m (walk m .out .entries)) o)
 answer-numbers m octets short (Stopped x) e w = widen refusals refusedNumbers _ refl (w .1)
 
-read-numbers : (text : List ℕ) → Numbered (readSheet side text)
+read-numbers : (text : List ℕ) → Numbered (readSheet text)
 unfolding readSheet ofMessage allIn has
 read-numbers text = go (heldIn (linesIn text)) refl (held-numbers (linesIn text))
   where
-    go : (h : Held) → heldIn (linesIn text) ≡ h → stream.Numbered h → Numbered (ofHeld side h)
+    go : (h : Held) → heldIn (linesIn text) ≡ h → stream.Numbered h → Numbered (ofHeld h)
     go (refusal n) e k = widen heldNumbers refusedNumbers n refl k
     go (message m) e k = answer-numbers m (held-octets text m e) (held-short text m e) (walk m .out .answer) refl (walk-in m .0)
 
@@ -161,8 +165,8 @@ leaves-number : (x : reading.Sheet) (store path : List ℕ) (cells : Cells) → 
 leaves-number (refused n) store path cells k = inr (inr k)
 leaves-number (reading.read d) store path cells k = inl refl
 
-pub sheet-numbers : (text store path : List ℕ) (cells : Cells) → OneOf sheetNumbers (sheetRead side text store path cells .number)
+pub sheet-numbers : (text store path : List ℕ) (cells : Cells) → OneOf sheetNumbers (sheetRead text store path cells .number)
 unfolding sheetRead
 sheet-numbers text store path cells =
-    pick-by (λ (o : Outcome). OneOf sheetNumbers (o .number)) (isReady side store path cells)
-    (λ h. leaves-number (readSheet side text) (storeAfter (linesIn text) store) path cells (read-numbers text)) (λ h. inr (inl refl))
+    pick-by (λ (o : Outcome). OneOf sheetNumbers (o .number)) (isReady store path cells)
+    (λ h. leaves-number (readSheet text) (storeAfter (linesIn text) store) path cells (read-numbers text)) (λ h. inr (inl refl))

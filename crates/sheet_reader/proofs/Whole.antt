@@ -1,5 +1,5 @@
 -- The whole call: what is lent, what the text holds, and the message.
-use Prim.Native.Nat.{ℕ, _*_, _≤_}
+use Prim.Native.Nat.{ℕ, _≤_}
 use mathlib.Core.Path.{_≡_, refl, sym, ap, _∙_}
 use mathlib.Core.List.{List}
 use mathlib.Core.Bool.{Bool, true, false}
@@ -7,7 +7,7 @@ use borrow.Author.Tests.{eq-eqb, ne-eqb}
 use lib.Dec.{eqb}
 use lib.ListN.{length, take}
 use Rattle.framing_content.specs.Numbers.{storeLength}
-use Rattle.desk_crosspoints.specs.Figures.{both}
+use Rattle.desk_crosspoints.specs.Figures.{mostCells, both}
 use Rattle.sheet_rules.specs.Lines.{linesIn}
 use Rattle.sheet_rules.specs.Reading.{Held, refusal, message, heldIn, ofHeld, ofMessage, readSheet}
 use Rattle.sheet_stream.specs.declared.Found.{Found}
@@ -24,11 +24,11 @@ both-no : (a b : Bool) → b ≡ false → both a b ≡ false
 both-no true b h = h
 both-no false b h = refl
 
-module _ (w : ℕ) (text store : List ℕ) (path cells : List ℕ) where
+module _ (text store : List ℕ) (path cells : List ℕ) where
   abbrev whole : Outcome
-  whole = sheetRead w text store path cells
+  whole = sheetRead text store path cells
 
-  not-ready : isReady w store path cells ≡ false → whole ≡ outcome 1 setup store path cells
+  not-ready : isReady store path cells ≡ false → whole ≡ outcome 1 setup store path cells
   unfolding sheetRead
   not-ready h = rw h
 
@@ -39,16 +39,16 @@ module _ (w : ℕ) (text store : List ℕ) (path cells : List ℕ) where
   setup-path h = not-ready (both-no (eqb (length store) storeLength) _ (rw (ne-eqb _ _ h)))
 
   module _ (p : length path ≡ 16) where
-    pub setup-cells : (length cells ≡ w * w → ⊥) → whole ≡ told Setup store path cells
+    pub setup-cells : (length cells ≡ mostCells → ⊥) → whole ≡ told Setup store path cells
     unfolding isReady
     setup-cells h = not-ready (both-no (eqb (length store) storeLength) _ (rw (eq-eqb _ _ p, ne-eqb _ _ h)))
 
-    module _ (c : length cells ≡ w * w) where
+    module _ (c : length cells ≡ mostCells) where
       setup-store : (length store ≡ storeLength → ⊥) → whole ≡ told Setup store path cells
       unfolding isReady
       setup-store h = not-ready (rw (ne-eqb _ _ h))
 
-      is-read : length store ≡ storeLength → whole ≡ leaves (readSheet w text) (storeAfter (linesIn text) store) path cells
+      is-read : length store ≡ storeLength → whole ≡ leaves (readSheet text) (storeAfter (linesIn text) store) path cells
       unfolding sheetRead isReady
       is-read h = rw (eq-eqb _ _ h, eq-eqb _ _ p, eq-eqb _ _ c)
 
@@ -59,13 +59,13 @@ module _ (w : ℕ) (text store : List ℕ) (path cells : List ℕ) where
             let k = answers.found-setup text store store′ (q ∙ ap (λ (y : Found). foundBy y store′) h) in
             setup-store (k .0) ∙ ap (λ (s : List ℕ). outcome 1 setup s path cells) (k .1)
 
-        held : (h : Held) → foundBy r store′ ≡ holds h store′ → (heldIn (linesIn text) ≡ h) × (whole ≡ leaves (ofHeld w h) store′ path cells)
+        held : (h : Held) → foundBy r store′ ≡ holds h store′ → (heldIn (linesIn text) ≡ h) × (whole ≡ leaves (ofHeld h) store′ path cells)
         unfolding readSheet
         held h e =
             let k = answers.found-holds text store store′ h (q ∙ e) in (
               k .1 .0,
-              is-read (k .0) ∙ ap (λ (x : Held). leaves (ofHeld w x) (storeAfter (linesIn text) store) path cells) (k .1 .0)
-                  ∙ ap (λ (s : List ℕ). leaves (ofHeld w h) s path cells) (k .1 .1),
+              is-read (k .0) ∙ ap (λ (x : Held). leaves (ofHeld x) (storeAfter (linesIn text) store) path cells) (k .1 .0)
+                  ∙ ap (λ (s : List ℕ). leaves (ofHeld h) s path cells) (k .1 .1),
             )
 
         -- the first half's refusals
@@ -74,7 +74,7 @@ module _ (w : ℕ) (text store : List ℕ) (path cells : List ℕ) where
 
         -- a message
         module _ (n : ℕ) (h : r ≡ found.Message n) (k : ℕ) (same : take k store′ ≡ take n store′) where
-          holds-message : (heldIn (linesIn text) ≡ message (take k store′)) × (whole ≡ leaves (ofMessage w (take k store′)) store′ path cells)
+          holds-message : (heldIn (linesIn text) ≡ message (take k store′)) × (whole ≡ leaves (ofMessage (take k store′)) store′ path cells)
           holds-message =
               held (message (take k store′))
               (ap (λ (y : Found). foundBy y store′) h ∙ ap (λ (m : List ℕ). holds (message m) store′) (sym same))
@@ -82,6 +82,6 @@ module _ (w : ℕ) (text store : List ℕ) (path cells : List ℕ) where
           pub message-short : length (take k store′) ≤ 16384
           message-short = held-short text (take k store′) (holds-message .0)
 
-          pub message-told : (x : Sheet) (path′ cells′ : List ℕ) → Tells (ofMessage w (take k store′)) path cells x path′ cells′
+          pub message-told : (x : Sheet) (path′ cells′ : List ℕ) → Tells (ofMessage (take k store′)) path cells x path′ cells′
               → whole ≡ told x store′ path′ cells′
           message-told x path′ cells′ t = holds-message .1 ∙ t store′

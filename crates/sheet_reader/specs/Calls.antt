@@ -1,6 +1,6 @@
 -- The call that reads a route sheet (document 01, "Desk"): what it answers, and what it leaves of what is lent. `readSheet` (crates/sheet_rules/specs/Reading.antt)
 -- is what reading a byte string gives.
-use Prim.Native.Nat.{ℕ, _*_}
+use Prim.Native.Nat.{ℕ}
 use mathlib.Core.List.{List, [], _∷_, _++_}
 use mathlib.Core.Bool.{Bool}
 use lib.ListN.{length, drop}
@@ -8,7 +8,7 @@ use lib.Dec.{eqb}
 use Rattle.ber_integers.specs.Digits.{pick}
 use Rattle.framing_content.specs.Numbers.{storeLength}
 use Rattle.desk_crosspoints.specs.declared.Figures.{Figures}
-use Rattle.desk_crosspoints.specs.Figures.{both}
+use Rattle.desk_crosspoints.specs.Figures.{mostCells, both}
 use Rattle.desk_crosspoints.specs.Crosspoints.{Cells}
 use Rattle.sheet_rules.specs.Lines.{linesIn}
 use Rattle.sheet_rules.specs.Reading as reading
@@ -34,21 +34,22 @@ pub record Outcome : Type 0 where
 abbrev pub outcome : ℕ → Given → List ℕ → List ℕ → Cells → Outcome
 outcome number given store path cells = record { number = number; given = given; store = store; path = path; cells = cells }
 
--- "The first refusal .. ends it, with no desk": path and crosspoints as they were. A desk: its path over the first words of the lent path, the others as they
--- were, and its crosspoints. The store is what the lines' bytes leave there.
+-- "The first refusal .. ends it, with no desk": path and crosspoints as they were. A desk: its path over the first words of the lent path and its crosspoints
+-- over the first cells of the lent ones, the others as they were. The store is what the lines' bytes leave there.
 abbrev pub leaves : reading.Sheet → List ℕ → List ℕ → Cells → Outcome
 leaves (reading.refused n) store path cells = outcome n none store path cells
 leaves (reading.read d) store path cells =
-    outcome 0 (desk (d .figures) (length (d .path))) store (d .path ++ drop (length (d .path)) path) (d .cells)
+    outcome 0 (desk (d .figures) (length (d .path))) store (d .path ++ drop (length (d .path)) path)
+    (d .crosspoints ++ drop (length (d .crosspoints)) cells)
 
--- "1 SETUP, first of all: store not 17,408 bytes"; a word for each number of a path, a cell for each target and source
-unfoldable pub isReady : ℕ → List ℕ → List ℕ → Cells → Bool
-isReady w store path cells = both (eqb (length store) storeLength) (both (eqb (length path) 16) (eqb (length cells) (w * w)))
+-- "1 SETUP, first of all: store not 17,408 bytes"; a word for each number of a path, and as many cells as the largest desk has
+unfoldable pub isReady : List ℕ → List ℕ → Cells → Bool
+isReady store path cells = both (eqb (length store) storeLength) (both (eqb (length path) 16) (eqb (length cells) mostCells))
 
 -- the call; "1 leaves everything as it was"
-unfoldable pub sheetRead : ℕ → List ℕ → List ℕ → List ℕ → Cells → Outcome
-sheetRead w text store path cells =
-    pick (isReady w store path cells) (leaves (readSheet w text) (storeAfter (linesIn text) store) path cells) (outcome 1 setup store path cells)
+unfoldable pub sheetRead : List ℕ → List ℕ → List ℕ → Cells → Outcome
+sheetRead text store path cells =
+    pick (isReady store path cells) (leaves (readSheet text) (storeAfter (linesIn text) store) path cells) (outcome 1 setup store path cells)
 
 -- what each case of the answer says, beside what the call leaves
 abbrev pub told : Sheet → List ℕ → List ℕ → Cells → Outcome

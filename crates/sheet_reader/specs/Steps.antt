@@ -13,7 +13,7 @@ use Rattle.glow_trees.specs.Rows.{entryOf}
 use Rattle.desk_crosspoints.specs.declared.Figures.{Figures}
 use Rattle.desk_crosspoints.specs.Figures.{both}
 use Rattle.desk_crosspoints.specs.Crosspoints.{Cells}
-use Rattle.sheet_rules.specs.Sheet.{desk}
+use Rattle.desk_crosspoints.specs.Desk.{deskAt}
 use Rattle.sheet_rules.specs.Reading as reading
 use Rattle.sheet_rules.specs.Reading.{refused, read, allLinks}
 use Rattle.sheet_reader.specs.declared.Sheet.{Sheet}
@@ -35,7 +35,7 @@ pub record Taken (xs : List ℕ) (r : ℕ) (list : List ℕ) : Type 0 where
 
 -- a desk, or a refusal where the number is one
 unfoldable pub sheetBy : ℕ → Figures → List ℕ → Cells → reading.Sheet
-sheetBy n f path cells = pick (eqb n 0) (read (desk f path cells)) (refused n)
+sheetBy n f path cells = pick (eqb n 0) (read (deskAt f path cells)) (refused n)
 
 -- what reading gives is told, whatever the store holds
 abbrev pub Tells : reading.Sheet → List ℕ → Cells → Sheet → List ℕ → Cells → Type 0

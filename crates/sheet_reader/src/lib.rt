@@ -1,6 +1,7 @@
 // The route sheet reader: from a sheet's text to a desk, or the first refusal.
 use desk_crosspoints::Figures;
 use desk_crosspoints::Limit;
+use desk_crosspoints::SIDE;
 use glow_reader::Answer;
 use glow_rows::Cell;
 use sheet_stream::Found;
@@ -12,11 +13,14 @@ ghost use lib.ListN.{length, drop};
 ghost use Rattle.glow_trees.specs.Content.{contentOf, isWord};
 ghost use Rattle.glow_trees.specs.Rows.{itemsIn};
 ghost use Rattle.glow_sizes.specs.Accepted.{accepted};
-ghost use Rattle.desk_crosspoints.specs.Figures.{side};
+ghost use Rattle.desk_crosspoints.specs.Figures.{mostCells, sizeOf};
 ghost use Rattle.desk_connections.specs.Connections.{octetsOf, numbersIn};
 ghost use Rattle.sheet_rules.specs.Reading.{firstRefused, limitIn, figuresIn, opens, ofEntries, ofMessage};
 ghost use Rattle.sheet_reader.specs.Calls.{sheetRead, told};
 ghost use Rattle.sheet_reader.specs.Steps.{firstOf, isSheet, Taken, sheetBy, Tells};
+
+// As many cells as the largest desk has.
+pub const MOST: usize = SIDE * SIDE;
 
 // 1 SETUP; a refusal; or a desk: its figures, and how many numbers its path has.
 pub enum Sheet {
@@ -172,12 +176,12 @@ fn apply(
     s: &[u8],
     cells: &mut [u8],
 ) -> u64
-    requires { ⌜ (length (now cells) ≡ 4096) × ((length (now rows) ≤ 256) × ((length (now s) ≤ 16384) × (count ≤ length (now rows)))) ⌝ }
+    requires { ⌜ (length (now cells) ≡ sizeOf f) × ((length (now rows) ≤ 256) × ((length (now s) ≤ 16384) × (count ≤ length (now rows)))) ⌝ }
     requires { ⌜ accepted root (itemsIn (now s) (now rows) count) ≡ true ⌝ }
-    ensures { λ r. ⌜ opens side f (now (path .entry)) mode (itemsIn (now (s .entry)) (now (rows .entry)) count)
+    ensures { λ r. ⌜ opens f (now (path .entry)) mode (itemsIn (now (s .entry)) (now (rows .entry)) count)
         ≡ sheetBy r f (now (path .entry)) (now (cells .exit)) ⌝ }
 {
-    let opened = desk_calls::open(f, mode, path, cells);
+    let opened = desk_crosspoints::open(f, mode, path, cells);
     if opened != 0 {
         return opened;
     }
@@ -220,7 +224,7 @@ fn hand_over(
     path: &mut [u64],
     crosspoints: &mut [u8],
 ) -> Sheet
-    requires { ⌜ (length (now numbers) ≤ length (now path)) × (length (now cells) ≡ length (now crosspoints)) ⌝ }
+    requires { ⌜ (length (now numbers) ≤ length (now path)) × (length (now cells) ≤ length (now crosspoints)) ⌝ }
     ensures { λ r. ⌜ Tells (sheetBy number f (now (numbers .entry)) (now (cells .entry))) (now (path .entry)) (now (crosspoints .entry))
         r (now (path .exit)) (now (crosspoints .exit)) ⌝ }
 {
@@ -235,6 +239,30 @@ fn hand_over(
     }
 }
 
+// The desk that figures, mode and path open, with the connections of the first rows applied, handed over; or the first refusal. The cells are those that it is
+// opened on.
+fn of_desk(
+    f: Figures,
+    mode: u64,
+    numbers: &[u64],
+    rows: &[[u64; 50]],
+    count: usize,
+    root: u64,
+    s: &[u8],
+    cells: &mut [u8],
+    path: &mut [u64],
+    crosspoints: &mut [u8],
+) -> Sheet
+    requires { ⌜ (length (now cells) ≡ sizeOf f) × ((length (now rows) ≤ 256) × ((length (now s) ≤ 16384) × (count ≤ length (now rows)))) ⌝ }
+    requires { ⌜ accepted root (itemsIn (now s) (now rows) count) ≡ true ⌝ }
+    requires { ⌜ (length (now numbers) ≤ length (now path)) × (sizeOf f ≤ length (now crosspoints)) ⌝ }
+    ensures { λ r. ⌜ Tells (opens f (now (numbers .entry)) mode (itemsIn (now (s .entry)) (now (rows .entry)) count))
+        (now (path .entry)) (now (crosspoints .entry)) r (now (path .exit)) (now (crosspoints .exit)) ⌝ }
+{
+    let number = apply(f, mode, numbers, rows, count, root, s, cells);
+    hand_over(number, f, numbers, cells, path, crosspoints)
+}
+
 // The entries of a message that was read: 33, the desk's refusals, or a desk.
 fn of_entries(
     rows: &[[u64; 50]],
@@ -244,10 +272,10 @@ fn of_entries(
     path: &mut [u64],
     crosspoints: &mut [u8],
 ) -> Sheet
-    requires { ⌜ (length (now path) ≡ 16) × ((length (now crosspoints) ≡ 4096)
+    requires { ⌜ (length (now path) ≡ 16) × ((length (now crosspoints) ≡ mostCells)
         × ((length (now rows) ≤ 256) × ((length (now s) ≤ 16384) × (count ≤ length (now rows))))) ⌝ }
     requires { ⌜ accepted root (itemsIn (now s) (now rows) count) ≡ true ⌝ }
-    ensures { λ r. ⌜ Tells (ofEntries side (itemsIn (now (s .entry)) (now (rows .entry)) count)) (now (path .entry)) (now (crosspoints .entry))
+    ensures { λ r. ⌜ Tells (ofEntries (itemsIn (now (s .entry)) (now (rows .entry)) count)) (now (path .entry)) (now (crosspoints .entry))
         r (now (path .exit)) (now (crosspoints .exit)) ⌝ }
 {
     if !is_sheet(rows, count) {
@@ -260,16 +288,27 @@ fn of_entries(
     }
     let f = figures_of(rows);
     let mode = desk_connections::number_of(glow_sizes::cell_at(rows, 0, 4));
-    let mut cells = [0u8; 4096];
-    let number = apply(f, mode, &numbers[..n], rows, count, root, s, &mut cells);
-    hand_over(number, f, &numbers[..n], &cells, path, crosspoints)
+    let size = desk_crosspoints::size(f);
+    let mut cells = [0u8; MOST];
+    of_desk(
+        f,
+        mode,
+        &numbers[..n],
+        rows,
+        count,
+        root,
+        s,
+        &mut cells[..size],
+        path,
+        crosspoints,
+    )
 }
 
 // A message, read into the largest table: the tree's refusals, and then its entries.
 fn of_rows(m: &[u8], table: &mut [[u64; 50]], path: &mut [u64], crosspoints: &mut [u8]) -> Sheet
     requires { ⌜ length (now m) ≤ 16384 ⌝ }
-    requires { ⌜ (length (now table) ≡ 256) × ((length (now path) ≡ 16) × (length (now crosspoints) ≡ 4096)) ⌝ }
-    ensures { λ r. ⌜ Tells (ofMessage side (now (m .entry))) (now (path .entry)) (now (crosspoints .entry)) r (now (path .exit)) (now (crosspoints .exit)) ⌝ }
+    requires { ⌜ (length (now table) ≡ 256) × ((length (now path) ≡ 16) × (length (now crosspoints) ≡ mostCells)) ⌝ }
+    ensures { λ r. ⌜ Tells (ofMessage (now (m .entry))) (now (path .entry)) (now (crosspoints .entry)) r (now (path .exit)) (now (crosspoints .exit)) ⌝ }
 {
     match glow_reader::read(m, table) {
         Answer::Setup => Sheet::Setup,
@@ -282,25 +321,25 @@ fn of_rows(m: &[u8], table: &mut [[u64; 50]], path: &mut [u64], crosspoints: &mu
 // A message, with a table of its own: no sheet overwrites a lent one.
 fn of_message(m: &[u8], path: &mut [u64], crosspoints: &mut [u8]) -> Sheet
     requires { ⌜ length (now m) ≤ 16384 ⌝ }
-    requires { ⌜ (length (now path) ≡ 16) × (length (now crosspoints) ≡ 4096) ⌝ }
-    ensures { λ r. ⌜ Tells (ofMessage side (now (m .entry))) (now (path .entry)) (now (crosspoints .entry)) r (now (path .exit)) (now (crosspoints .exit)) ⌝ }
+    requires { ⌜ (length (now path) ≡ 16) × (length (now crosspoints) ≡ mostCells) ⌝ }
+    ensures { λ r. ⌜ Tells (ofMessage (now (m .entry))) (now (path .entry)) (now (crosspoints .entry)) r (now (path .exit)) (now (crosspoints .exit)) ⌝ }
 {
     let mut rows = [[0u64; 50]; 256];
     of_rows(m, &mut rows, path, crosspoints)
 }
 
-// Reads a route sheet: a desk, with its path in the first `length` words of `path` and its crosspoints in `crosspoints`; or the first refusal, with both as
-// they were. `Setup`, with everything as it was, for a store of other than 17,408 bytes, a path of other than 16 words or crosspoints of other than 4,096
-// cells. After 12 for a bad line the store is as it was; after any other answer it is as a session leaves it that is fed the sheet's bytes, up to and including
-// that of the first event from 10 up, or all of them.
+// Reads a route sheet: a desk, with its path in the first `length` words of `path` and its crosspoints in the first of `crosspoints`, as many as the desk
+// has (`desk_crosspoints::size`), the others as they were; or the first refusal, with both as they were. `Setup`, with everything as it was, for a store of
+// other than 17,408 bytes, a path of other than 16 words or crosspoints of other than the most cells (`MOST`). After 12 for a bad line the store is as it was;
+// after any other answer it is as a session leaves it that is fed the sheet's bytes, up to and including that of the first event from 10 up, or all of them.
 pub fn read(text: &[u8], store: &mut [u8], path: &mut [u64], crosspoints: &mut [u8]) -> Sheet
-    ensures { λ r. ⌜ sheetRead side (now (text .entry)) (now (store .entry)) (now (path .entry)) (now (crosspoints .entry))
+    ensures { λ r. ⌜ sheetRead (now (text .entry)) (now (store .entry)) (now (path .entry)) (now (crosspoints .entry))
         ≡ told r (now (store .exit)) (now (path .exit)) (now (crosspoints .exit)) ⌝ }
 {
     if path.len() != 16 {
         return Sheet::Setup;
     }
-    if crosspoints.len() != 4096 {
+    if crosspoints.len() != MOST {
         return Sheet::Setup;
     }
     match sheet_stream::find_message(text, store) {

@@ -58,22 +58,19 @@ use Rattle.encodings.specs.Encodes.{Encodes}
 use Rattle.encodings.specs.Reading.{AnswersExactly}
 use Rattle.encodings.proofs.ReadExactly as encodings
 use Rattle.encodings.proofs.Exactly as encodings-exactly
-use Rattle.desk_crosspoints.specs.declared.Figures.{Figures}
-use Rattle.desk_crosspoints.specs.Figures.{side}
 use Rattle.desk_crosspoints.specs.Crosspoints.{Cells, legal, count}
-use Rattle.desk_requests.specs.Request.{named, requested}
+use Rattle.desk_crosspoints.specs.Desk.{Desk, withCells, deskLegal, deskOpened}
+use Rattle.desk_crosspoints.proofs.Opened as opened
+use Rattle.desk_requests.specs.Request.{Request, named, requested}
 use Rattle.desk_requests.proofs.Claims as requests
-use Rattle.desk_calls.specs.Calls.{deskLegal, deskOpened}
-use Rattle.desk_calls.proofs.Claims as desk-calls
-use Rattle.sheet_rules.specs.Sheet as sheet
 use Rattle.sheet_rules.specs.Sheet.{sheetOf}
 use Rattle.sheet_rules.specs.Reading.{readSheet, read}
 use Rattle.sheet_rules.specs.KeepAlives.{sheetFrames, WithAlives, Lines}
 use Rattle.sheet_rules.proofs.Theorems as sheets
-use Rattle.turns.specs.Rules.{Desk, isLegal, keep, tells, after}
+use Rattle.turns.specs.Rules.{keep, tells, after}
 use Rattle.turns.specs.Turns as turns
 use Rattle.turns.specs.Samples.{All, p1-to-p12}
-use Rattle.turns.proofs.Calls.{CallByCall}
+use Rattle.turns.specs.Calls.{CallByCall}
 use Rattle.turns.proofs.Functions as turns-calls
 use Rattle.turns.proofs.Some as turns-some
 use Rattle.turns.proofs.Samples as samples
@@ -91,9 +88,8 @@ use Rattle.supervision_c.specs.Promise as supervision-c
 use Rattle.supervision_c.specs.Promise.{Seen, showings}
 use Rattle.supervision_c.proofs.Promise as supervision-c-promise
 use Rattle.framing_words.specs.Words.{wordsOf}
-use Rattle.turns.specs.Whole.{deskAt}
-use Rattle.ember.specs.Words.{figuresAt}
-use Rattle.ember.specs.Rounds.{Round, Rounds}
+use Rattle.ember.specs.Words.{deskIn}
+use Rattle.ember.specs.Rounds.{Round, Rounds, Claimed}
 use Rattle.ember.proofs.Claim as ember
 
 -- ---- Framing
@@ -188,33 +184,30 @@ tree-test-exactly = trees.is-tree-exactly
 -- ---- The desk
 
 -- A desk that was opened is legal, and stays legal whatever is asked of it.
-pub desk-opened-legal : (f : Figures) (path : List ℕ) (mode : ℕ) (before : Cells) → deskOpened side f path mode before .number ≡ 0
-    → deskLegal side f path (deskOpened side f path mode before .cells) ≡ true
-desk-opened-legal = desk-calls.desk-opened-legal side
+pub desk-opened-legal : (d : Desk) (mode : ℕ) → deskOpened d mode .number ≡ 0 → deskLegal (withCells d (deskOpened d mode .cells)) ≡ true
+desk-opened-legal = opened.open-legal
 
-pub desk-stays-legal : (f : Figures) (target : ℕ) (sources : List ℕ) (operation : ℕ) (cells : Cells) → legal side f cells ≡ true
-    → legal side f (requested side f target sources operation cells .cells) ≡ true
-desk-stays-legal = requests.request-legal side
+pub desk-stays-legal : (d : Desk) (r : Request) → legal (d .figures) (d .crosspoints) ≡ true → legal (d .figures) (requested d r .cells) ≡ true
+desk-stays-legal = requests.request-legal
 
 -- A refused request leaves every crosspoint as it was.
-pub desk-refused-same : (f : Figures) (target : ℕ) (sources : List ℕ) (operation : ℕ) (cells : Cells)
-    → (requested side f target sources operation cells .number ≡ 0 → ⊥) → requested side f target sources operation cells .cells ≡ cells
-desk-refused-same = requests.refused-same side
+pub desk-refused-same : (d : Desk) (r : Request) → (requested d r .number ≡ 0 → ⊥) → requested d r .cells ≡ d .crosspoints
+desk-refused-same = requests.refused-same
 
 -- On a 1:1 desk, absolute or connect with one source takes it from every other target.
-pub desk-one-to-one : (f : Figures) (target : ℕ) (sources : List ℕ) (operation : ℕ) (cells : Cells) → f .kind ≡ 1 → operation < 2
-    → count (named side sources) ≡ 1 → requested side f target sources operation cells .number ≡ 0 → (t : ℕ) → t < side → (t ≡ target → ⊥)
-    → getD (requested side f target sources operation cells .cells) (t * side + getD sources 0 0) 0 ≡ 0
-desk-one-to-one = requests.one-to-one-gone side
+pub desk-one-to-one : (d : Desk) (r : Request) → d .figures .kind ≡ 1 → r .operation < 2 → count (named (d .figures .sources) (r .sources)) ≡ 1
+    → requested d r .number ≡ 0 → (t : ℕ) → t < d .figures .targets → (t ≡ r .target → ⊥)
+    → getD (requested d r .cells) (t * d .figures .sources + getD (r .sources) 0 0) 0 ≡ 0
+desk-one-to-one = requests.one-to-one-gone
 
 -- ---- Route sheets
 
 -- Every legal desk's sheet is read back as the same desk, with any keep-alives before, between and after its lines, in digits of either case.
-pub sheet-read-back : (d : sheet.Desk) → deskLegal side (d .figures) (d .path) (d .cells) ≡ true → readSheet side (sheetOf side d) ≡ read d
+pub sheet-read-back : (d : Desk) → deskLegal d ≡ true → readSheet (sheetOf d) ≡ read d
 sheet-read-back = sheets.sheet-read
 
-pub sheet-keep-alives : (d : sheet.Desk) → deskLegal side (d .figures) (d .path) (d .cells) ≡ true → (frames : List (List ℕ)) (text : List ℕ)
-    → WithAlives (sheetFrames side d) frames → Lines frames text → readSheet side text ≡ read d
+pub sheet-keep-alives : (d : Desk) → deskLegal d ≡ true → (frames : List (List ℕ)) (text : List ℕ) → WithAlives (sheetFrames d) frames
+    → Lines frames text → readSheet text ≡ read d
 sheet-keep-alives = sheets.sheet-alive
 
 -- ---- Turns: demand 3
@@ -224,13 +217,13 @@ sheet-keep-alives = sheets.sheet-alive
 -- and what is kept of frame, message and desk are what the rules give for the bytes consumed so far. The rules know no chunk, no session, no store, and of the
 -- table its length.
 pub turns-claim : {rows : ℕ} {s : Session} {t t′ : List ℕ} {d d′ : Desk} {bytes rest : List ℕ} {ts : List turns.Turn} → length t ≡ storeLength
-    → isLegal d ≡ true → Below 256 bytes → CallByCall rows (sessionOf begin) t d bytes ts s t′ d′ rest
+    → deskLegal d ≡ true → Below 256 bytes → CallByCall rows (sessionOf begin) t d bytes ts s t′ d′ rest
     → turns.AsRules rows begin d 0 ts s t′ d′ bytes rest
 turns-claim = turns-calls.calls-claim
 
 -- Such turns exist: for every stream, every way to cut it, every legal desk and whatever tables of one length are lent.
 pub turns-every-cut : (rows : ℕ) (tables : ℕ → Rows) → ((i : ℕ) → length (tables i) ≡ rows) → (bytes : List ℕ) → Below 256 bytes → (chunks : List (List ℕ))
-    → offers.joined chunks ≡ bytes → (t : List ℕ) → length t ≡ storeLength → (d : Desk) → isLegal d ≡ true
+    → offers.joined chunks ≡ bytes → (t : List ℕ) → length t ≡ storeLength → (d : Desk) → deskLegal d ≡ true
     → (k : turns.Consumed rows (sessionOf begin) t d chunks)
     × ((turns.told (k .turns) 0 ≡ tells rows (keep begin d) 0 bytes)
     × (keep (stateOf (k .session) (k .store)) (k .desk) ≡ after rows (keep begin d) bytes))
@@ -262,8 +255,8 @@ c-supervision-promise = supervision-c-promise.promise
 -- ember_turn: demand 3 over every list of its calls from a fresh session's words, any store of the right length and a legal desk, calls answered with 1 among
 -- them, which tell nothing and change nothing: what the calls answered and left is what turns told, and the claim holds of these.
 pub c-ember-claim : {rows : ℕ} {fs path t : List ℕ} {cells : Cells} {bytes : List ℕ} {xs : List Round} {ws′ t′ : List ℕ} {cells′ : Cells} {rest : List ℕ}
-    → length t ≡ storeLength → isLegal (deskAt (figuresAt fs) path cells) ≡ true → Below 256 bytes
-    → Rounds rows fs path (wordsOf (sessionOf begin)) t cells bytes xs ws′ t′ cells′ rest → ember.Claimed rows fs path cells bytes xs ws′ t′ cells′ rest
+    → length t ≡ storeLength → deskLegal (deskIn fs path cells) ≡ true → Below 256 bytes
+    → Rounds rows fs path (wordsOf (sessionOf begin)) t cells bytes xs ws′ t′ cells′ rest → Claimed rows fs path cells bytes xs ws′ t′ cells′ rest
 c-ember-claim = ember.ember-claim
 
 -- ---- Samples: "P1 to P12 form one table, proved by one statement."

@@ -36,6 +36,14 @@ impl Figures {
         let (total, each) = (self.total.map_or([0, 0], |n| [1, n]), self.each.map_or([0, 0], |n| [1, n]));
         [self.kind as u64, self.targets, self.sources, total[0], total[1], each[0], each[1]]
     }
+
+    /// How many crosspoints a desk with these figures has, at most `SIDE_MAX` times `SIDE_MAX`; 0 if they are out of their ranges.
+    fn size(&self) -> usize {
+        let words = self.words();
+        // SAFETY: the pointer and its count name a slice that is borrowed here.
+        let number = unsafe { ffi::ember_desk_size(words.as_ptr(), words.len()) };
+        number as usize
+    }
 }
 
 /// What a request does with its list of sources.
@@ -50,7 +58,7 @@ pub enum Operation {
     Disconnect = 2,
 }
 
-/// A desk: figures, path and crosspoints. It is legal from its opening on, whatever is asked of it.
+/// A desk: figures, path and crosspoints, the first `size` of those here. It is legal from its opening on, whatever is asked of it.
 #[derive(Clone, PartialEq, Eq, Debug)]
 pub struct Desk {
     figures: Figures,
@@ -75,7 +83,7 @@ impl Desk {
                 path.as_ptr(),
                 path.len(),
                 desk.crosspoints.as_mut_ptr(),
-                desk.crosspoints.len(),
+                figures.size(),
             )
         };
         error::told(number).map(|()| desk)
@@ -96,7 +104,8 @@ impl Desk {
     /// Whether a source is connected to a target; both are numbered from 0.
     /// Never panics: there is no connection past the desk's counts.
     pub fn is_connected(&self, target: usize, source: usize) -> bool {
-        target < SIDE_MAX && source < SIDE_MAX && self.crosspoints[target * SIDE_MAX + source] == 1
+        let (targets, sources) = (self.figures.targets as usize, self.figures.sources as usize);
+        target < targets && source < sources && self.crosspoints[target * sources + source] == 1
     }
 
     /// The sources of a target, ascending.
@@ -117,7 +126,7 @@ impl Desk {
                 self.path.as_ptr(),
                 self.numbers,
                 self.crosspoints.as_ptr(),
-                self.crosspoints.len(),
+                self.figures.size(),
             )
         };
         number == 1
@@ -137,7 +146,7 @@ impl Desk {
                 sources.len(),
                 operation as u64,
                 self.crosspoints.as_mut_ptr(),
-                self.crosspoints.len(),
+                self.figures.size(),
             )
         };
         error::told(number)
@@ -163,7 +172,7 @@ impl Desk {
                 message.as_ptr(),
                 message.len(),
                 self.crosspoints.as_mut_ptr(),
-                self.crosspoints.len(),
+                self.figures.size(),
                 answers,
                 answer.as_mut_ptr(),
                 answer.len(),
@@ -199,7 +208,7 @@ impl Desk {
                 self.path.as_ptr(),
                 self.numbers,
                 self.crosspoints.as_ptr(),
-                self.crosspoints.len(),
+                self.figures.size(),
                 out.as_mut_ptr(),
                 out.len(),
                 answer.as_mut_ptr(),
@@ -329,7 +338,7 @@ impl<const N: usize> Line<N> {
                 self.desk.path.as_ptr(),
                 self.desk.numbers,
                 self.desk.crosspoints.as_mut_ptr(),
-                self.desk.crosspoints.len(),
+                self.desk.figures.size(),
                 &mut self.answers,
                 told.as_mut_ptr(),
                 told.len(),

@@ -39,6 +39,7 @@ extern "C" {
         answer_words: usize,
     ) -> u64;
     pub fn ember_accepts(table: *const Row, rows: usize, count: usize, root: u64, message: *const u8, bytes: usize) -> u64;
+    pub fn ember_desk_size(figures: *const u64, words: usize) -> u64;
     pub fn ember_desk_open(
         figures: *const u64,
         words: usize,

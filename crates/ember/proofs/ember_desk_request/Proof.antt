@@ -1,4 +1,5 @@
 use Rattle.ember.proofs.Laws.{request-called, request-setup}
+use mathlib.Core.List.{[]}
 use borrow.Author.Needs.{needs}
 use Rattle.ember.proofs.ember_desk_request.Statement.{statement}
 use Rattle.ember.proofs.ember_desk_request.Tie as tie
@@ -26,7 +27,7 @@ returns c =
     let the-if1 = c .before .before .before .before .before .if1 in
     let the-figures-at = c .before .before .before .before .figures-at in
     let the-request = c .before .before .request in
-    request-called _ _ _ _ _ (the-is-figures .ensures) (the-if1 .taken) (the-figures-at .ensures) (the-request .ensures)
+    request-called _ _ _ _ _ (the-is-figures .ensures) (the-if1 .taken) (the-figures-at .ensures) (the-request .ensures [])
 
 returns-2 : tie.Need-returns-2
 returns-2 c =

@@ -15,7 +15,7 @@ returns c =
     let the-Start = c .before .before .before .before .before .before .before .before in
     let the-open = c .before .before .before .«open» in
     let the-if1 = c .if1 in
-    opens-not 64 _ _ _ _ _ (the-Start .pre .0 .0) _ _ (the-open .ensures) (the-if1 .taken) _
+    opens-not _ _ _ _ _ (the-Start .pre .0 .0) _ _ (the-open .ensures) (the-if1 .taken) _
 
 call-requires : tie.Need-call-requires
 call-requires c κs = search needs
@@ -27,7 +27,7 @@ array-share-prefix-answers c =
     let the-if1 = c .before .before .before .before .before .if1 in
     let the-call = c .before .before .before .call in
     let q = the-Start .pre .0 .1 in
-    done-within 64 _ _ _ _ (the-Start .pre .0 .0) _ _ (the-open .ensures) (the-if1 .left) _ _ _ _ (q .0) (q .1 .0) (q .1 .1) (the-Start .pre .1) (the-call .result) _
+    done-within _ _ _ _ (the-Start .pre .0 .0) _ _ (the-open .ensures) (the-if1 .left) _ _ _ _ (q .0) (q .1 .0) (q .1 .1) (the-Start .pre .1) (the-call .result) _
     (the-call .ensures)
 
 slice-aggregate-first-refused : tie.Need-slice-aggregate-first-refused
@@ -37,7 +37,7 @@ slice-aggregate-first-refused c =
     let the-if1 = c .before .before .before .before .before .before .if1 in
     let the-call = c .before .before .before .before .call in
     let q = the-Start .pre .0 .1 in
-    sym (done-length 64 _ _ _ _ (the-Start .pre .0 .0) _ _ (the-open .ensures) (the-if1 .left) _ _ _ _ (q .0) (q .1 .0) (q .1 .1) (the-Start .pre .1) (the-call .result) _
+    sym (done-length _ _ _ _ (the-Start .pre .0 .0) _ _ (the-open .ensures) (the-if1 .left) _ _ _ _ (q .0) (q .1 .0) (q .1 .1) (the-Start .pre .1) (the-call .result) _
     (the-call .ensures))
 
 first-refused-requires : tie.Need-first-refused-requires
@@ -54,7 +54,7 @@ returns-2 c =
     let the-call = c .before .before .before .before .before .call in
     let the-first-refused = c .first-refused in
     let q = the-Start .pre .0 .1 in
-    opens-done 64 _ _ _ _ (the-Start .pre .0 .0) _ _ (the-open .ensures) (the-if1 .left) _ _ _ _ (q .0) (q .1 .0) (q .1 .1) (the-Start .pre .1) (the-call .result) _
+    opens-done _ _ _ _ (the-Start .pre .0 .0) _ _ (the-open .ensures) (the-if1 .left) _ _ _ _ (q .0) (q .1 .0) (q .1 .1) (the-Start .pre .1) (the-call .result) _
     (the-call .ensures) _ (the-first-refused .ensures)
 
 pub apply-spec : {M : Type 1} → statement M

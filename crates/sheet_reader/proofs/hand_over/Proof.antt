@@ -18,7 +18,7 @@ copy-words-requires c κs =
 copy-bytes-requires : tie.Need-copy-bytes-requires
 copy-bytes-requires c κs =
     let the-Start = c .before .before .before .before .before .before .before .before .before .before in
-    let e = the-Start .pre .1 in omega (arith, e)
+    the-Start .pre .1
 
 same-length : tie.Need-same-length
 same-length c = search needs
@@ -33,7 +33,7 @@ returns-2 c =
     let the-copy-words = c .before .before .before .before .before .before .copy-words in
     let the-copy-bytes = c .before .before .copy-bytes in
     hands-desk (the-Start .args .number) (the-Start .args .f) (the-Start .args .numbers .now) (the-Start .args .cells .now) _ _ (omega (arith, the-if1 .left)) _ _
-    (the-copy-words .ensures) (the-copy-bytes .ensures) (the-Start .pre .1)
+    (the-copy-words .ensures) (the-copy-bytes .ensures)
 
 pub hand-over-spec : {M : Type 1} → statement M
 hand-over-spec =

@@ -29,9 +29,9 @@ of-entries-requires c κs =
     let octets = octets-all (a .m .now) (λ i. omega (arith, the-known .given i)) in
     let few = the-Start .pre .0 in
     let sized = the-Start .pre .1 .0 in
-    let f = rows-few 64 (a .m .now) (a .table .now) few sized _ _ (the-read .ensures) (a .path .now) (a .crosspoints .now) _ _ (the-root .given .1) octets in
-    let k = entries-few 64 (a .m .now) (a .table .now) few sized _ _ (the-read .ensures) (a .path .now) (a .crosspoints .now) _ _ (the-root .given .1) octets in
-    let g = entries-accepted 64 (a .m .now) (a .table .now) few sized _ _ (the-read .ensures) (a .path .now) (a .crosspoints .now) _ _ (the-root .given .1) octets in
+    let f = rows-few (a .m .now) (a .table .now) few sized _ _ (the-read .ensures) (a .path .now) (a .crosspoints .now) _ _ (the-root .given .1) octets in
+    let k = entries-few (a .m .now) (a .table .now) few sized _ _ (the-read .ensures) (a .path .now) (a .crosspoints .now) _ _ (the-root .given .1) octets in
+    let g = entries-accepted (a .m .now) (a .table .now) few sized _ _ (the-read .ensures) (a .path .now) (a .crosspoints .now) _ _ (the-root .given .1) octets in
     ((the-Start .pre .1 .1 .0, (the-Start .pre .1 .1 .1, (f, (few, k)))), g)
 
 same-length : tie.Need-same-length
@@ -42,7 +42,7 @@ returns c =
     let the-Start = c .before .before .before .before .before .before .before .before in
     let the-read = c .before .before .before .read in
     let the-enum-told = c .enum-told in
-    absurd (never-setup 64 _ _ (the-Start .pre .0) (the-Start .pre .1 .0) _ _ (the-read .ensures) (the-enum-told .given .1))
+    absurd (never-setup _ _ (the-Start .pre .0) (the-Start .pre .1 .0) _ _ (the-read .ensures) (the-enum-told .given .1))
 
 same-length-2 : tie.Need-same-length-2
 same-length-2 c = search needs
@@ -52,7 +52,7 @@ returns-2 c =
     let the-Start = c .before .before .before .before .before .before .before .before .before in
     let the-read = c .before .before .before .before .read in
     let the-number = c .before .number in
-    tells-refused 64 _ _ (the-Start .pre .0) (the-Start .pre .1 .0) _ _ (the-read .ensures) _ _ _ _ (the-number .given .1)
+    tells-refused _ _ (the-Start .pre .0) (the-Start .pre .1 .0) _ _ (the-read .ensures) _ _ _ _ (the-number .given .1)
 
 same-length-3 : tie.Need-same-length-3
 same-length-3 c = search needs
@@ -62,7 +62,7 @@ returns-3 c =
     let the-Start = c .before .before .before .before .before .before .before .before in
     let the-read = c .before .before .before .read in
     let the-enum-told2 = c .enum-told2 in
-    tells-room 64 _ _ (the-Start .pre .0) (the-Start .pre .1 .0) _ _ (the-read .ensures) _ _ _ (the-enum-told2 .given .1)
+    tells-room _ _ (the-Start .pre .0) (the-Start .pre .1 .0) _ _ (the-read .ensures) _ _ _ (the-enum-told2 .given .1)
 
 same-length-4 : tie.Need-same-length-4
 same-length-4 c = search needs
@@ -81,7 +81,7 @@ returns-4 c =
     let the-root = c .before .before .before .before .before .before .before .before .before .root in
     let the-of-entries = c .before .before .before .before .of-entries in
     let octets = octets-all (the-Start .args .m .now) (λ i. omega (arith, the-known .given i)) in
-    tells-entries 64 _ _ (the-Start .pre .0) (the-Start .pre .1 .0) _ _ (the-read .ensures) _ _ _ _ (the-root .given .1) octets
+    tells-entries _ _ (the-Start .pre .0) (the-Start .pre .1 .0) _ _ (the-read .ensures) _ _ _ _ (the-root .given .1) octets
     (the-of-entries .result) (the-of-entries .last .1 .1 .1 .1 .0) (the-of-entries .last .1 .1 .1 .1 .1 .0) (the-of-entries .ensures)
 
 pub of-rows-spec : {M : Type 1} → statement M

@@ -13,13 +13,13 @@ use Rattle.turns.proofs.front.Reads as front-reads
 returns : tie.Need-returns
 returns c =
     let the-if1 = c .if1 in
-    setup-path 64 _ _ _ _ (the-if1 .taken)
+    setup-path _ _ _ _ (the-if1 .taken)
 
 returns-2 : tie.Need-returns-2
 returns-2 c =
     let the-if1 = c .before .if1 in
     let the-if2 = c .if2 in
-    setup-cells 64 _ _ _ _ (the-if1 .left) (the-if2 .taken)
+    setup-cells _ _ _ _ (the-if1 .left) (the-if2 .taken)
 
 find-message-requires : tie.Need-find-message-requires
 find-message-requires c κs = search needs
@@ -53,7 +53,7 @@ of-message-requires c κs =
     let the-length = c .before .before .before .before .before .before .length in
     let the-front = c .before .before .before .front in
     let a = the-Start .args in
-    let short = message-short 64 (a .text .now) (a .store .now) (a .path .now) (a .crosspoints .now) (the-if1 .left) (the-if2 .left)
+    let short = message-short (a .text .now) (a .store .now) (a .path .now) (a .crosspoints .now) (the-if1 .left) (the-if2 .left)
     _ _ (the-find-message .ensures) _ (the-length .given .1) (the-front .result) (the-front .ensures .0) in
     (short, (the-if1 .left, the-if2 .left))
 
@@ -66,7 +66,7 @@ returns-3 c =
     let the-if2 = c .before .before .before .before .before .before .if2 in
     let the-find-message = c .before .before .before .before .find-message in
     let the-enum-told = c .enum-told in
-    found-setup 64 _ _ _ _ (the-if1 .left) (the-if2 .left) _ _ (the-find-message .ensures) (the-enum-told .given .1)
+    found-setup _ _ _ _ (the-if1 .left) (the-if2 .left) _ _ (the-find-message .ensures) (the-enum-told .given .1)
 
 same-length-2 : tie.Need-same-length-2
 same-length-2 c = search needs
@@ -77,7 +77,7 @@ returns-4 c =
     let the-if2 = c .before .before .before .before .before .before .before .if2 in
     let the-find-message = c .before .before .before .before .before .find-message in
     let the-number = c .before .number in
-    found-refused 64 _ _ _ _ (the-if1 .left) (the-if2 .left) _ _ (the-find-message .ensures) _ (the-number .given .1)
+    found-refused _ _ _ _ (the-if1 .left) (the-if2 .left) _ _ (the-find-message .ensures) _ (the-number .given .1)
 
 same-length-3 : tie.Need-same-length-3
 same-length-3 c = search needs
@@ -98,7 +98,7 @@ returns-5 c =
     let the-front = c .before .before .before .before .before .before .before .before .front in
     let the-of-message = c .before .before .before .before .of-message in
     let a = the-Start .args in
-    message-told 64 (a .text .now) (a .store .now) (a .path .now) (a .crosspoints .now) (the-if1 .left) (the-if2 .left)
+    message-told (a .text .now) (a .store .now) (a .path .now) (a .crosspoints .now) (the-if1 .left) (the-if2 .left)
     _ _ (the-find-message .ensures) _ (the-length .given .1) (the-front .result) (the-front .ensures .0)
     (the-of-message .result) (the-of-message .last .1 .0) (the-of-message .last .1 .1 .0) (the-of-message .ensures)
 
