@@ -1,3 +1,4 @@
 pub mod Heads
 pub mod Laws
 pub mod Quick
+pub mod Numbers

@@ -99,6 +99,10 @@ oidSays (Numbers n) range at = done n
 oidSays Range range at = refused range at
 oidSays Refused range at = refused 30 at
 
+-- with which numbers: 0, 30 or `range`
+abbrev pub identifierNumbers : ℕ → List ℕ
+identifierNumbers range = 0 ∷ 30 ∷ range ∷ []
+
 abbrev pub arcOr : ℕ → Arc → ℕ → ℕ → Said (ℕ × ℕ)
 arcOr number (Number n next) range at = done (n, next)
 arcOr number (Over next) range at = refused range at

@@ -11,6 +11,7 @@ use native.Mathlib.Nat.{pow-suc, pow-zero, mod-lt, div-add-mod', div-lt-iff-lt-m
 use lib.Arith.{digits-lt, digits-div, digits-mod}
 use lib.ListN.{length, length-append}
 use Rattle.ber_integers.specs.Digits.{horner, digits, countBy}
+pub use Rattle.ber_integers.specs.Digits.{Below}
 
 -- which of two numbers is greater
 pub lt-or-le : (m n : ℕ) → (m < n) ⊎ (n ≤ m)
@@ -22,11 +23,6 @@ lt-or-le m n = go (ltb m n) refl
 
 pub none-or-some : (m : ℕ) → (m ≡ 0) ⊎ (0 < m)
 none-or-some m = eq-zero-or-pos m
-
--- each digit is one of the base
-abbrev pub Below : ℕ → List ℕ → Type 0
-Below base [] = Unit {0}
-Below base (d ∷ ds) = (d < base) × Below base ds
 
 pub digit-lt : (base n : ℕ) {q d : ℕ} → q < base ^ n → d < base → q * base + d < base ^ suc n
 digit-lt base n {q} {d} h k = rw pow-suc (digits-lt h k)

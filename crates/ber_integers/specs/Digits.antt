@@ -1,7 +1,7 @@
 -- Numbers as digits, most significant first, in any base; and a lent output with octets put into it.
 -- `natural bs` is the number of the octets bs; `digits 256 n m` are the n low octets of m,
 -- and `count 256 m` of them are the fewest that hold it.
-use Prim.Native.Nat.{ℕ, zero, suc, _+_, _*_, _/_, _%_}
+use Prim.Native.Nat.{ℕ, zero, suc, _+_, _*_, _/_, _%_, _<_}
 use mathlib.Core.List.{List, [], _∷_, _++_}
 use mathlib.Core.Bool.{Bool, true, false}
 use lib.ListN.{length, take, drop}
@@ -12,6 +12,11 @@ use Rattle.ber_integers.specs.declared.Wrote.the-variants.{Next, Out}
 abbrev pub pick : {X : Type 0} → Bool → X → X → X
 pick true a b = a
 pick false a b = b
+
+-- each digit is one of the base: `Below 256` says that numbers are octets
+abbrev pub Below : ℕ → List ℕ → Type 0
+Below base [] = Unit {0}
+Below base (d ∷ ds) = (d < base) × Below base ds
 
 -- the number whose first digits made acc and whose further ones are given
 unfoldable pub horner : ℕ → ℕ → List ℕ → ℕ

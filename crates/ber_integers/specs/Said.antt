@@ -1,6 +1,6 @@
 -- What the readers' answers say, in document 01's words and numbers. Each answer is an enum; for each of its cases a definition gives what it says:
---     integerSays, naturalSays (here), realSays (reals), flagSays (values)     content octets judged: one shape, a value or one way to refuse
---     headSays (tags), arcSays and oidSays (identifiers), answerSays (values)
+--     integerSays, naturalSays (here), realSays (ber_reals), flagSays (ber_values): content octets judged, one shape, a value or one way to refuse
+--     headSays (ber_tags), arcSays and oidSays (ber_identifiers), answerSays (ber_values)
 -- The contract of each reader goes through it, and names the number of document 01's row beside the rule: `integerOr 30` and the like.
 use Prim.Native.Nat.{ℕ}
 use mathlib.Core.Path.{_≡_}

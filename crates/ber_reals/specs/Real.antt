@@ -68,6 +68,10 @@ abbrev pub realSays : Read → ℕ → Said Float
 realSays (Real x) at = done x
 realSays Refused at = refused 35 at
 
+-- with which numbers: 0 or 35
+abbrev pub realNumbers : List ℕ
+realNumbers = 0 ∷ 35 ∷ []
+
 abbrev pub realOr : ℕ → Read → ℕ → Said Float
 realOr number (Real x) at = done x
 realOr number Refused at = refused number at

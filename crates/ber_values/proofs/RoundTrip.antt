@@ -42,6 +42,7 @@ use Rattle.ber_values.specs.declared.Flag.{Flag}
 use Rattle.ber_values.specs.declared.Flag.the-variants.{Is, Refused as NoFlag}
 use Rattle.ber_values.specs.declared.Answer.the-variants.{Found, Other, Refused}
 use Rattle.ber_values.specs.Value.{boolean, boolAt, onFlag, onNumber, onReal, contentAt, valueAt}
+use Rattle.ber_values.specs.Compared.{Held, moved, octetsOf}
 use Rattle.ber_values.specs.Write.{boolOctet, part, contentOctets, kindOf, primitive, putPrimitive, putValue}
 use Rattle.ber_values.proofs.Laws.{value-by, value-class, value-constructed, value-primitive, Listed, content-missing, content-other, content-bool, content-int, content-octets, content-real, content-text, text-long, text-out, text-in}
 use Rattle.ber_values.proofs.Shorts.{int-short, real-short}
@@ -92,33 +93,6 @@ true-octet : (b : Bool) → boolean (boolOctet b ∷ []) ≡ Is b
 unfolding boolean
 true-octet true = refl
 true-octet false = refl
-
--- A value of the code's types: a number of 64 bits, a double.
-abbrev pub Held : Value → Type 0
-Held Absent = Unit {0}
-Held (Int z) = SFits w64 z
-Held (Real x) = T (Ieee.fits binary64 x)
-Held (Text start len) = Unit {0}
-Held (Truth b) = Unit {0}
-Held (Octets start len) = Unit {0}
-
--- A value as it is found in an output that was written up to e: the same, with texts and octets where they stand now.
-abbrev pub moved : ℕ → Value → Value
-moved e Absent = Absent
-moved e (Int z) = Int z
-moved e (Real x) = Real x
-moved e (Text start len) = Text (e - len) len
-moved e (Truth b) = Truth b
-moved e (Octets start len) = Octets (e - len) len
-
--- The octets of a text or of octets.
-abbrev pub octetsOf : List ℕ → Value → List ℕ
-octetsOf s Absent = []
-octetsOf s (Int z) = []
-octetsOf s (Real x) = []
-octetsOf s (Text start len) = take len (drop start s)
-octetsOf s (Truth b) = []
-octetsOf s (Octets start len) = take len (drop start s)
 
 not-written : {out o : List ℕ} {e : ℕ} → unchanged out ≡ outcome (Next e) o → ⊥
 not-written {out} {o} {e} d =

@@ -94,6 +94,10 @@ answerSays (Found value next) at = done (value, next)
 answerSays Other at = refused 33 at
 answerSays (Refused number place) at = refused number place
 
+-- with which numbers: 0, 30 for bad octets, 33, 35 for a real not accepted
+abbrev pub valueNumbers : List ℕ
+valueNumbers = 0 ∷ 30 ∷ 33 ∷ 35 ∷ []
+
 abbrev pub answerOr : ℕ → Answer → ℕ → Said (Value × ℕ)
 answerOr other (Found value next) at = done (value, next)
 answerOr other Other at = refused other at

@@ -33,7 +33,7 @@ use Rattle.trees_read_back.proofs.ReadBack.{reads-back, same-tree, written-spel
 use Rattle.trees_round_trip.proofs.Octets.{Octets, rows-octets, message-below}
 use Rattle.trees_round_trip.proofs.Reals.{real-form, least-spells, least-below, reals-least}
 use Rattle.trees_round_trip.proofs.Writing.{made, told, fitting}
-use Rattle.trees_round_trip.proofs.Theorems.{written}
+use Rattle.trees_round_trip.specs.Claims.{written}
 use Rattle.encodings.specs.Values.{Values, end, plain, nest}
 use Rattle.encodings.specs.Encodes.{Encodes}
 use Rattle.encodings.specs.Writing.{PlainReals}

@@ -1,18 +1,19 @@
 -- With which numbers the calls answer, whatever is handed in. `calls`, `writeCalls` and `acceptCalls` are the contracts of glow_read, glow_write and
 -- glow_accepts.
-use Prim.Native.Nat.{ℕ, _+_}
+use Prim.Native.Nat.{ℕ}
+use mathlib.Core.Path.{refl}
 use mathlib.Core.List.{List}
-use lib.Dec.{leb, eqb}
+use lib.Dec.{eqb}
 use lib.ListN.{length}
 use types.Run.{OneOf, hit}
-use Rattle.ber_integers.specs.Digits.{Put, put}
+use Rattle.ber_integers.specs.Numbers.{putNumbers}
+use Rattle.ber_integers.proofs.Numbers.{widen}
 use Rattle.ber_containers.proofs.Heads.{pick-by}
 use Rattle.glow_rows.specs.Entry.{Rows}
 use Rattle.glow_trees.specs.Rows.{itemsIn}
-use Rattle.glow_trees.specs.Written.{writtenReal}
 use Rattle.glow_member_sizes.specs.Spelling.{leastReal}
-use Rattle.glow_sizes.specs.Accepted.{octetsOf, fits}
-use Rattle.glow_writer.specs.Writes.{writes}
+use Rattle.glow_sizes.specs.Accepted.{fits}
+use Rattle.glow_writer.proofs.Numbers.{write-numbers}
 use Rattle.glow_reader.specs.Message.{readNumbers}
 use Rattle.glow_reader.proofs.Answers.{read-numbers}
 use Rattle.glow_c.specs.Calls.{Call, calls, Writing, writeCalls, acceptCalls}
@@ -25,19 +26,11 @@ glow-read-numbers s rows answer =
     pick-by (λ (x : Call). OneOf readNumbers (x .number)) (eqb (length answer) 3) (λ e. read-numbers s rows) (λ e. hit readNumbers 1 tt)
 
 -- 0, 1 or 46
-written-numbers : (root rows n : ℕ) (s : List ℕ) (table : Rows) (out : List ℕ) → OneOf writeNumbers (writes root rows n (itemsIn s table n) out .number)
-unfolding writes put
-written-numbers root rows n s table out =
-    let es = itemsIn s table n in
-    pick-by (λ (x : Put). OneOf writeNumbers (x .number)) (fits writtenReal root rows n es)
-    (λ e. pick-by (λ (x : Put). OneOf writeNumbers (x .number)) (leb (0 + length (octetsOf writtenReal root es)) (length out))
-    (λ e. hit writeNumbers 0 tt) (λ e. hit writeNumbers 46 tt))
-    (λ e. hit writeNumbers 46 tt)
-
 pub glow-write-numbers : (rows : Rows) (n root : ℕ) (s out answer : List ℕ) → OneOf writeNumbers (writeCalls rows n root s out answer .number)
 unfolding writeCalls
 glow-write-numbers rows n root s out answer =
-    pick-by (λ (x : Writing). OneOf writeNumbers (x .number)) (eqb (length answer) 1) (λ e. written-numbers root (length rows) n s rows out)
+    pick-by (λ (x : Writing). OneOf writeNumbers (x .number)) (eqb (length answer) 1)
+    (λ e. widen putNumbers writeNumbers _ refl (write-numbers root (length rows) n (itemsIn s rows n) out))
     (λ e. hit writeNumbers 1 tt)
 
 -- 0 or 1

@@ -1,3 +1,4 @@
 pub mod Putting
 pub mod Placing
 pub mod Messages
+pub mod Numbers

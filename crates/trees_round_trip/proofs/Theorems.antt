@@ -1,5 +1,5 @@
 -- The theorems of the tree writer (document 01, demand 2: "What we write, we read back as the same tree"), for all rows, counts, messages and outputs.
--- They speak of what the code is proved to answer: `readAt` (glow_reader::read), `writes` (glow_writer) and `accepted` (tree_sizes).
+-- They speak of what the code is proved to answer: `readAt` (glow_reader::read), `writes` (glow_writer) and `accepted` (glow_sizes).
 -- Trees are compared by the content of their entries: `itemsIn s rows count` are those of the first `count` rows, with the message s beside them.
 use Prim.Native.Nat.{ℕ, zero, suc, _≤_, _<_}
 use mathlib.Core.Path.{_≡_, refl, sym, ap, subst, _∙_}
@@ -9,9 +9,8 @@ use mathlib.Core.Logic.{_⊎_, inl, inr, ⊎-elim}
 use native.Mathlib.Omega.{arith}
 use lib.ListN.{length, take, drop, length-append, length-drop}
 use lib.Seq.{take-at, drop-at}
-use Rattle.ber_integers.specs.Digits.{Put, outcome, unchanged}
+use Rattle.ber_integers.specs.Digits.{Below, outcome, unchanged}
 use Rattle.ber_integers.specs.declared.Wrote.the-variants.{Next, Out}
-use Rattle.ber_integers.proofs.Radix.{Below}
 use Rattle.glow_rows.specs.Entry.{Rows}
 use Rattle.glow_reader.specs.declared.Answer.the-variants.{Read}
 use Rattle.glow_reader.specs.Message.{readAt}
@@ -22,25 +21,13 @@ use Rattle.trees_read_back.proofs.ReadBack.{written-spells}
 use Rattle.glow_member_sizes.specs.Spelling.{leastReal}
 use Rattle.glow_sizes.specs.Accepted.{octetsOf, accepted, fits, lengthOf}
 use Rattle.glow_writer.specs.Writes.{writes}
+use Rattle.trees_round_trip.specs.Claims.{ReadAs, ReadBack, written, Message}
 use Rattle.trees_round_trip.proofs.Reals.{least-spells}
 use Rattle.trees_round_trip.proofs.Rows.{items-count}
 use Rattle.trees_round_trip.proofs.Octets.{Octets, rows-octets}
 use Rattle.trees_round_trip.proofs.Writing.{whole-read, told, fitting, fits-by, length-fits, fits-length}
 use Rattle.trees_round_trip.proofs.Writing.{writes-any, accepting, accepted-by, least-octets}
 use Rattle.trees_round_trip.proofs.Rewriting.{in-rows, rewritten, read-accepting}
-
--- A message is read into a table as these entries: the answer names Root's kind and how many there are, and the table's first rows then hold them.
-pub record ReadAs (m : List ℕ) (table : Rows) (root count : ℕ) (es : List Item) : Type 0 where
-  pub answer : readAt m table .answer ≡ Read root count
-  pub entries : itemsIn m (readAt m table .rows) count ≡ es
-
--- .. and so into every table that has room.
-abbrev pub ReadBack : List ℕ → ℕ → ℕ → List Item → Type 0
-ReadBack m root count es = (table : Rows) → count ≤ length table → length table ≤ 256 → ReadAs m table root count es
-
--- The writer's answer and the output after it, for the first `count` rows.
-abbrev pub written : List ℕ → Rows → ℕ → ℕ → List ℕ → Put
-written s rows count root out = writes root (length rows) count (itemsIn s rows count) out
 
 module _ (s : List ℕ) (rows : Rows) (count root : ℕ) (out : List ℕ) where
   -- 1. What is written is read back, into any table that has room, as the same tree;
@@ -107,18 +94,12 @@ same-bytes s s′ table table′ root count es a b out =
     ap (λ (x : List Item). writes root (length rows) count x out) (a .entries ∙ sym (b .entries))
     ∙ writes-any root (length rows) count (itemsIn s′ rows′ count) out (length rows′) (in-rows s table (a .answer) .0) (in-rows s′ table′ (b .answer) .0)
 
--- 5. The test is exact: it says yes exactly if some message of at most 16,384 bytes is read, with the largest table, as exactly these entries.
-pub record Message (root : ℕ) (es : List Item) : Type 0 where
-  pub message : List ℕ
-  pub octets : Below 256 message
-  pub few : length message ≤ 16384
-  pub read : (table : Rows) → length table ≡ 256 → ReadAs message table root (length es) es
-
 -- a table of so many rows
 table-of : (n : ℕ) → (table : Rows) × (length table ≡ n)
 table-of zero = ([], refl)
 table-of (suc n) = let t = table-of n in ([] ∷ t .0, ap suc (t .1))
 
+-- 5. The test is exact: it says yes exactly if there is such a message (`Message`).
 -- `Octets es`: texts, octets, paths and sources are octets, else no message could hold them. Those of rows, parts of a message of octets, are.
 pub accepted-exactly : (root : ℕ) (es : List Item) → Octets es → (accepted root es ≡ true → Message root es) × (Message root es → accepted root es ≡ true)
 accepted-exactly root es o = (yes, no)
@@ -167,7 +148,7 @@ accepted-measured s rows count root =
           (f .within, accepted-by root es (record { most = omega arith; whole = f .whole; few = f .few })),
     )
 
--- What `is_tree` answers (tree_sizes: `fits leastReal`): yes exactly if the rows are there, and some message of at most 16,384 bytes is read as exactly
+-- What `is_tree` answers (glow_sizes: `fits leastReal`): yes exactly if the rows are there, and some message of at most 16,384 bytes is read as exactly
 -- their entries.
 pub is-tree-exactly : (s : List ℕ) → Below 256 s → (rows : Rows) (count root : ℕ)
     → (fits leastReal root (length rows) count (itemsIn s rows count) ≡ true → (count ≤ length rows) × Message root (itemsIn s rows count))

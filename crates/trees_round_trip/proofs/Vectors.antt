@@ -23,7 +23,8 @@ use Rattle.glow_sizes.specs.Accepted.{octetsOf, isWhole, accepted}
 use Rattle.glow_writer.specs.Writes.{writes}
 use Rattle.trees_round_trip.proofs.Writing.{whole-tree, octets-tree, fits-by, writes-yes, writes-any}
 use Rattle.trees_round_trip.proofs.Rewriting.{in-rows}
-use Rattle.trees_round_trip.proofs.Theorems.{ReadAs, ReadBack, written, written-read, read-accepted, Message, accepted-rows}
+use Rattle.trees_round_trip.specs.Claims.{ReadAs, ReadBack, written, Message}
+use Rattle.trees_round_trip.proofs.Theorems.{written-read, read-accepted, accepted-rows}
 
 abbrev pub zeros : ℕ → List ℕ
 zeros zero = []
