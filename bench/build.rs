@@ -10,24 +10,13 @@ fn main() {
     println!("cargo:rerun-if-changed={}", folder.join("libframing_c.a").display());
     println!("cargo:rustc-link-search=native={}", folder.display());
     println!("cargo:rustc-link-lib=static=framing_c");
-    // The proved tree reader takes part where its library is.
-    println!("cargo:rerun-if-changed={}", folder.join("libglow_c.a").display());
-    if let Ok(octets) = std::fs::read(folder.join("libglow_c.a")) {
-        println!("cargo:rustc-cfg=glow");
-        println!("cargo:rustc-link-lib=static=glow_c");
-        // The proved tree writer, where the archive's list of symbols has it.
-        let name = b"glow_write\0";
-        if octets.windows(name.len()).any(|window| window == name) {
-            println!("cargo:rustc-cfg=glow_write");
+    // The tree (glow) and whole turns (ember) take part where their library is.
+    for (library, cfg) in [("glow_c", "glow"), ("ember", "ember")] {
+        let path = folder.join(format!("lib{library}.a"));
+        println!("cargo:rerun-if-changed={}", path.display());
+        if path.exists() {
+            println!("cargo:rustc-cfg={cfg}");
+            println!("cargo:rustc-link-lib=static={library}");
         }
-    }
-    // Whole turns, where a library has them: the name of the library and of the function, `LIBRARY` and `TURN`.
-    const LIBRARY: &str = "ember";
-    const TURN: &[u8] = b"ember_turn\0";
-    let path = folder.join(format!("lib{LIBRARY}.a"));
-    println!("cargo:rerun-if-changed={}", path.display());
-    if std::fs::read(path).is_ok_and(|octets| octets.windows(TURN.len()).any(|window| window == TURN)) {
-        println!("cargo:rustc-cfg=ember");
-        println!("cargo:rustc-link-lib=static={LIBRARY}");
     }
 }

@@ -1,5 +1,5 @@
-//! The three streams.
-use crate::proved::write_frame;
+//! Streams of frames.
+use crate::proved::{write_frame, write_message, write_request};
 
 pub const PAYLOAD: usize = 1013;
 
@@ -46,6 +46,26 @@ pub fn full(bytes: usize) -> Vec<u8> {
 pub fn escapes(bytes: usize) -> Vec<u8> {
     let mut random = Random(2);
     packets(bytes, || 0xF8 | random.next() as u8)
+}
+
+/// Frames that ask whether the other side is there.
+pub fn keep_alives(bytes: usize) -> Vec<u8> {
+    let mut frame = [0; 16];
+    let length = write_request(&mut frame).expect("a request fits");
+    frame[..length].repeat(bytes / length)
+}
+
+/// Messages of 24 bytes, a packet each.
+pub fn small(bytes: usize) -> Vec<u8> {
+    let mut random = Random(5);
+    let mut stream = Vec::new();
+    while stream.len() < bytes {
+        let message: [u8; 24] = std::array::from_fn(|_| random.next() as u8);
+        let mut frame = [0; 128];
+        let length = write_message(&message, &mut frame).expect("a message of 24 bytes fits");
+        stream.extend(&frame[..length]);
+    }
+    stream
 }
 
 /// Random bytes.

@@ -1,17 +1,22 @@
 //! The proved session (the static library) beside two in safe Rust, a plain one and one with the proved one's strides, on
 //! three streams: megabytes a second of each, and the ratios. `bench [MEGABYTES [CHUNK]]`, 16 and 65,536 if not given;
-//! `bench tree [ROUNDS]`, `bench growth [ROUNDS]` and `bench stack` measure the tree readers, `bench write [ROUNDS]` the tree
-//! writers, `bench turns [REQUESTS]` whole turns.
+//! `bench tree [ROUNDS]` and `bench growth [ROUNDS]` measure the tree readers, `bench write [ROUNDS]` the tree writers,
+//! `bench turns [REQUESTS]` whole turns, `bench stack` the stack of calls. `bench all` prints the ratios of all in one table and
+//! fails where one is under its floor.
+mod all;
+mod floors;
 mod glow;
 mod inputs;
 mod plain;
 mod proved;
+mod stack;
 mod strided;
 #[cfg(test)]
 mod tests;
 mod turns;
 
 use std::hint::black_box;
+use std::process::ExitCode;
 use std::time::Instant;
 
 pub const STORE: usize = 17408;
@@ -68,30 +73,31 @@ fn pass<R: Reader>(reader: &mut R, stream: &[u8], chunk: usize) -> f64 {
     began.elapsed().as_secs_f64()
 }
 
-fn main() {
+fn main() -> ExitCode {
     let mut words = std::env::args().skip(1).peekable();
-    if words.next_if(|word| word == "tree").is_some() {
-        let rounds = words.next().map_or(1_000, |word| word.parse().expect("a number"));
-        return glow::main(rounds);
+    if words.next_if(|word| word == "all").is_some() {
+        return all::main(words);
     }
-    if words.next_if(|word| word == "growth").is_some() {
-        let rounds = words.next().map_or(100, |word| word.parse().expect("a number"));
-        return glow::growth::main(rounds);
+    let part = words.next_if(|word| word.parse::<usize>().is_err());
+    let numbers: Vec<usize> = words.map(|word| word.parse().expect("a number")).collect();
+    let number = |place: usize, other: usize| numbers.get(place).copied().unwrap_or(other);
+    match part.as_deref() {
+        None => session(number(0, 16), number(1, 65_536)),
+        Some("tree") => glow::main(number(0, 50)),
+        Some("growth") => glow::growth::main(number(0, 5)),
+        Some("write") => glow::write::main(number(0, 5)),
+        Some("turns") => turns::main(number(0, 4_096)),
+        Some("stack") => stack::main(),
+        Some(other) => {
+            eprintln!("bench: no part {other}");
+            return ExitCode::from(2);
+        }
     }
-    if words.next_if(|word| word == "write").is_some() {
-        let rounds = words.next().map_or(100, |word| word.parse().expect("a number"));
-        return glow::write::main(rounds);
-    }
-    if words.next_if(|word| word == "turns").is_some() {
-        let requests = words.next().map_or(16_384, |word| word.parse().expect("a number"));
-        return turns::main(requests);
-    }
-    if words.next_if(|word| word == "stack").is_some() {
-        return glow::stack::main(words.map(|word| word.parse().expect("a number")).collect());
-    }
-    let mut words = words.map(|word| word.parse().expect("a number"));
-    let megabytes: usize = words.next().unwrap_or(16);
-    let chunk: usize = words.next().unwrap_or(65536);
+    ExitCode::SUCCESS
+}
+
+/// The three sessions on streams of so many megabytes.
+fn session(megabytes: usize, chunk: usize) {
     let passes = 15;
     println!("{megabytes} megabytes a stream, chunks of {chunk} bytes, the best of {passes} passes, taken in turn");
     println!("{:<14} {:>12} {:>12} {:>8} {:>12} {:>8}", "stream", "proved MB/s", "plain MB/s", "ratio", "strided MB/s", "ratio");

@@ -89,7 +89,7 @@ fn announcement() -> Vec<u8> {
 }
 
 /// A matrix and 255 connections, which fill the table: target, two or three sources, operation.
-fn connections() -> Vec<u8> {
+pub fn connections() -> Vec<u8> {
     let list: Vec<u8> = (0..ENTRIES as i32 - 1)
         .flat_map(|target| {
             let low = (target % 100) as u8;
@@ -103,7 +103,7 @@ fn connections() -> Vec<u8> {
 }
 
 /// Chains of 15 nodes, the deepest that nodes may be, in the indefinite form; each node has a name.
-fn deep() -> Vec<u8> {
+pub fn deep() -> Vec<u8> {
     let mut items = Vec::new();
     for chain in 0..ENTRIES / 15 {
         let mut inner = Vec::new();

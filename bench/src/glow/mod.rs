@@ -1,13 +1,16 @@
 //! The Glow tree reader and writer: the proved ones, if their library is there, beside such in plain safe Rust.
 //! `bench tree [ROUNDS]`: nanoseconds a message and megabytes a second, on each of the inputs. `bench growth [ROUNDS]`:
-//! nanoseconds a byte as messages grow. `bench stack`: the stack that a call needs. `bench write [ROUNDS]`: the writers.
+//! nanoseconds a byte as messages grow. `bench write [ROUNDS]`: the writers.
+#[cfg(any(test, glow))]
+mod families;
 pub mod growth;
 pub mod inputs;
+#[cfg(glow)]
+pub mod measured;
 pub mod plain;
 pub mod plain_writer;
 #[cfg(glow)]
 mod proved;
-pub mod stack;
 #[cfg(test)]
 mod tests;
 pub mod write;

@@ -1,4 +1,5 @@
 //! Every reader against the decoder: the same answers, and rows that say the same tree.
+use super::growth::{FAMILIES, UNLISTED};
 use super::{inputs, plain, readers, Answer, Row, ENTRIES, MESSAGE};
 use reference::gen::tree::{requests::Requests, rules};
 use reference::tree::{self, Body, Entry, Key, MatrixContents, NodeContents, ParameterContents, RootKind, Tree};
@@ -180,10 +181,27 @@ fn the_inputs() {
     assert_eq!(refused, Answer::Refused { number: 34, place: last - 3 });
 }
 
+/// Those of `bench all`.
+#[test]
+fn all_messages() {
+    for (name, message) in super::families::messages() {
+        assert!(message.len() <= MESSAGE, "{name}: {}", message.len());
+        compare(&message, ENTRIES);
+        let answer = plain::read(&message, &mut vec![[0; 50]; ENTRIES]);
+        match name {
+            "too many entries" => assert!(matches!(answer, Answer::Room { .. })),
+            "refused value" => assert!(matches!(answer, Answer::Refused { number: 34, .. })),
+            "refused text" => assert!(matches!(answer, Answer::Refused { number: 36, .. })),
+            "refused nest" => assert!(matches!(answer, Answer::Refused { number: 30, .. })),
+            _ => assert!(matches!(answer, Answer::Read { .. }), "{name}: {answer:?}"),
+        }
+    }
+}
+
 /// Each family fills its size, and every reader answers alike at each.
 #[test]
 fn families_grow() {
-    for (name, make) in super::growth::FAMILIES {
+    for (name, make) in FAMILIES.into_iter().chain(UNLISTED) {
         for bytes in [MESSAGE / 8, MESSAGE / 4, MESSAGE / 2, MESSAGE] {
             let message = make(bytes);
             assert!(message.len() <= bytes && message.len() > bytes / 2, "{name}: {} of {bytes} bytes", message.len());

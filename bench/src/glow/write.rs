@@ -6,13 +6,23 @@ use std::hint::black_box;
 use std::time::Instant;
 
 pub type Write = fn(&[Row], usize, u64, &[u8], &mut [u8]) -> Result<usize, u64>;
+pub type Accepts = fn(&[Row], usize, u64, &[u8]) -> bool;
 
 /// The writers, with their names. The first is what the others are compared with.
 pub fn writers() -> Vec<(&'static str, Write)> {
     vec![
         ("plain", plain_writer::write),
-        #[cfg(glow_write)]
+        #[cfg(glow)]
         ("proved", super::proved::write),
+    ]
+}
+
+/// The tests of entries: whether some message is read as these.
+pub fn tests() -> Vec<(&'static str, Accepts)> {
+    vec![
+        ("plain", plain_writer::accepts),
+        #[cfg(glow)]
+        ("proved", super::proved::accepts),
     ]
 }
 
@@ -35,6 +45,10 @@ impl Input {
     pub fn write(&self, write: Write, out: &mut [u8]) -> Result<usize, u64> {
         write(black_box(&self.rows), self.count, self.root, black_box(&self.message), out)
     }
+
+    pub fn accepted(&self, accepts: Accepts) -> bool {
+        accepts(black_box(&self.rows), self.count, self.root, black_box(&self.message))
+    }
 }
 
 // ---- Inputs ----
@@ -45,12 +59,12 @@ fn small(index: usize) -> Vec<u8> {
     member(0, &tag(0x61, &[member(0, &integer(1 + index as i32)), member(1, &contents)].concat()))
 }
 
-fn smalls(count: usize) -> Vec<u8> {
+pub fn smalls(count: usize) -> Vec<u8> {
     root(&(0..count).flat_map(small).collect::<Vec<u8>>())
 }
 
 /// The announcement, with its last entry's last member out of its range.
-fn refused(announcement: Vec<u8>) -> Input {
+pub fn refused(announcement: Vec<u8>) -> Input {
     let mut input = Input::read(announcement);
     let row = &mut input.rows[input.count - 1];
     let cell = (0..16).rev().find(|cell| row[2 + 3 * cell] == 2).expect("an integer");
@@ -82,8 +96,8 @@ pub const FAMILIES: [Family; 8] = [
     ("one text", |part| growth::one_text(MESSAGE / part)),
     ("sources", |part| growth::sources(MESSAGE / part)),
     ("chains", |part| chains(16 / part)),
-    ("deep parameters", |part| deep_items(MESSAGE / part, 2, 0x64, parameter)),
-    ("deep connections", |part| deep_items(MESSAGE / part, 5, 0x30, growth::connection)),
+    ("deep parameters", |part| deep_parameters(MESSAGE / part)),
+    ("deep connections", |part| deep_connections(MESSAGE / part)),
 ];
 
 /// A node or matrix around what it holds.
@@ -96,7 +110,7 @@ fn around(kind: u8, member_number: u8, collection: u8, items: &[u8]) -> Vec<u8> 
 }
 
 /// Chains of 15 nodes, each with a name of 40 letters.
-fn chains(count: usize) -> Vec<u8> {
+pub fn chains(count: usize) -> Vec<u8> {
     let chain = (0..15).fold(Vec::new(), |inner, _| around(0x63, 2, 0x64, &inner));
     root(&chain.repeat(count))
 }
@@ -113,9 +127,17 @@ fn deep_items(bytes: usize, number: u8, collection: u8, item: fn(usize) -> Vec<u
     root(&(1..14).fold(matrix, |inner, _| around(0x63, 2, 0x64, &inner)))
 }
 
+pub fn deep_parameters(bytes: usize) -> Vec<u8> {
+    deep_items(bytes, 2, 0x64, parameter)
+}
+
+pub fn deep_connections(bytes: usize) -> Vec<u8> {
+    deep_items(bytes, 5, 0x30, growth::connection)
+}
+
 // ---- Measuring ----
 
-/// Every writer gives the same answer and leaves the same output.
+/// Every writer gives the same answer and leaves the same output, and every test of entries says the same.
 pub fn agree(name: &str, input: &Input) -> Result<usize, u64> {
     let mut expected = vec![0xAA; MESSAGE];
     let answer = input.write(plain_writer::write, &mut expected);
@@ -123,6 +145,10 @@ pub fn agree(name: &str, input: &Input) -> Result<usize, u64> {
         let mut out = vec![0xAA; MESSAGE];
         assert_eq!(input.write(write, &mut out), answer, "{name}: {writer} answers otherwise");
         assert!(out == expected, "{name}: {writer} writes otherwise");
+    }
+    let accepted = input.accepted(plain_writer::accepts);
+    for (tester, accepts) in tests() {
+        assert_eq!(input.accepted(accepts), accepted, "{name}: {tester} accepts otherwise");
     }
     answer
 }

@@ -1,16 +1,16 @@
 //! Every writer against the decoder: the same numbers and bytes, an output as it was after a refusal, and bytes past the
 //! written ones as they were.
-use super::write::{agree, all, writers, Input, Write, FAMILIES};
-use super::{plain, plain_writer, Answer, Row, ENTRIES, MESSAGE};
+use super::write::{agree, all, tests, writers, Accepts, Input, Write, FAMILIES};
+use super::{plain, Answer, Row, ENTRIES, MESSAGE};
 use reference::compare_rows::{self, Library};
 use reference::rows;
 
-/// A writer in the place of the library that the decoder compares itself with. What is accepted is asked of plain.
-struct Compared(Write);
+/// A writer and a test of entries in the place of the library that the decoder compares itself with.
+struct Compared(Write, Accepts);
 
 impl Library for Compared {
     fn accepts(&self, rows: &[Row], count: usize, root: u64, message: &[u8]) -> u64 {
-        u64::from(plain_writer::accepts(rows, count, root, message))
+        u64::from((self.1)(rows, count, root, message))
     }
 
     fn write(&self, rows: &[Row], count: usize, root: u64, message: &[u8], out: &mut [u8], answer: &mut [u64]) -> u64 {
@@ -37,8 +37,8 @@ impl Library for Compared {
 /// Rows as read, made at the edges of depth, count and length, and damaged; each with outputs too short, exact and longer.
 #[test]
 fn drawn_rows() {
-    for (name, write) in writers() {
-        let (report, code) = compare_rows::run(20_000, 20_261_116, &Compared(write));
+    for ((name, write), (_, accepts)) in writers().into_iter().zip(tests()) {
+        let (report, code) = compare_rows::run(20_000, 20_261_116, &Compared(write, accepts));
         assert_eq!(code, 0, "{name}: {report}");
         println!("{name}: {report}");
     }
@@ -71,6 +71,14 @@ fn the_inputs() {
     assert_eq!(small, Ok(fourth.message.len()));
     assert_eq!(refused, Err(46));
     assert_eq!([second.count, third.count, fourth.count, last.count], [ENTRIES, 255, ENTRIES, first.count]);
+}
+
+/// Those of `bench all`.
+#[test]
+fn all_entries() {
+    for (name, input) in super::families::entries() {
+        assert_eq!(compare(name, &input).is_ok(), name != "refused value", "{name}");
+    }
 }
 
 /// Each family fills its size, and is written as it was.

@@ -4,10 +4,23 @@ use crate::glow::inputs::{integer, member, members, root, tag};
 use crate::inputs::{Random, PAYLOAD};
 use crate::plain::checksum;
 
+fn desk(kind: u64, side: u64, total: Option<u64>, per_target: Option<u64>) -> Figures {
+    Figures { kind, targets: side, sources: side, total, per_target, path: vec![1, 5] }
+}
+
 /// Desks of 64 by 64; N:N with limits that are met.
 pub fn desks() -> [(&'static str, Figures); 3] {
-    let figures = |kind, total, per_target| Figures { kind, targets: 64, sources: 64, total, per_target, path: vec![1, 5] };
-    [("1:N", figures(0, None, None)), ("1:1", figures(1, None, None)), ("N:N", figures(2, Some(200), Some(8)))]
+    [("1:N", desk(0, 64, None, None)), ("1:1", desk(1, 64, None, None)), ("N:N", desk(2, 64, Some(200), Some(8)))]
+}
+
+/// N:N without limits: requests of up to 40 sources, so that the desk holds many connections.
+pub fn dense() -> Figures {
+    desk(2, 64, None, None)
+}
+
+/// A desk of 8 by 8.
+pub fn small() -> Figures {
+    desk(0, 8, None, None)
 }
 
 /// One connection, as an item: mostly right, with sources as the type has them.
@@ -15,6 +28,7 @@ fn connection(random: &mut Random, figures: &Figures) -> Vec<u8> {
     let mut below = |count: u64| random.next() % count;
     let target = if below(40) == 0 { figures.targets } else { below(figures.targets) };
     let count = match figures.kind {
+        2 if figures.total.is_none() => below(41),
         2 => below(7),
         _ => u64::from(below(12) != 0) + u64::from(below(24) == 0),
     };
@@ -30,14 +44,14 @@ fn connection(random: &mut Random, figures: &Figures) -> Vec<u8> {
 }
 
 /// A message of so many requests to the desk's matrix.
-fn message(random: &mut Random, figures: &Figures, count: usize) -> Vec<u8> {
+pub fn message(random: &mut Random, figures: &Figures, count: usize) -> Vec<u8> {
     let list: Vec<u8> = (0..count).flat_map(|_| connection(random, figures)).collect();
     let path: Vec<u8> = figures.path.iter().map(|&number| number as u8).collect();
     root(&member(0, &tag(0x71, &[member(0, &tag(0x0D, &path)), member(5, &tag(0x30, &list))].concat())))
 }
 
 /// The frames of a message.
-fn frames(message: &[u8]) -> Vec<u8> {
+pub fn frames(message: &[u8]) -> Vec<u8> {
     let mut out = Vec::new();
     let count = message.chunks(PAYLOAD).count();
     for (index, payload) in message.chunks(PAYLOAD).enumerate() {

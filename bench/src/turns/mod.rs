@@ -1,7 +1,10 @@
 //! Whole turns over streams of connection requests: a session call; if it finishes a message, the tree reader's call; if that
 //! gives 0, the desk's call on those entries. The proved ones, if their library is there, beside such in plain safe Rust.
 //! `bench turns [REQUESTS]`: nanoseconds a request on desks of each type, and as streams grow.
+#[cfg_attr(not(ember), allow(dead_code))]
 mod inputs;
+#[cfg(ember)]
+pub mod measured;
 mod plain;
 mod plain_desk;
 #[cfg(ember)]
@@ -12,9 +15,8 @@ mod tests;
 use std::hint::black_box;
 use std::time::Instant;
 
-/// The most targets and sources; a cell for each of both, 0 or 1.
+/// The most targets and sources.
 pub const SIDE: usize = 64;
-pub const CELLS: usize = SIDE * SIDE;
 
 /// A desk's figures: type (0: 1:N, 1: 1:1, 2: N:N), counts, limits and path.
 #[derive(Clone, Debug)]
@@ -25,6 +27,21 @@ pub struct Figures {
     pub total: Option<u64>,
     pub per_target: Option<u64>,
     pub path: Vec<u64>,
+}
+
+impl Figures {
+    /// How many targets and sources the lent crosspoints have cells for: 0 or 1 for each, target by target.
+    pub fn lent(&self) -> (usize, usize) {
+        (self.targets as usize, self.sources as usize)
+    }
+
+    pub fn cells(&self) -> usize {
+        self.lent().0 * self.lent().1
+    }
+
+    pub fn cell(&self, target: usize, source: usize) -> usize {
+        self.lent().1 * target + source
+    }
 }
 
 /// What a turn answers.
@@ -87,7 +104,8 @@ fn outcome(open: Open, figures: &Figures, stream: &[u8], chunk: usize) -> Outcom
         turns.push(turn);
         answers.extend(said);
     });
-    let cells = (0..CELLS).map(|cell| host.holds(cell / SIDE, cell % SIDE)).collect();
+    let (targets, sources) = (figures.targets as usize, figures.sources as usize);
+    let cells = (0..targets * sources).map(|cell| host.holds(cell / sources, cell % sources)).collect();
     Outcome { turns, answers, cells }
 }
 

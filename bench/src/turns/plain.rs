@@ -1,6 +1,6 @@
 //! Two hosts in safe Rust, with the plain session and the plain tree reader.
 use super::plain_desk::{after, call, request};
-use super::{Figures, Host, Turn, CELLS, SIDE};
+use super::{Figures, Host, Turn, SIDE};
 use crate::glow::{plain::read, Answer, Row, ENTRIES};
 use crate::plain::Session;
 use crate::Reader;
@@ -23,7 +23,7 @@ fn before_the_desk(session: &mut Session, table: &mut [Row], chunk: &[u8]) -> (T
     (turn, entries)
 }
 
-/// By the same contract as the proved one: a desk of 4,096 cells, and what is lent to the desk's call is judged each time.
+/// By the same contract as the proved one: lent crosspoints, and what is lent to the desk's call is judged each time.
 pub struct Plain {
     session: Session,
     table: Vec<Row>,
@@ -38,7 +38,7 @@ impl Plain {
             session: Session::start(),
             table: vec![[0; 50]; ENTRIES],
             figures: figures.clone(),
-            cells: vec![0; CELLS],
+            cells: vec![0; figures.cells()],
             answers: vec![0; ENTRIES],
         }
     }
@@ -60,7 +60,7 @@ impl Host for Plain {
     }
 
     fn holds(&self, target: usize, source: usize) -> bool {
-        self.cells[SIDE * target + source] == 1
+        self.cells[self.figures.cell(target, source)] == 1
     }
 }
 

@@ -1,5 +1,5 @@
 //! The desk's call on entries in plain safe Rust, by document 01's rules.
-use super::{Figures, CELLS, SIDE};
+use super::{Figures, SIDE};
 use crate::glow::{plain_writer, Row};
 
 const TOP: u64 = 2_147_483_647;
@@ -20,12 +20,12 @@ pub fn legal(figures: &Figures, cells: &[u8]) -> Option<u64> {
     let side = |count: u64| (1..=SIDE as u64).contains(&count);
     let path = (1..=16).contains(&figures.path.len()) && figures.path.iter().all(|number| (1..=TOP).contains(number));
     let opened = figures.kind <= N_TO_N && side(figures.targets) && side(figures.sources) && path;
-    if !opened || !limit(figures.total) || !limit(figures.per_target) || cells.len() != CELLS {
+    if !opened || !limit(figures.total) || !limit(figures.per_target) || cells.len() != figures.cells() {
         return None;
     }
     let mut total = 0;
     let mut used = 0u64;
-    for (target, row) in cells.chunks_exact(SIDE).enumerate() {
+    for (target, row) in cells.chunks_exact(figures.lent().1).enumerate() {
         let mut list = 0u64;
         for (source, &cell) in row.iter().enumerate() {
             if cell > 1 {
@@ -170,20 +170,20 @@ pub fn call(
         answers[said] = match request(figures, rows, row, message, &mut matrix) {
             Err(number) => number,
             Ok(request) => {
-                let old = bits(&cells[SIDE * request.target..SIDE * (request.target + 1)]);
+                let row = figures.cell(request.target, 0)..figures.cell(request.target + 1, 0);
+                let old = bits(&cells[row.clone()]);
                 match after(figures, &request, old, total) {
                     Err(number) => number,
                     Ok((new, takes)) => {
                         if takes {
                             let source = new.trailing_zeros() as usize;
-                            for target in 0..SIDE {
-                                let cell = &mut cells[SIDE * target + source];
+                            for target in 0..figures.lent().0 {
+                                let cell = &mut cells[figures.cell(target, source)];
                                 total -= u64::from(*cell);
                                 *cell = 0;
                             }
                         }
-                        let row = &mut cells[SIDE * request.target..SIDE * (request.target + 1)];
-                        for (source, cell) in row.iter_mut().enumerate() {
+                        for (source, cell) in cells[row].iter_mut().enumerate() {
                             let kept = (new >> source & 1) as u8;
                             total = total + u64::from(kept) - u64::from(*cell);
                             *cell = kept;

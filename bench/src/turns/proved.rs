@@ -6,7 +6,7 @@ use crate::STORE;
 extern "C" {
     /// One turn. Lent: the session's four words (as `framing_feed` has them), the store, the chunk, the table, the desk (seven
     /// words: type, targets, sources, whether there is a total limit and which, whether there is one per target and which), its
-    /// path's numbers, its cells, one for each target and source, 256 bytes for the answers of the desk's call, and nine words that say what the calls
+    /// path's numbers, its crosspoints, 256 bytes for the answers of the desk's call, and nine words that say what the calls
     /// answered. Returned is the session's number; of the nine words the benchmark uses the second, the bytes consumed, the fourth,
     /// the tree reader's number (0 if it was not called), the eighth, the desk call's number, and the ninth, the count of its answers.
     fn ember_turn(
@@ -28,14 +28,77 @@ extern "C" {
         said: *mut u64,
         said_words: usize,
     ) -> u64;
+    /// The desk's call alone, on entries handed in with the message that their parts lie in; one word says how many answers
+    /// there are.
+    fn ember_desk_call(
+        desk: *const u64,
+        desk_words: usize,
+        path: *const u64,
+        path_numbers: usize,
+        table: *const Row,
+        rows: usize,
+        count: usize,
+        root: u64,
+        message: *const u8,
+        message_bytes: usize,
+        cells: *mut u8,
+        cell_count: usize,
+        answers: *mut [u8; 256],
+        said: *mut u64,
+        said_words: usize,
+    ) -> u64;
+}
+
+/// The desk's seven words.
+pub fn words(figures: &Figures) -> [u64; 7] {
+    let limit = |limit: Option<u64>| [u64::from(limit.is_some()), limit.unwrap_or(0)];
+    let ([has_total, total], [has_per_target, per_target]) = (limit(figures.total), limit(figures.per_target));
+    [figures.kind, figures.targets, figures.sources, has_total, total, has_per_target, per_target]
+}
+
+/// As `plain_desk::call`, with the desk's words beside its figures and answers of a byte.
+pub fn call(
+    figures: &Figures,
+    desk: &[u64; 7],
+    cells: &mut [u8],
+    rows: &[Row],
+    count: usize,
+    root: u64,
+    message: &[u8],
+    answers: &mut [u8; 256],
+) -> Result<usize, u64> {
+    let mut said = [0];
+    let number = unsafe {
+        ember_desk_call(
+            desk.as_ptr(),
+            desk.len(),
+            figures.path.as_ptr(),
+            figures.path.len(),
+            rows.as_ptr(),
+            rows.len(),
+            count,
+            root,
+            message.as_ptr(),
+            message.len(),
+            cells.as_mut_ptr(),
+            cells.len(),
+            answers,
+            said.as_mut_ptr(),
+            said.len(),
+        )
+    };
+    match number {
+        0 => Ok(said[0] as usize),
+        _ => Err(number),
+    }
 }
 
 pub struct Proved {
     session: [u64; 4],
     store: Vec<u8>,
     table: Vec<Row>,
+    figures: Figures,
     desk: [u64; 7],
-    path: Vec<u64>,
     cells: Vec<u8>,
     bytes: [u8; 256],
     answers: Vec<u64>,
@@ -43,17 +106,15 @@ pub struct Proved {
 
 impl Proved {
     pub fn open(figures: &Figures) -> Proved {
-        let limit = |limit: Option<u64>| [u64::from(limit.is_some()), limit.unwrap_or(0)];
-        let ([has_total, total], [has_per_target, per_target]) = (limit(figures.total), limit(figures.per_target));
         let mut session = [0; 4];
         assert_eq!(crate::proved::start(&mut session), 0);
         Proved {
             session,
             store: vec![0; STORE],
             table: vec![[0; 50]; ENTRIES],
-            desk: [figures.kind, figures.targets, figures.sources, has_total, total, has_per_target, per_target],
-            path: figures.path.clone(),
-            cells: vec![0; (figures.targets * figures.sources) as usize],
+            figures: figures.clone(),
+            desk: words(figures),
+            cells: vec![0; figures.cells()],
             bytes: [0; 256],
             answers: vec![0; ENTRIES],
         }
@@ -76,8 +137,8 @@ impl Host for Proved {
                 self.table.len(),
                 self.desk.as_ptr(),
                 self.desk.len(),
-                self.path.as_ptr(),
-                self.path.len(),
+                self.figures.path.as_ptr(),
+                self.figures.path.len(),
                 self.cells.as_mut_ptr(),
                 self.cells.len(),
                 &mut self.bytes,
@@ -100,7 +161,6 @@ impl Host for Proved {
     }
 
     fn holds(&self, target: usize, source: usize) -> bool {
-        let (targets, sources) = (self.desk[1] as usize, self.desk[2] as usize);
-        target < targets && source < sources && self.cells[sources * target + source] == 1
+        self.cells[self.figures.cell(target, source)] == 1
     }
 }

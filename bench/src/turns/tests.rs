@@ -1,6 +1,6 @@
 //! Every host against the decoder: the same events, numbers and crosspoints.
 use super::plain_desk::{call, legal};
-use super::{hosts, inputs, outcome, Figures, Host, CELLS, SIDE};
+use super::{hosts, inputs, outcome, Figures, Host};
 use crate::glow::{plain::read, Answer, Row, ENTRIES};
 use reference::desk::{Desk, Figures as Opening};
 use reference::desk_text::{Program, Said};
@@ -21,10 +21,11 @@ fn figures_of(desk: &Desk) -> Figures {
 }
 
 fn same_crosspoints(host: &dyn Host, desk: &Desk) -> bool {
-    (0..SIDE).all(|target| {
-        (0..SIDE)
-            .all(|source| host.holds(target, source) == desk.rows.get(target).is_some_and(|row| row.contains(&(source as u64))))
-    })
+    let sources = 0..desk.sources as usize;
+    desk.rows
+        .iter()
+        .enumerate()
+        .all(|(target, row)| sources.clone().all(|source| host.holds(target, source) == row.contains(&(source as u64))))
 }
 
 /// What a host says of a chunk, as the decoder's program says it.
@@ -113,12 +114,23 @@ fn the_streams() {
     }
 }
 
-fn cells_of(desk: &Desk) -> Vec<u8> {
-    let mut cells = vec![0; CELLS];
+/// The desk's crosspoints, if what is lent for its figures has a cell for each.
+fn lent(desk: &Desk) -> Option<Vec<u8>> {
+    let figures = figures_of(desk);
+    let mut cells = vec![0; figures.cells()];
     for (target, row) in desk.rows.iter().enumerate() {
-        row.iter().for_each(|&source| cells[SIDE * target + source as usize] = 1);
+        for source in row.iter().map(|&source| source as usize) {
+            if target >= figures.lent().0 || source >= figures.lent().1 {
+                return None;
+            }
+            cells[figures.cell(target, source)] = 1;
+        }
     }
-    cells
+    Some(cells)
+}
+
+fn cells_of(desk: &Desk) -> Vec<u8> {
+    lent(desk).expect("a legal desk")
 }
 
 /// Desks after requests, and the same with a cell or a figure changed.
@@ -148,18 +160,20 @@ fn legality() {
                 }
             }
         }
+        let Some(cells) = lent(&desk) else { continue };
         let right = desk.legal();
         counts[usize::from(right)] += 1;
-        let said = legal(&figures_of(&desk), &cells_of(&desk));
+        let said = legal(&figures_of(&desk), &cells);
         assert_eq!(said.is_some(), right, "{desk:?}");
         if right {
             let mut cells = cells_of(&desk);
-            cells[random.below(CELLS)] = 2;
+            let at = random.below(cells.len());
+            cells[at] = 2;
             assert_eq!(legal(&figures_of(&desk), &cells), None);
             assert_eq!(legal(&figures_of(&desk), &cells[1..]), None);
-            for target in desk.targets as usize..SIDE {
+            for target in desk.targets as usize..figures_of(&desk).lent().0 {
                 let mut cells = cells_of(&desk);
-                cells[SIDE * target] = 1;
+                cells[figures_of(&desk).cell(target, 0)] = 1;
                 assert_eq!(legal(&figures_of(&desk), &cells), None);
             }
         }
