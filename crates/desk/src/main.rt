@@ -19,6 +19,7 @@ mod words;
 
 use desk_crosspoints::Figures;
 use desk_crosspoints::Limit;
+use desk_crosspoints::SIDE;
 use framing::Session;
 use program_lines::input;
 use program_lines::input::Input;
@@ -28,6 +29,9 @@ use program_lines::text::Hex;
 use words::Word;
 ghost use mathlib.Core.Path.{_≡_};
 ghost use lib.ListN.{length};
+
+// As many cells as the largest desk has.
+const MOST: usize = SIDE * SIDE;
 
 // The desk that is there, if one is: its figures, how many numbers its path has, and its stream's session.
 pub struct Desk {
@@ -76,9 +80,13 @@ fn copy(to: &mut [u64], from: &[u64]) {
     }
 }
 
-// Opens a desk with a fresh session, its path kept.
+// Opens a desk with a fresh session, its path kept, on the first cells, as many as it has.
 fn open_with(f: Figures, mode: u64, given: &[u64], path: &mut [u64], cells: &mut [u8]) -> Desk {
-    let n = desk_calls::open(f, mode, given, cells);
+    let size = desk_crosspoints::size(f);
+    if cells.len() < size {
+        return no_desk();
+    }
+    let n = desk_crosspoints::open(f, mode, given, &mut cells[..size]);
     number_line(n);
     if n != 0 {
         return no_desk();
@@ -300,7 +308,11 @@ fn answer(desk: Desk, line: &[u8], store: &mut [u8], path: &mut [u64], cells: &m
     if !desk.there {
         return refuse(desk);
     }
-    serve(desk, line, store, path, cells)
+    let size = desk_crosspoints::size(desk.figures);
+    if cells.len() < size {
+        return desk;
+    }
+    serve(desk, line, store, path, &mut cells[..size])
 }
 
 // Answers the line that was found.
@@ -336,7 +348,7 @@ fn main() {
     let store: &mut [u8] = &mut bytes;
     let mut steps = [0u64; 16];
     let path: &mut [u64] = &mut steps;
-    let mut points = [0u8; 4096];
+    let mut points = [0u8; MOST];
     let cells: &mut [u8] = &mut points;
     let mut buffer = io::large_buffer();
     let block: &mut [u8] = &mut buffer;

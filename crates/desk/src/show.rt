@@ -1,28 +1,40 @@
 // The crosspoints: a line of sources, and a picture.
 use desk_crosspoints::Figures;
+use desk_crosspoints::SIDE;
 use program_lines::print;
+
+// A line of the picture: three bytes, and a byte for each source.
+const LINE: usize = SIDE + 3;
 
 fn word(x: usize) -> u64 {
     x as u64
 }
 
-// A desk has at most 64 targets and 64 sources.
-fn side(n: u64) -> usize {
-    if n < 64 {
-        return n as usize;
-    }
-    64
+fn index(n: u64) -> usize {
+    n as usize
 }
 
-// Whether target t has source s.
-fn is_set(cells: &[u8], t: usize, s: usize) -> bool {
-    if 64 <= t {
+// A count of targets or sources: at most `SIDE`.
+fn side(n: u64) -> usize {
+    let k = index(n);
+    if k < SIDE {
+        return k;
+    }
+    SIDE
+}
+
+// Whether target t has source s, of so many sources.
+fn is_set(cells: &[u8], sources: usize, t: usize, s: usize) -> bool {
+    if SIDE <= t {
         return false;
     }
-    if 64 <= s {
+    if SIDE < sources {
         return false;
     }
-    let i = t * 64 + s;
+    if sources <= s {
+        return false;
+    }
+    let i = t * sources + s;
     if cells.len() <= i {
         return false;
     }
@@ -30,8 +42,8 @@ fn is_set(cells: &[u8], t: usize, s: usize) -> bool {
 }
 
 // A source that is set, after a dot where one stands before it. Whether one stands there then.
-fn source(cells: &[u8], t: usize, s: usize, begun: bool) -> bool {
-    if !is_set(cells, t, s) {
+fn source(cells: &[u8], sources: usize, t: usize, s: usize, begun: bool) -> bool {
+    if !is_set(cells, sources, t, s) {
         return begun;
     }
     if begun {
@@ -46,7 +58,7 @@ fn row(cells: &[u8], t: usize, sources: usize) {
     let mut begun = false;
     let mut s: usize = 0;
     while s < sources {
-        begun = source(cells, t, s, begun);
+        begun = source(cells, sources, t, s, begun);
         s = s + 1;
     }
     if !begun {
@@ -103,10 +115,10 @@ fn head(out: &mut [u8], a: u8, b: u8) {
 
 // Where source s stands in a line.
 fn place(s: usize) -> usize {
-    if s < 64 {
+    if s < SIDE {
         return 3 + s;
     }
-    66
+    LINE - 1
 }
 
 // The tens, or the ones, of a number.
@@ -135,14 +147,14 @@ fn mark(set: bool) -> u8 {
 fn marks(out: &mut [u8], cells: &[u8], t: usize, sources: usize) {
     let mut s: usize = 0;
     while s < sources {
-        put(out, place(s), mark(is_set(cells, t, s)));
+        put(out, place(s), mark(is_set(cells, sources, t, s)));
         s = s + 1;
     }
 }
 
 // A line of the picture: its first three bytes and a byte a source.
 fn flush(out: &[u8], sources: usize) {
-    if sources <= 64 {
+    if sources <= SIDE {
         let n = 3 + sources;
         if n <= out.len() {
             print::say(&out[..n]);
@@ -175,7 +187,7 @@ fn draw(out: &mut [u8], cells: &[u8], targets: usize, sources: usize) {
 
 // The crosspoints as a picture: targets down, sources across.
 pub(crate) fn grid(f: Figures, cells: &[u8]) {
-    let mut room = [0u8; 67];
+    let mut room = [0u8; LINE];
     let out: &mut [u8] = &mut room;
     draw(out, cells, side(f.targets), side(f.sources));
 }

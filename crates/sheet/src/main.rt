@@ -3,6 +3,7 @@
 use desk_crosspoints::Figures;
 use libc::STDIN_FILENO;
 use program_lines::print;
+use sheet_reader::MOST;
 use sheet_reader::Sheet;
 use sheet_writer::Answer;
 ghost use mathlib.Core.Path.{_≡_};
@@ -32,10 +33,14 @@ fn write(f: Figures, path: &[u64], cells: &[u8]) {
     }
 }
 
-// .. with the first n numbers of a list as its path.
+// .. with the first n numbers of a list as its path, and the first cells, as many as it has, as its crosspoints.
 fn write_with(f: Figures, path: &[u64], n: usize, cells: &[u8]) {
+    let size = desk_crosspoints::size(f);
+    if cells.len() < size {
+        return;
+    }
     if n <= path.len() {
-        write(f, &path[..n], cells);
+        write(f, &path[..n], &cells[..size]);
     }
 }
 
@@ -72,7 +77,7 @@ fn main() {
     let store: &mut [u8] = &mut bytes;
     let mut steps = [0u64; 16];
     let path: &mut [u64] = &mut steps;
-    let mut points = [0u8; 4096];
+    let mut points = [0u8; MOST];
     let cells: &mut [u8] = &mut points;
     let n = io::read_full(STDIN_FILENO, text);
     take(text, n, store, path, cells);
