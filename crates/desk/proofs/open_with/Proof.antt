@@ -11,7 +11,7 @@ use Rattle.desk.proofs.no_desk.Reads as no-desk-reads
 use Rattle.desk.proofs.number_line.Reads as number-line-reads
 use Rattle.desk_crosspoints.proofs.open.Reads as open-reads
 use Rattle.desk_crosspoints.proofs.size.Reads as size-reads
-use Rattle.framing.proofs.start.Reads as start-reads
+use Rattle.framing_session.proofs.start.Reads as start-reads
 
 size-requires : tie.Need-size-requires
 size-requires c κs = search needs
