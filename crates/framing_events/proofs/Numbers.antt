@@ -1,5 +1,5 @@
 -- A stream for each number of a session call, by computation: with `numbers` (Said.antt) these are the numbers that are given, and no other. (1: the
--- vectors `setup-..`, crates/framing/specs/Vectors.antt.)
+-- vectors `setup-..`, crates/framing_session/specs/Vectors.antt.)
 use Prim.Native.Nat.{ℕ, _+_, _≤_, _<_}
 use mathlib.Core.Bool.{Bool, true, false}
 use mathlib.Core.List.{List, [], _∷_, _++_, map}

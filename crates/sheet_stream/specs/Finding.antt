@@ -18,7 +18,7 @@ abbrev pub heldNumbers : List ℕ
 heldNumbers = 33 ∷ faultNumbers
 
 -- What stands in the store after the bytes, up to and including that of the first event from 10 up, or all of them: what a session leaves that is fed them
--- (`kept`, crates/framing/specs/Session.antt, says it of one byte; `stored-by-calls`, proofs/Stores.antt, of calls on any chunks).
+-- (`kept`, crates/framing_session/specs/Session.antt, says it of one byte; `stored-by-calls`, proofs/Stores.antt, of calls on any chunks).
 unfoldable pub storeFrom : State → List ℕ → List ℕ → List ℕ
 storeFrom s t [] = t
 storeFrom s t (b ∷ bs) =
