@@ -1,5 +1,5 @@
--- For the quick answers `shut` and `short`: what stands at a place, told at once where tag and length take one octet each, or where a container ends. They may give
--- up, with a number that is no answer; when they do is left free, and what else they answer is what the general definition gives.
+-- For the quick answers `shut` and `short`: what stands at a place, told at once where tag and length take one octet each, or where a container
+-- ends. They may give up, with a number that is no answer; when they do is left free, and what else they answer is what the general definition gives.
 use Prim.Native.Nat.{ℕ, _+_, _/_, _%_, _≤_, _<_}
 use mathlib.Core.Path.{_≡_}
 use mathlib.Core.List.{List}
@@ -24,9 +24,13 @@ shortTag b start n end =
       inner = pick (ltb n 128) (record { definite = 1; end = start + n }) (record { definite = 0; end = end });
     }
 
--- any answer but 2^64 - 1 is the place after the container's end
+-- what a quick answer says that tells no place
+abbrev pub notShut : ℕ
+notShut = 18446744073709551615
+
+-- any other answer is the place after the container's end
 abbrev pub Shuts : List ℕ → ℕ → Open → ℕ → Type 0
-Shuts s p o r = (r ≡ 18446744073709551615 → ⊥) → (standingAt s p o ≡ Ended r) × (p ≤ r)
+Shuts s p o r = (r ≡ notShut → ⊥) → (standingAt s p o ≡ Ended r) × (p ≤ r)
 
 -- any answer below 129 is the length of such a tag
 pub record Short (s : List ℕ) (p end n : ℕ) : Type 0 where
@@ -38,7 +42,7 @@ pub record Short (s : List ℕ) (p end n : ℕ) : Type 0 where
 abbrev pub Shortens : List ℕ → ℕ → ℕ → ℕ → Type 0
 Shortens s p end n = n < 129 → Short s p end n
 
--- any answer but 2^64 - 1 is the place after all that a container holds from a place on
+-- any answer but notShut is the place after all that a container holds from a place on
 abbrev pub Passes : List ℕ → ℕ → ℕ → ℕ → ℕ → ℕ → Type 0
 Passes s from definite end k r =
-    (r ≡ 18446744073709551615 → ⊥) → (Through s k (record { definite = definite; end = end }) from (Next r)) × (from ≤ r)
+    (r ≡ notShut → ⊥) → (Through s k (record { definite = definite; end = end }) from (Next r)) × (from ≤ r)

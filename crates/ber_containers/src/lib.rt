@@ -10,6 +10,9 @@ ghost use Rattle.ber_containers.specs.Passing.{skipped, crossAt, Through
 ghost use Rattle.ber_containers.specs.Short.{shortTag, Shuts, Shortens, Passes};
 ghost use Rattle.ber_containers.specs.Progress.{Fits, Onward, FoundOnward, OntoOnward, CrossOnward};
 
+// What a quick answer says where the place after the container's end is not told: no place in a message.
+pub const NOT_SHUT: usize = 18446744073709551615;
+
 // A refusal: its number and its place.
 pub struct No(pub u64, pub usize);
 
@@ -129,27 +132,27 @@ pub fn shut(s: &[u8], p: usize, o: Open) -> usize
         if o.definite == 1 {
             return p;
         }
-        return 18446744073709551615;
+        return NOT_SHUT;
     }
     if o.definite == 1 {
-        return 18446744073709551615;
+        return NOT_SHUT;
     }
     if s.len() <= p {
-        return 18446744073709551615;
+        return NOT_SHUT;
     }
     let q = p + 1;
     if s.len() <= q {
-        return 18446744073709551615;
+        return NOT_SHUT;
     }
     if q == o.end {
-        return 18446744073709551615;
+        return NOT_SHUT;
     }
     if s[p] == 0 {
         if s[q] == 0 {
             return p + 2;
         }
     }
-    18446744073709551615
+    NOT_SHUT
 }
 
 // The length of a tag at p whose tag and length take one octet each; 128 for one that 00 00 ends, 129 where that is for `standing` to say.
@@ -276,7 +279,7 @@ pub fn entering(s: &[u8], p: usize, o: Open, k: usize) -> Stands
     ensures { λ r. ⌜ Onward (now (s .entry)) p r ⌝ }
 {
     let z = shut(s, p, o);
-    if z != 18446744073709551615 {
+    if z != NOT_SHUT {
         return Stands::Ended(z);
     }
     let end = o.end;
@@ -340,7 +343,7 @@ pub fn last(s: &[u8], p: usize, c: Open, k: usize) -> Onto
     ensures { λ r. ⌜ OntoOnward p r ⌝ }
 {
     let z = shut(s, p, c);
-    if z != 18446744073709551615 {
+    if z != NOT_SHUT {
         return Onto::Next(z);
     }
     match standing(s, p, c) {
@@ -386,7 +389,7 @@ fn cross(s: &[u8], p: usize, o: Open, k: usize) -> Crossing
     ensures { λ r. ⌜ CrossOnward (now (s .entry)) p r ⌝ }
 {
     let z = shut(s, p, o);
-    if z != 18446744073709551615 {
+    if z != NOT_SHUT {
         return Crossing::Over(z);
     }
     let end = o.end;
@@ -463,7 +466,7 @@ fn over(s: &[u8], from: usize, definite: u64, end: usize, k: usize) -> usize
     loop {
         let o = Open { definite, end };
         let z = shut(s, p, o);
-        if z != 18446744073709551615 {
+        if z != NOT_SHUT {
             return z;
         }
         let n = short(s, p, end);
@@ -472,41 +475,41 @@ fn over(s: &[u8], from: usize, definite: u64, end: usize, k: usize) -> usize
             let within = quick.inner;
             if quick.constructed == 1 {
                 if k == 0 {
-                    return 18446744073709551615;
+                    return NOT_SHUT;
                 }
                 let q = over(s, quick.start, within.definite, within.end, k - 1);
-                if q == 18446744073709551615 {
-                    return 18446744073709551615;
+                if q == NOT_SHUT {
+                    return NOT_SHUT;
                 }
                 p = q;
             } else {
                 if s.len() < within.end {
-                    return 18446744073709551615;
+                    return NOT_SHUT;
                 }
                 p = within.end;
             }
         } else {
             match standing(s, p, o) {
                 Stands::Ended(next) => {
-                    return 18446744073709551615;
+                    return NOT_SHUT;
                 }
                 Stands::Refused(n) => {
-                    return 18446744073709551615;
+                    return NOT_SHUT;
                 }
                 Stands::Here(t) => {
                     let inner = t.inner;
                     if t.constructed == 1 {
                         if k == 0 {
-                            return 18446744073709551615;
+                            return NOT_SHUT;
                         }
                         let r = over(s, t.start, inner.definite, inner.end, k - 1);
-                        if r == 18446744073709551615 {
-                            return 18446744073709551615;
+                        if r == NOT_SHUT {
+                            return NOT_SHUT;
                         }
                         p = r;
                     } else {
                         if s.len() < inner.end {
-                            return 18446744073709551615;
+                            return NOT_SHUT;
                         }
                         p = inner.end;
                     }
@@ -524,7 +527,7 @@ pub fn passed(s: &[u8], t: Tag, k: usize) -> Onto
     if t.constructed == 1 {
         let inner = t.inner;
         let z = over(s, t.start, inner.definite, inner.end, k);
-        if z != 18446744073709551615 {
+        if z != NOT_SHUT {
             return Onto::Next(z);
         }
         return through(s, t.start, inner, k);

@@ -1,6 +1,6 @@
 -- The grammar (document 01, "Glow"), as tables: for each kind its tag, its members by context number, what stands there and what is required; for each
 -- collection the kinds that it may hold. A request that adds or moves a member, a kind or a tag changes rows here.
-use Prim.Native.Nat.{ℕ}
+use Prim.Native.Nat.{ℕ, _+_, _*_}
 use mathlib.Core.List.{List, [], _∷_}
 use mathlib.Core.Bool.{Bool}
 use lib.ListN.{getD}
@@ -49,13 +49,13 @@ abbrev pub to1 : ℕ
 to1 = 12  -- "mode 0 or 1"
 
 abbrev pub body : ℕ
-body = 13  -- contents, a set (universal 17)
+body = 13  -- contents, a set
 
 abbrev pub kids : ℕ
-kids = 14  -- children, an ElementCollection (application 4)
+kids = 14  -- children, an ElementCollection
 
 abbrev pub links : ℕ
-links = 15  -- connections, a sequence (universal 16)
+links = 15  -- connections, a sequence
 
 -- The kinds of entries (crates/glow_rows/specs/Kind.antt) and the contents: each has a row of members.
 abbrev pub parameterContents : ℕ
@@ -107,23 +107,96 @@ contentsRows = 0 ∷ parameterContents ∷ 0 ∷ nodeContents ∷ matrixContents
 unfoldable pub contentsOf : ℕ → ℕ
 contentsOf row = getD contentsRows row 0
 
--- "Application numbers: .. Parameter 1, Command 2, Node 3, .. StreamEntry 6, QualifiedParameter 9, QualifiedNode 10, .. Matrix 13, Connection 16,
--- QualifiedMatrix 17", by kind
+-- The tags: classes, and each number once. "Application numbers", by kind of entry:
 unfoldable pub applications : List ℕ
-applications = 0 ∷ 1 ∷ 2 ∷ 3 ∷ 13 ∷ 9 ∷ 10 ∷ 17 ∷ 16 ∷ 6 ∷ []
+applications =
+    0 ∷  -- no kind
+    1 ∷  -- Parameter
+    2 ∷  -- Command
+    3 ∷  -- Node
+    13 ∷  -- Matrix
+    9 ∷  -- QualifiedParameter
+    10 ∷  -- QualifiedNode
+    17 ∷  -- QualifiedMatrix
+    16 ∷  -- Connection
+    6 ∷  -- StreamEntry
+    []
+
+-- .. of Root and the collections in it, and of children
+abbrev pub rootTag : ℕ
+rootTag = 0
+
+abbrev pub elementCollection : ℕ
+elementCollection = 4
+
+abbrev pub streamCollection : ℕ
+streamCollection = 5
+
+abbrev pub rootElementCollection : ℕ
+rootElementCollection = 11
+
+-- universal numbers: of connections, and of contents
+abbrev pub sequence : ℕ
+sequence = 16
+
+abbrev pub set : ℕ
+set = 17
+
+abbrev pub universal : ℕ
+universal = 0
+
+abbrev pub application : ℕ
+application = 1
+
+abbrev pub context : ℕ
+context = 2
+
+-- context numbers: "Item of any collection: 0, no other"; "contents 1, children 2; matrices also connections 5"
+abbrev pub itemTag : ℕ
+itemTag = 0
+
+abbrev pub contentsMember : ℕ
+contentsMember = 1
+
+abbrev pub kidsMember : ℕ
+kidsMember = 2
+
+abbrev pub linksMember : ℕ
+linksMember = 5
+
+-- 2^28 is above every tag number
+abbrev pub pastAll : ℕ
+pastAll = 268435456
+
+-- the octet of a constructed tag with a number below 31
+abbrev pub octetOf : ℕ → ℕ → ℕ
+octetOf class number = class * 64 + 32 + number
 
 -- The collections.
 abbrev pub rootElements : ℕ
-rootElements = 0  -- RootElementCollection, application 11
+rootElements = 0  -- RootElementCollection
 
 abbrev pub children : ℕ
-children = 1  -- ElementCollection, application 4
+children = 1  -- ElementCollection
 
 abbrev pub connections : ℕ
-connections = 2  -- universal 16
+connections = 2  -- a sequence
 
 abbrev pub streams : ℕ
-streams = 3  -- StreamCollection, application 5
+streams = 3  -- StreamCollection
+
+abbrev pub noRoot : ℕ
+noRoot = 4  -- none that Root may hold
+
+-- "At most 64 containers, outer tags among them, open at once": all, and what is left in Root and in its collection
+abbrev pub depth : ℕ
+depth = 64
+
+abbrev pub inRoot : ℕ
+inRoot = 63
+
+abbrev pub inCollection : ℕ
+inCollection = 62
 
 -- The kinds that a collection may hold. "Qualified elements stand only at root level."
 unfoldable pub holds : List (List ℕ)
@@ -143,18 +216,21 @@ kindAmong (kind ∷ kinds) number =
 unfoldable pub kindIn : ℕ → ℕ → ℕ
 kindIn which number = kindAmong (getD holds which []) number
 
--- The tag around what a member holds: contents are a set (universal 17), children an ElementCollection (application 4), connections a sequence
--- (universal 16).
+-- The tag around what a member holds: contents are a set, children an ElementCollection, connections a sequence.
 unfoldable pub innerClass : ℕ → ℕ
-innerClass what = pick (eqb what kids) 1 0
+innerClass what = pick (eqb what kids) application universal
 
 unfoldable pub innerNumber : ℕ → ℕ
-innerNumber what = pick (eqb what body) 17 (pick (eqb what kids) 4 16)
+innerNumber what = pick (eqb what body) set (pick (eqb what kids) elementCollection sequence)
 
 -- the collection that a member holds
 unfoldable pub collectionOf : ℕ → ℕ
 collectionOf what = pick (eqb what kids) children connections
 
--- Root's collection by its application number: "StreamCollection 5, .. RootElementCollection 11"; 4 is none
+-- Root's collection by its application number
 unfoldable pub rootOf : ℕ → ℕ
-rootOf number = pick (eqb number 11) rootElements (pick (eqb number 5) streams 4)
+rootOf number = pick (eqb number rootElementCollection) rootElements (pick (eqb number streamCollection) streams noRoot)
+
+-- .. and its application number
+unfoldable pub rootNumber : ℕ → ℕ
+rootNumber root = pick (eqb root rootElements) rootElementCollection streamCollection

@@ -19,6 +19,7 @@ use Rattle.ber_identifiers.specs.Identifier.{Arcs, bad, over, numbers, arcs, oi
 use Rattle.ber_identifiers.specs.declared.Oid.{Oid}
 use Rattle.glow_rows.specs.declared.Cell.{Cell}
 use Rattle.glow_rows.specs.Cell.{cell, cellOf, numbersCell}
+use Rattle.glow_rows.specs.Cell as universal
 use Rattle.glow_grammar.specs.declared.Leaf.{Leaf}
 use Rattle.glow_grammar.specs.declared.Leaf.the-variants.{Kept, Refused as Not}
 use Rattle.glow_grammar.specs.Grammar.{name, text, flag, any, step, path, list, int32, to3, to2, to1}
@@ -31,10 +32,10 @@ both false b = false
 unfoldable pub expects : ℕ → ℕ → Bool
 expects what number =
     pick (eqb what any) (isListed number)
-    (pick (leb what text) (eqb number 12)
-    (pick (eqb what flag) (eqb number 1)
-    (pick (eqb what path) (eqb number 13)
-    (pick (eqb what list) (eqb number 13) (eqb number 2)))))
+    (pick (leb what text) (eqb number universal.text)
+    (pick (eqb what flag) (eqb number universal.boolean)
+    (pick (eqb what path) (eqb number universal.numbers)
+    (pick (eqb what list) (eqb number universal.numbers) (eqb number universal.integer)))))
 
 -- "Numbers are 1 to 2,147,483,647; .. start at 0. Type and operation are 0 to 2, mode 0 or 1, access 0 to 3; command, mask, factor and step are
 -- signed 32-bit." The least and the greatest number of a member that is not below zero.
@@ -125,7 +126,7 @@ numbersAt s at start len what above =
 unfoldable pub leafAt : List ℕ → ℕ → ℕ → ℕ → ℕ → ℕ → ℕ → Leaf
 leafAt s at number start len what above =
     pick (expects what number)
-    (pick (eqb number 13) (numbersAt s at start len what above) (judged s at what above (contentAt s at number start len)))
+    (pick (eqb number universal.numbers) (numbersAt s at start len what above) (judged s at what above (contentAt s at number start len)))
     (Not 33 at)
 
 -- the same range, by the word of a number (two's complement)
@@ -142,18 +143,22 @@ LeafBounded above (Not number place) = Unit {0}
 
 -- The cell of a value by its universal tag number and its first word: a text's, octets' or numbers' second word is the length.
 unfoldable pub cellBy : ℕ → ℕ → ℕ → Cell
-cellBy number first len = cell number first (pick (ltb number 12) 0 len)
+cellBy number first len = cell number first (pick (ltb number universal.text) 0 len)
 
 -- a member whose value is a number that the path does not count, or may be
 abbrev pub Counted : ℕ → Type 0
-Counted what = (expects what 2 ≡ true) × (what ≡ 5 → ⊥)
+Counted what = (expects what universal.integer ≡ true) × (what ≡ step → ⊥)
 
--- For `word_of` and its parts: any answer but 2^63 is the first word of the cell that is kept.
+-- For `word_of` and its parts: any answer but this is the first word of the cell that is kept.
+abbrev pub noWord : ℕ
+noWord = 9223372036854775808
+
 abbrev pub NumberTold : ℕ → Number → ℕ → Type 0
-NumberTold what n r = (what ≡ 5 → ⊥) → (s : List ℕ) (at above next : ℕ) → judged s at what above (onNumber at next n) ≡ Kept (cell 2 r 0) above
+NumberTold what n r = (what ≡ step → ⊥) → (s : List ℕ) (at above next : ℕ)
+    → judged s at what above (onNumber at next n) ≡ Kept (cell universal.integer r 0) above
 
 abbrev pub ListTold : ℕ → Oid → ℕ → Type 0
-ListTold start o r = (at len above : ℕ) → oidLeaf at start len above o ≡ Kept (cell 13 r len) above
+ListTold start o r = (at len above : ℕ) → oidLeaf at start len above o ≡ Kept (cell universal.numbers r len) above
 
 abbrev pub LeafTold : List ℕ → ℕ → ℕ → ℕ → ℕ → ℕ → Type 0
 LeafTold s number start len what r = (at above : ℕ) → leafAt s at number start len what above ≡ Kept (cellBy number r len) above

@@ -1,10 +1,17 @@
 // The grammar of Glow: what stands where, and one value judged by it.
+pub mod collections;
+pub mod rows;
+pub mod rules;
+pub mod tags;
+
 use ber_identifiers::Arc;
 use ber_identifiers::Oid;
 use ber_integers::Number;
 use ber_values::Answer;
 use ber_values::Value;
 use glow_rows::Cell;
+use glow_rows::kinds;
+use glow_rows::tags as universal;
 ghost use mathlib.Core.Path.{_≡_};
 ghost use Prim.Native.Nat.{_+_, _≤_};
 ghost use mathlib.Core.Bool.{true};
@@ -16,8 +23,11 @@ ghost use Rattle.ber_values.specs.Value.{isListed};
 ghost use Rattle.ber_identifiers.specs.Identifier.{arcs};
 ghost use Rattle.glow_rows.specs.Cell.{numbersCell};
 ghost use Rattle.glow_grammar.specs.Leaf.{expects, least, most, wordIn, isLetter, noSlash, isName};
-ghost use Rattle.glow_grammar.specs.Leaf.{Counted, NumberTold, ListTold, LeafTold};
+ghost use Rattle.glow_grammar.specs.Leaf.{noWord, Counted, NumberTold, ListTold, LeafTold};
 ghost use Rattle.glow_grammar.specs.Leaf.{numberLeaf, textLeaf, valueLeaf, judged, pathLeaf, oidLeaf, numbersAt, leafAt, LeafBounded};
+
+// What a quick answer says where the value is for `read_leaf` to judge: no word of a cell in any range.
+pub const NO_WORD: u64 = 9223372036854775808;
 
 // A value kept in its cell, with the count of the path's numbers after it; or a refusal with its place.
 pub enum Leaf {
@@ -30,10 +40,10 @@ fn of_element(n: u64) -> u64
     ensures { λ r. ⌜ ruleOf 1 n ≡ r ⌝ }
 {
     match n {
-        0 => 5,
-        1 => 13,
-        2 => 14,
-        _ => 0,
+        0 => rules::STEP,
+        1 => rules::BODY,
+        2 => rules::KIDS,
+        _ => rules::NONE,
     }
 }
 
@@ -41,9 +51,9 @@ fn of_command(n: u64) -> u64
     ensures { λ r. ⌜ ruleOf 2 n ≡ r ⌝ }
 {
     match n {
-        0 => 9,
-        1 => 9,
-        _ => 0,
+        0 => rules::INT_32,
+        1 => rules::INT_32,
+        _ => rules::NONE,
     }
 }
 
@@ -51,11 +61,11 @@ fn of_matrix(n: u64) -> u64
     ensures { λ r. ⌜ ruleOf 4 n ≡ r ⌝ }
 {
     match n {
-        0 => 5,
-        1 => 13,
-        2 => 14,
-        5 => 15,
-        _ => 0,
+        0 => rules::STEP,
+        1 => rules::BODY,
+        2 => rules::KIDS,
+        5 => rules::LINKS,
+        _ => rules::NONE,
     }
 }
 
@@ -63,10 +73,10 @@ fn of_qualified(n: u64) -> u64
     ensures { λ r. ⌜ ruleOf 5 n ≡ r ⌝ }
 {
     match n {
-        0 => 6,
-        1 => 13,
-        2 => 14,
-        _ => 0,
+        0 => rules::PATH,
+        1 => rules::BODY,
+        2 => rules::KIDS,
+        _ => rules::NONE,
     }
 }
 
@@ -74,11 +84,11 @@ fn of_qualified_matrix(n: u64) -> u64
     ensures { λ r. ⌜ ruleOf 7 n ≡ r ⌝ }
 {
     match n {
-        0 => 6,
-        1 => 13,
-        2 => 14,
-        5 => 15,
-        _ => 0,
+        0 => rules::PATH,
+        1 => rules::BODY,
+        2 => rules::KIDS,
+        5 => rules::LINKS,
+        _ => rules::NONE,
     }
 }
 
@@ -86,10 +96,10 @@ fn of_connection(n: u64) -> u64
     ensures { λ r. ⌜ ruleOf 8 n ≡ r ⌝ }
 {
     match n {
-        0 => 8,
-        1 => 7,
-        2 => 11,
-        _ => 0,
+        0 => rules::FROM_0,
+        1 => rules::LIST,
+        2 => rules::TO_2,
+        _ => rules::NONE,
     }
 }
 
@@ -97,9 +107,9 @@ fn of_stream_entry(n: u64) -> u64
     ensures { λ r. ⌜ ruleOf 9 n ≡ r ⌝ }
 {
     match n {
-        0 => 8,
-        1 => 4,
-        _ => 0,
+        0 => rules::FROM_0,
+        1 => rules::ANY,
+        _ => rules::NONE,
     }
 }
 
@@ -107,15 +117,15 @@ fn of_parameter(n: u64) -> u64
     ensures { λ r. ⌜ ruleOf 10 n ≡ r ⌝ }
 {
     match n {
-        0 => 1,
-        1 => 2,
-        2 | 3 | 4 => 4,
-        5 => 10,
-        8 => 9,
-        9 => 3,
-        11 => 9,
-        14 => 8,
-        _ => 0,
+        0 => rules::NAME,
+        1 => rules::TEXT,
+        2 | 3 | 4 => rules::ANY,
+        5 => rules::TO_3,
+        8 => rules::INT_32,
+        9 => rules::FLAG,
+        11 => rules::INT_32,
+        14 => rules::FROM_0,
+        _ => rules::NONE,
     }
 }
 
@@ -123,10 +133,10 @@ fn of_node(n: u64) -> u64
     ensures { λ r. ⌜ ruleOf 11 n ≡ r ⌝ }
 {
     match n {
-        0 => 1,
-        1 => 2,
-        2 | 3 => 3,
-        _ => 0,
+        0 => rules::NAME,
+        1 => rules::TEXT,
+        2 | 3 => rules::FLAG,
+        _ => rules::NONE,
     }
 }
 
@@ -134,12 +144,12 @@ fn of_matrix_contents(n: u64) -> u64
     ensures { λ r. ⌜ ruleOf 12 n ≡ r ⌝ }
 {
     match n {
-        0 => 1,
-        1 => 2,
-        2 => 11,
-        3 => 12,
-        4 | 5 | 6 | 7 => 8,
-        _ => 0,
+        0 => rules::NAME,
+        1 => rules::TEXT,
+        2 => rules::TO_2,
+        3 => rules::TO_1,
+        4 | 5 | 6 | 7 => rules::FROM_0,
+        _ => rules::NONE,
     }
 }
 
@@ -148,19 +158,19 @@ pub fn rule_of(row: u64, n: u64) -> u64
     ensures { λ r. ⌜ ruleOf row n ≡ r ⌝ }
 {
     match row {
-        1 => of_element(n),
-        2 => of_command(n),
-        3 => of_element(n),
-        4 => of_matrix(n),
-        5 => of_qualified(n),
-        6 => of_qualified(n),
-        7 => of_qualified_matrix(n),
-        8 => of_connection(n),
-        9 => of_stream_entry(n),
-        10 => of_parameter(n),
-        11 => of_node(n),
-        12 => of_matrix_contents(n),
-        _ => 0,
+        kinds::PARAMETER => of_element(n),
+        kinds::COMMAND => of_command(n),
+        kinds::NODE => of_element(n),
+        kinds::MATRIX => of_matrix(n),
+        kinds::QUALIFIED_PARAMETER => of_qualified(n),
+        kinds::QUALIFIED_NODE => of_qualified(n),
+        kinds::QUALIFIED_MATRIX => of_qualified_matrix(n),
+        kinds::CONNECTION => of_connection(n),
+        kinds::STREAM_ENTRY => of_stream_entry(n),
+        rows::PARAMETER_CONTENTS => of_parameter(n),
+        rows::NODE_CONTENTS => of_node(n),
+        rows::MATRIX_CONTENTS => of_matrix_contents(n),
+        _ => rules::NONE,
     }
 }
 
@@ -169,8 +179,8 @@ pub fn required_of(row: u64) -> u64
     ensures { λ r. ⌜ required row ≡ r ⌝ }
 {
     match row {
-        1..=8 => 1,
-        9 => 2,
+        kinds::PARAMETER..=kinds::CONNECTION => 1,
+        kinds::STREAM_ENTRY => 2,
         _ => 0,
     }
 }
@@ -179,7 +189,7 @@ pub fn required_of(row: u64) -> u64
 pub fn is_set(row: u64) -> bool
     ensures { λ r. ⌜ isSet row ≡ r ⌝ }
 {
-    10 <= row
+    rows::PARAMETER_CONTENTS <= row
 }
 
 // The row of a kind's contents.
@@ -187,13 +197,13 @@ pub fn contents_of(row: u64) -> u64
     ensures { λ r. ⌜ contentsOf row ≡ r ⌝ }
 {
     match row {
-        1 => 10,
-        3 => 11,
-        4 => 12,
-        5 => 10,
-        6 => 11,
-        7 => 12,
-        _ => 0,
+        kinds::PARAMETER => rows::PARAMETER_CONTENTS,
+        kinds::NODE => rows::NODE_CONTENTS,
+        kinds::MATRIX => rows::MATRIX_CONTENTS,
+        kinds::QUALIFIED_PARAMETER => rows::PARAMETER_CONTENTS,
+        kinds::QUALIFIED_NODE => rows::NODE_CONTENTS,
+        kinds::QUALIFIED_MATRIX => rows::MATRIX_CONTENTS,
+        _ => rows::NONE,
     }
 }
 
@@ -201,13 +211,13 @@ fn at_root(number: u64) -> u64
     ensures { λ r. ⌜ kindIn 0 number ≡ r ⌝ }
 {
     match number {
-        1 => 1,
-        2 => 2,
-        3 => 3,
-        9 => 5,
-        10 => 6,
-        13 => 4,
-        17 => 7,
+        tags::PARAMETER => kinds::PARAMETER,
+        tags::COMMAND => kinds::COMMAND,
+        tags::NODE => kinds::NODE,
+        tags::QUALIFIED_PARAMETER => kinds::QUALIFIED_PARAMETER,
+        tags::QUALIFIED_NODE => kinds::QUALIFIED_NODE,
+        tags::MATRIX => kinds::MATRIX,
+        tags::QUALIFIED_MATRIX => kinds::QUALIFIED_MATRIX,
         _ => 0,
     }
 }
@@ -216,10 +226,10 @@ fn among_children(number: u64) -> u64
     ensures { λ r. ⌜ kindIn 1 number ≡ r ⌝ }
 {
     match number {
-        1 => 1,
-        2 => 2,
-        3 => 3,
-        13 => 4,
+        tags::PARAMETER => kinds::PARAMETER,
+        tags::COMMAND => kinds::COMMAND,
+        tags::NODE => kinds::NODE,
+        tags::MATRIX => kinds::MATRIX,
         _ => 0,
     }
 }
@@ -229,17 +239,17 @@ pub fn kind_in(which: u64, number: u64) -> u64
     ensures { λ r. ⌜ kindIn which number ≡ r ⌝ }
 {
     match which {
-        0 => at_root(number),
-        1 => among_children(number),
-        2 => {
-            if number == 16 {
-                return 8;
+        collections::ROOT_ELEMENTS => at_root(number),
+        collections::CHILDREN => among_children(number),
+        collections::CONNECTIONS => {
+            if number == tags::CONNECTION {
+                return kinds::CONNECTION;
             }
             0
         }
-        3 => {
-            if number == 6 {
-                return 9;
+        collections::STREAMS => {
+            if number == tags::STREAM_ENTRY {
+                return kinds::STREAM_ENTRY;
             }
             0
         }
@@ -252,11 +262,11 @@ fn is_value(number: u64) -> bool
     ensures { λ r. ⌜ isListed number ≡ r ⌝ }
 {
     match number {
-        1 => true,
-        2 => true,
-        4 => true,
-        9 => true,
-        12 => true,
+        universal::BOOLEAN => true,
+        universal::INTEGER => true,
+        universal::OCTETS => true,
+        universal::REAL => true,
+        universal::TEXT => true,
         _ => false,
     }
 }
@@ -266,12 +276,12 @@ pub fn fits(what: u64, number: u64) -> bool
     ensures { λ r. ⌜ expects what number ≡ r ⌝ }
 {
     match what {
-        0..=2 => number == 12,
-        3 => number == 1,
-        4 => is_value(number),
-        5 => number == 2,
-        6..=7 => number == 13,
-        _ => number == 2,
+        rules::NONE..=rules::TEXT => number == universal::TEXT,
+        rules::FLAG => number == universal::BOOLEAN,
+        rules::ANY => is_value(number),
+        rules::STEP => number == universal::INTEGER,
+        rules::PATH..=rules::LIST => number == universal::NUMBERS,
+        _ => number == universal::INTEGER,
     }
 }
 
@@ -291,7 +301,7 @@ fn word(x: usize) -> u64
 fn least_of(what: u64) -> u64
     ensures { λ r. ⌜ least what ≡ r ⌝ }
 {
-    if what == 5 {
+    if what == rules::STEP {
         return 1;
     }
     0
@@ -301,9 +311,9 @@ fn most_of(what: u64) -> u64
     ensures { λ r. ⌜ most what ≡ r ⌝ }
 {
     match what {
-        10 => 3,
-        11 => 2,
-        12 => 1,
+        rules::TO_3 => 3,
+        rules::TO_2 => 2,
+        rules::TO_1 => 1,
         _ => 2147483647,
     }
 }
@@ -312,7 +322,7 @@ fn most_of(what: u64) -> u64
 pub fn in_range(what: u64, w: u64) -> bool
     ensures { λ r. ⌜ wordIn what w ≡ r ⌝ }
 {
-    if what == 9 {
+    if what == rules::INT_32 {
         if w <= 2147483647 {
             return true;
         }
@@ -328,13 +338,13 @@ fn number_leaf(at: usize, what: u64, above: usize, x: i64) -> Leaf
     ensures { λ r. ⌜ numberLeaf at what above x ≡ r ⌝ }
 {
     let v = glow_rows::cell_of(Value::Int(x));
-    if what == 4 {
+    if what == rules::ANY {
         return Leaf::Kept(v, above);
     }
     if !in_range(what, v.first) {
         return Leaf::Refused(34, at);
     }
-    if what == 5 {
+    if what == rules::STEP {
         if above < 16 {
             return Leaf::Kept(v, above + 1);
         }
@@ -397,7 +407,7 @@ fn text_leaf(s: &[u8], at: usize, what: u64, above: usize, start: usize, len: us
     ensures { λ r. ⌜ textLeaf (now (s .entry)) at what above start len ≡ r ⌝ }
 {
     let v = glow_rows::cell_of(Value::Text { start, len });
-    if what == 1 {
+    if what == rules::NAME {
         if !is_name(s, start, len) {
             return Leaf::Refused(36, at);
         }
@@ -446,7 +456,7 @@ fn numbers_cell(start: usize, len: usize) -> Cell
     ensures { λ r. ⌜ numbersCell start len ≡ r ⌝ }
 {
     Cell {
-        kind: 13,
+        kind: universal::NUMBERS,
         first: word(start),
         second: word(len),
     }
@@ -517,7 +527,7 @@ fn numbers_at(s: &[u8], at: usize, start: usize, len: usize, what: u64, above: u
     if !holds(s, start, len) {
         return Leaf::Refused(30, s.len());
     }
-    if what == 6 {
+    if what == rules::PATH {
         return path_leaf(s, at, start, len);
     }
     list_leaf(
@@ -533,79 +543,81 @@ fn numbers_at(s: &[u8], at: usize, start: usize, len: usize, what: u64, above: u
 fn is_counted(what: u64) -> bool
     ensures { λ r. ⌜ (r ≡ true → Counted what) ⌝ }
 {
-    if what == 4 {
+    if what == rules::ANY {
         return true;
     }
-    8 <= what
+    rules::FROM_0 <= what
 }
 
-// The word of a number that is in its member's range; 2^63 where that is for `read_leaf` to say.
+// The word of a number that is in its member's range; NO_WORD where that is for `read_leaf` to say.
 fn word_in(what: u64, x: i64) -> u64
-    ensures { λ r. ⌜ ((r ≡ 9223372036854775808 → ⊥) → NumberTold what (Number.Int x) r) ⌝ }
+    ensures { λ r. ⌜ ((r ≡ noWord → ⊥) → NumberTold what (Number.Int x) r) ⌝ }
 {
     let v = glow_rows::cell_of(Value::Int(x));
-    if what == 4 {
+    if what == rules::ANY {
         return v.first;
     }
     if in_range(what, v.first) {
         return v.first;
     }
-    9223372036854775808
+    NO_WORD
 }
 
 fn number_word(what: u64, n: Number) -> u64
-    ensures { λ r. ⌜ ((r ≡ 9223372036854775808 → ⊥) → NumberTold what n r) ⌝ }
+    ensures { λ r. ⌜ ((r ≡ noWord → ⊥) → NumberTold what n r) ⌝ }
 {
     match n {
-        Number::Refused => 9223372036854775808,
+        Number::Refused => NO_WORD,
         Number::Int(x) => word_in(what, x),
     }
 }
 
 fn list_word(start: usize, o: Oid) -> u64
-    ensures { λ r. ⌜ ((r ≡ 9223372036854775808 → ⊥) → ListTold start o r) ⌝ }
+    ensures { λ r. ⌜ ((r ≡ noWord → ⊥) → ListTold start o r) ⌝ }
 {
     match o {
         Oid::Numbers(_) => word(start),
-        Oid::Range => 9223372036854775808,
-        Oid::Refused => 9223372036854775808,
+        Oid::Range => NO_WORD,
+        Oid::Refused => NO_WORD,
     }
 }
 
-// The first word of a value's cell, for a number, a text or sources that fit their member; 2^63 where that is for `read_leaf` to say.
+// The first word of a value's cell, for a number, a text or sources that fit their member;
+// NO_WORD where that is for `read_leaf` to say.
 pub fn word_of(s: &[u8], number: u64, start: usize, len: usize, what: u64) -> u64
-    ensures { λ r. ⌜ ((r ≡ 9223372036854775808 → ⊥) → LeafTold (now (s .entry)) number start len what r) ⌝ }
+    ensures { λ r. ⌜ ((r ≡ noWord → ⊥) → LeafTold (now (s .entry)) number start len what r) ⌝ }
 {
     if !holds(s, start, len) {
-        return 9223372036854775808;
+        return NO_WORD;
     }
-    if number == 2 {
+    if number == universal::INTEGER {
         if is_counted(what) {
             return number_word(what, ber_integers::read_int(s, start, len));
         }
-        return 9223372036854775808;
+        return NO_WORD;
     }
-    if number == 12 {
-        if what == 1 {
+    if number == universal::TEXT {
+        if what == rules::NAME {
             if is_name(s, start, len) {
                 return word(start);
             }
-            return 9223372036854775808;
+            return NO_WORD;
         }
-        if what == 2 {
+        if what == rules::TEXT {
             return word(start);
         }
-        return 9223372036854775808;
+        return NO_WORD;
     }
-    if number == 13 {
-        if what == 7 {
+    if number == universal::NUMBERS {
+        if what == rules::LIST {
             return list_word(start, ber_identifiers::read_oid(s, start, len));
         }
     }
-    9223372036854775808
+    NO_WORD
 }
 
-// The value whose tag stands at `at`, with this universal number, and whose len octets stand at `start`; `above` counts the numbers of the path so far.
+// The value whose tag stands at `at`, with this universal number, and whose len octets stand at `start`;
+// `above` counts the numbers of the path so far.
 pub fn read_leaf(
     s: &[u8],
     at: usize,
@@ -621,7 +633,7 @@ pub fn read_leaf(
     if !fits(what, number) {
         return Leaf::Refused(33, at);
     }
-    if number == 13 {
+    if number == universal::NUMBERS {
         return numbers_at(s, at, start, len, what, above);
     }
     judge(

@@ -1,7 +1,9 @@
 // The members of an entry: how many octets each takes with its tags, and whether it may stand where it does.
 use ber_integers::Wrote;
 use glow_grammar::Leaf;
+use glow_grammar::rules;
 use glow_rows::Cell;
+use glow_rows::tags;
 ghost use mathlib.Core.Path.{_≡_};
 ghost use mathlib.Core.Bool.{true, false};
 ghost use mathlib.Core.List.{List, []};
@@ -14,21 +16,26 @@ ghost use Rattle.glow_trees.specs.Legal.{isReal, wordSuits};
 ghost use Rattle.glow_member_sizes.specs.Spelling.{spelling};
 ghost use Rattle.glow_member_sizes.specs.Sizes.{cap, taggedSize, nextOf, WordSized, memberSize};
 
+// The octets of the longest message, and the size of what is longer or not legal.
+pub const MESSAGE_LIMIT: u64 = 16384;
+
+pub const NO_SIZE: u64 = 65536;
+
 fn capped(n: u64) -> u64
     ensures { λ r. ⌜ cap n ≡ r ⌝ }
 {
-    if n <= 16384 { n } else { 65536 }
+    if n <= MESSAGE_LIMIT { n } else { NO_SIZE }
 }
 
 // The sum of two sizes.
 pub fn plus(a: u64, b: u64) -> u64
     ensures { λ r. ⌜ cap (a + b) ≡ r ⌝ }
 {
-    if 16384 < a {
-        return 65536;
+    if MESSAGE_LIMIT < a {
+        return NO_SIZE;
     }
-    if 16384 < b {
-        return 65536;
+    if MESSAGE_LIMIT < b {
+        return NO_SIZE;
     }
     capped(a + b)
 }
@@ -37,8 +44,8 @@ pub fn plus(a: u64, b: u64) -> u64
 pub fn around(n: u64) -> u64
     ensures { λ r. ⌜ cap (taggedSize n) ≡ r ⌝ }
 {
-    if 16384 < n {
-        return 65536;
+    if MESSAGE_LIMIT < n {
+        return NO_SIZE;
     }
     capped(1 + wide(ber_tags::length_size(n)) + n)
 }
@@ -94,11 +101,11 @@ fn real_size(w: u64, least: bool) -> u64
 fn word_suits(what: u64, kind: u64, w: u64) -> bool
     ensures { λ r. ⌜ wordSuits what kind w ≡ r ⌝ }
 {
-    if kind == 1 {
+    if kind == tags::BOOLEAN {
         return w <= 1;
     }
-    if kind == 2 {
-        if what == 4 {
+    if kind == tags::INTEGER {
+        if what == rules::ANY {
             return true;
         }
         return glow_grammar::in_range(what, w);
@@ -110,10 +117,10 @@ fn word_suits(what: u64, kind: u64, w: u64) -> bool
 pub fn word_size(kind: u64, w: u64, least: bool) -> u64
     ensures { λ r. ⌜ WordSized (spelling least) kind w r ⌝ }
 {
-    if kind == 1 {
+    if kind == tags::BOOLEAN {
         return 1;
     }
-    if kind == 2 {
+    if kind == tags::INTEGER {
         return int_size(w);
     }
     real_size(w, least)
@@ -123,13 +130,13 @@ pub fn word_size(kind: u64, w: u64, least: bool) -> u64
 pub fn is_part(kind: u64) -> bool
     ensures { λ r. ⌜ isPart kind ≡ r ⌝ }
 {
-    if kind == 4 {
+    if kind == tags::OCTETS {
         return true;
     }
-    if kind == 12 {
+    if kind == tags::TEXT {
         return true;
     }
-    kind == 13
+    kind == tags::NUMBERS
 }
 
 // A word as a place.
@@ -146,15 +153,15 @@ fn part_size(s: &[u8], v: Cell, what: u64) -> u64
 {
     let total = wide(s.len());
     if total < v.second {
-        return 65536;
+        return NO_SIZE;
     }
     if total - v.second < v.first {
-        return 65536;
+        return NO_SIZE;
     }
     let start = index(v.first);
     let len = index(v.second);
     match glow_grammar::read_leaf(s, 0, v.kind, start, len, what, 0) {
-        Leaf::Refused(_, _) => 65536,
+        Leaf::Refused(_, _) => NO_SIZE,
         Leaf::Kept(_, _) => around(around(v.second)),
     }
 }
@@ -163,29 +170,29 @@ fn part_size(s: &[u8], v: Cell, what: u64) -> u64
 pub fn member_size(s: &[u8], v: Cell, what: u64, least: bool) -> u64
     ensures { λ r. ⌜ memberSize (spelling least) what (contentOf (now (s .entry)) v) ≡ r ⌝ }
 {
-    if v.kind == 0 {
+    if v.kind == tags::ABSENT {
         if v.first != 0 {
-            return 65536;
+            return NO_SIZE;
         }
         if v.second != 0 {
-            return 65536;
+            return NO_SIZE;
         }
         return 0;
     }
-    if what == 0 {
-        return 65536;
+    if what == rules::NONE {
+        return NO_SIZE;
     }
     if !glow_grammar::fits(what, v.kind) {
-        return 65536;
+        return NO_SIZE;
     }
     if is_part(v.kind) {
         return part_size(s, v, what);
     }
     if v.second != 0 {
-        return 65536;
+        return NO_SIZE;
     }
     if !word_suits(what, v.kind, v.first) {
-        return 65536;
+        return NO_SIZE;
     }
     around(around(word_size(v.kind, v.first, least)))
 }

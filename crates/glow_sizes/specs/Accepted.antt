@@ -11,6 +11,7 @@ use Rattle.glow_trees.specs.Trees.{Trees, Taken, treesOf}
 use Rattle.glow_trees.specs.Legal.{legalRoot}
 use Rattle.glow_trees.specs.Written.{messageOctets}
 use Rattle.glow_member_sizes.specs.Spelling.{leastReal}
+use Rattle.glow_member_sizes.specs.Sizes.{messageLimit, noSize}
 
 -- no entry is left over
 abbrev pub isEnd : List Item → Bool
@@ -28,13 +29,13 @@ octetsOf real root es = messageOctets real root (treesOf root es .trees)
 -- "that make no tree the reader accepts": else some message of at most 16,384 bytes is read as these entries, and the shortest such message shows it
 -- (`accepted-exactly`)
 unfoldable pub accepted : ℕ → List Item → Bool
-accepted root es = both (leb (length es) 256) (both (isWhole root es) (leb (length (octetsOf leastReal root es)) 16384))
+accepted root es = both (leb (length es) 256) (both (isWhole root es) (leb (length (octetsOf leastReal root es)) messageLimit))
 
 -- the entries of the first rows, at most 256, make a tree whose message has at most 16,384 octets
 unfoldable pub fits : (ℕ → List ℕ) → ℕ → ℕ → ℕ → List Item → Bool
 fits real root rows n es =
-    both (leb n rows) (both (leb n 256) (both (isWhole root es) (leb (length (octetsOf real root es)) 16384)))
+    both (leb n rows) (both (leb n 256) (both (isWhole root es) (leb (length (octetsOf real root es)) messageLimit)))
 
--- how many octets it has; 65,536 where there is none
+-- how many octets it has; noSize where there is none
 unfoldable pub lengthOf : (ℕ → List ℕ) → ℕ → ℕ → ℕ → List Item → ℕ
-lengthOf real root rows n es = pick (fits real root rows n es) (length (octetsOf real root es)) 65536
+lengthOf real root rows n es = pick (fits real root rows n es) (length (octetsOf real root es)) noSize

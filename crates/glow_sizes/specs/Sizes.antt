@@ -1,4 +1,4 @@
--- Sizes of entries and trees. A size over 16,384 is 65,536, and so is the size of what is not legal.
+-- Sizes of entries and trees. A size over the longest message's is noSize, and so is the size of what is not legal.
 use Prim.Native.Nat.{ℕ, zero, suc, _+_, _-_, _<_}
 use mathlib.Core.Path.{_≡_}
 use mathlib.Core.List.{List, [], _∷_}
@@ -9,7 +9,7 @@ use Rattle.ber_integers.specs.Digits.{pick}
 use Rattle.glow_rows.specs.declared.Cell.{Cell}
 use Rattle.glow_rows.specs.Cell.{absent}
 use Rattle.glow_rows.specs.Entry.{Rows}
-use Rattle.glow_grammar.specs.Grammar.{required}
+use Rattle.glow_grammar.specs.Grammar.{required, universal, contentsMember, set}
 use Rattle.glow_grammar.specs.Grammar as grammar
 use Rattle.glow_grammar.specs.Leaf.{both}
 use Rattle.glow_trees.specs.Content.{Content, Item, contentsOf}
@@ -17,7 +17,7 @@ use Rattle.glow_trees.specs.Rows.{cellsFrom}
 use Rattle.glow_trees.specs.Trees.{Trees, takenBy, count}
 use Rattle.glow_trees.specs.Legal.{ruleAt, suited, complete, pathAfter, empty, inner, legal}
 use Rattle.glow_trees.specs.Written.{membersOctets, wrapped, own, treesOctets}
-use Rattle.glow_member_sizes.specs.Sizes.{cap, taggedSize, memberSize}
+use Rattle.glow_member_sizes.specs.Sizes.{messageLimit, noSize, cap, taggedSize, memberSize}
 use Rattle.glow_sizes.specs.declared.Entered.{Entered}
 use Rattle.glow_sizes.specs.declared.Measured.{Measured}
 
@@ -49,13 +49,13 @@ isEntry kind k above xs =
     (both (complete (required kind) xs) (both (leb (pathAfter kind above xs) 16) (pick (empty (inner kind xs)) true (leb 5 k))))
 
 unfoldable pub entryOctets : (ℕ → List ℕ) → ℕ → List Content → ℕ
-entryOctets real kind xs = length (membersOctets real 0 (own kind xs)) + length (wrapped 1 0 17 (membersOctets real 0 (inner kind xs)))
+entryOctets real kind xs = length (membersOctets real 0 (own kind xs)) + length (wrapped contentsMember universal set (membersOctets real 0 (inner kind xs)))
 
 unfoldable pub entered : (ℕ → List ℕ) → ℕ → ℕ → ℕ → List Content → Entered
 entered real kind k above xs =
-    pick (both (isEntry kind k above xs) (leb (entryOctets real kind xs) 16384))
+    pick (both (isEntry kind k above xs) (leb (entryOctets real kind xs) messageLimit))
     (record { size = entryOctets real kind xs; path = pathAfter kind above xs })
-    (record { size = 65536; path = 0 })
+    (record { size = noSize; path = 0 })
 
 -- how many cells stand outside an entry's contents
 abbrev pub split : ℕ → ℕ
@@ -76,9 +76,9 @@ enteredAt real s r k above = entered real (getD r 0 0) k above (contentsOf s (ce
 -- Trees from place i on, behind `total` octets of the trees before them.
 unfoldable pub measured : (ℕ → List ℕ) → ℕ → ℕ → ℕ → ℕ → ℕ → Trees → Measured
 measured real which k above total i t =
-    pick (both (legal which k above t) (leb (total + length (treesOctets real t)) 16384))
+    pick (both (legal which k above t) (leb (total + length (treesOctets real t)) messageLimit))
     (record { next = i + count t; size = total + length (treesOctets real t) })
-    (record { next = 0; size = 65536 })
+    (record { next = 0; size = noSize })
 
 -- r is what the entries from place i on give, for every f that is more than those that are left
 abbrev pub Gives : (ℕ → List ℕ) → List Item → ℕ → ℕ → ℕ → ℕ → ℕ → ℕ → Measured → Type 0

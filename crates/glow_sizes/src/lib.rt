@@ -1,11 +1,19 @@
 // Which entries make a tree that the reader accepts, and how many octets its message takes.
 use ber_identifiers::Oid;
+use glow_grammar::collections;
+use glow_grammar::rows;
+use glow_grammar::rules;
+use glow_grammar::tags;
+use glow_member_sizes::MESSAGE_LIMIT;
+use glow_member_sizes::NO_SIZE;
 use glow_member_sizes::around;
 use glow_member_sizes::index;
 use glow_member_sizes::member_size;
 use glow_member_sizes::plus;
 use glow_member_sizes::wide;
 use glow_rows::Cell;
+use glow_rows::kinds;
+use glow_rows::tags::ABSENT;
 ghost use mathlib.Core.Path.{_≡_};
 ghost use mathlib.Core.Bool.{true, false};
 ghost use mathlib.Core.List.{[], _∷_};
@@ -25,6 +33,9 @@ ghost use Rattle.glow_member_sizes.specs.Sizes.{cap, taggedSize};
 ghost use Rattle.glow_sizes.specs.Accepted.{fits, lengthOf};
 ghost use Rattle.glow_sizes.specs.Sizes.{rowCell, rowWord, cellsSize, wrappedSize, pathCap, split, contentsSize, keyed, enteredAt, Gives};
 
+// The containers that are left in Root's collection.
+pub const LEFT: u64 = collections::IN_COLLECTION as u64;
+
 // An entry alone: how many octets its members and contents take, and how many numbers the path has with its own.
 pub struct Entered {
     pub size: u64,
@@ -36,7 +47,7 @@ fn rule_at(kind: u64, c: u64) -> u64
     ensures { λ r. ⌜ ruleAt kind c ≡ r ⌝ }
 {
     let row = glow_grammar::contents_of(kind);
-    if row == 0 {
+    if row == rows::NONE {
         return glow_grammar::rule_of(kind, c);
     }
     if c == 0 {
@@ -49,7 +60,7 @@ fn no_cell() -> Cell
     ensures { λ r. ⌜ r ≡ absent ⌝ }
 {
     Cell {
-        kind: 0,
+        kind: ABSENT,
         first: 0,
         second: 0,
     }
@@ -113,7 +124,7 @@ pub fn split_of(kind: u64) -> usize
     ensures { λ r. ⌜ split kind ≡ r ⌝ }
     ensures { λ r. ⌜ r ≤ 16 ⌝ }
 {
-    if glow_grammar::contents_of(kind) == 0 {
+    if glow_grammar::contents_of(kind) == rows::NONE {
         return 16;
     }
     1
@@ -167,16 +178,16 @@ fn path_after(s: &[u8], v: Cell, what: u64, above: u64) -> u64
     requires { ⌜ suits what (contentOf (now s) v) ≡ true ⌝ }
     ensures { λ r. ⌜ pathCap (pathOf what above (contentOf (now (s .entry)) v ∷ [])) ≡ r ⌝ }
 {
-    if v.kind == 0 {
+    if v.kind == ABSENT {
         return few(above);
     }
-    if what == 5 {
+    if what == rules::STEP {
         if 16 <= above {
             return 17;
         }
         return above + 1;
     }
-    if what == 6 {
+    if what == rules::PATH {
         match ber_identifiers::read_oid(s, index(v.first), index(v.second)) {
             Oid::Numbers(n) => {
                 if n <= 16 {
@@ -199,7 +210,7 @@ fn none() -> Entered
     ensures { λ r. ⌜ r ≡ record { size = 65536; path = 0 } ⌝ }
 {
     Entered {
-        size: 65536,
+        size: NO_SIZE,
         path: 0,
     }
 }
@@ -229,14 +240,14 @@ pub fn entry_size(
     let split = split_of(kind);
     let own = cells_size(rows, i, s, kind, 0, split, least);
     let inside = cells_size(rows, i, s, kind, split, 16, least);
-    if 16384 < own {
+    if MESSAGE_LIMIT < own {
         return none();
     }
-    if 16384 < inside {
+    if MESSAGE_LIMIT < inside {
         return none();
     }
     let size = plus(own, wrapped_size(inside));
-    if 16384 < size {
+    if MESSAGE_LIMIT < size {
         return none();
     }
     if !is_shallow(inside, k) {
@@ -257,20 +268,20 @@ pub fn stands_in(which: u64, kind: u64) -> bool
     ensures { λ r. ⌜ standsIn which kind ≡ r ⌝ }
 {
     match which {
-        0 => {
+        collections::ROOT_ELEMENTS => {
             if kind == 0 {
                 return false;
             }
-            kind <= 7
+            kind <= kinds::QUALIFIED_MATRIX
         }
-        1 => {
+        collections::CHILDREN => {
             if kind == 0 {
                 return false;
             }
-            kind <= 4
+            kind <= kinds::MATRIX
         }
-        2 => kind == 8,
-        3 => kind == 9,
+        collections::CONNECTIONS => kind == kinds::CONNECTION,
+        collections::STREAMS => kind == kinds::STREAM_ENTRY,
         _ => false,
     }
 }
@@ -285,7 +296,8 @@ pub fn inside_of(k: u64) -> u64
     k - 4
 }
 
-// The trees of a collection: the place after their entries, and how many octets they take; 65,536 octets where they are not legal or take more than 16,384.
+// The trees of a collection: the place after their entries, and how many octets they take; NO_SIZE where they are not legal or
+// take more than a message may have.
 pub struct Measured {
     pub next: usize,
     pub size: u64,
@@ -303,7 +315,7 @@ fn refused() -> Measured
 {
     Measured {
         next: 0,
-        size: 65536,
+        size: NO_SIZE,
     }
 }
 
@@ -365,29 +377,55 @@ fn items(
             return refused();
         }
         let e = entry_size(rows, i, s, k, above, least);
-        if 16384 < e.size {
+        if MESSAGE_LIMIT < e.size {
             return refused();
         }
         let kind = word_at(rows, i, 0);
         let below = i + 1;
         let me = wide(below);
         let left = inside_of(k);
-        let kids = items(rows, s, count, 1, me, below, left, e.path, least);
-        if 16384 < kids.size {
+        let kids = items(
+            rows,
+            s,
+            count,
+            collections::CHILDREN,
+            me,
+            below,
+            left,
+            e.path,
+            least,
+        );
+        if MESSAGE_LIMIT < kids.size {
             return refused();
         }
-        if !may_hold(kind, 2, 14, below, kids.next) {
+        if !may_hold(kind, tags::KIDS_MEMBER, rules::KIDS, below, kids.next) {
             return refused();
         }
-        let links = items(rows, s, count, 2, me, kids.next, left, e.path, least);
-        if 16384 < links.size {
+        let links = items(
+            rows,
+            s,
+            count,
+            collections::CONNECTIONS,
+            me,
+            kids.next,
+            left,
+            e.path,
+            least,
+        );
+        if MESSAGE_LIMIT < links.size {
             return refused();
         }
-        if !may_hold(kind, 5, 15, kids.next, links.next) {
+        if !may_hold(
+            kind,
+            tags::LINKS_MEMBER,
+            rules::LINKS,
+            kids.next,
+            links.next,
+        ) {
             return refused();
         }
         total = tree_size(total, e.size, kids.size, links.size);
-        if 16384 < total {
+        if MESSAGE_LIMIT < total {
             return refused();
         }
         i = links.next;
@@ -422,26 +460,26 @@ pub fn trees_size(
     items(rows, s, n, which, parent, start, k, above, least)
 }
 
-// How many octets the message of the first `count` rows has, with reals as they are written or in the fewest octets; 65,536 where they make no tree that the
-// reader accepts in 16,384 octets.
+// How many octets the message of the first `count` rows has, with reals as they are written or in the fewest octets; NO_SIZE where
+// they make no tree that the reader accepts in 16,384 octets.
 pub fn measure(rows: &[[u64; 50]], count: usize, root: u64, s: &[u8], least: bool) -> u64
     ensures { λ r. ⌜ lengthOf (spelling least) root (length (now (rows .entry))) count (itemsIn (now (s .entry)) (now (rows .entry)) count) ≡ r ⌝ }
 {
     if rows.len() < count {
-        return 65536;
+        return NO_SIZE;
     }
     if 256 < count {
-        return 65536;
+        return NO_SIZE;
     }
     if !glow_trees::is_root(root) {
-        return 65536;
+        return NO_SIZE;
     }
-    let m = items(rows, s, count, root, 0, 0, 62, 0, least);
-    if 16384 < m.size {
-        return 65536;
+    let m = items(rows, s, count, root, 0, 0, LEFT, 0, least);
+    if MESSAGE_LIMIT < m.size {
+        return NO_SIZE;
     }
     if m.next != count {
-        return 65536;
+        return NO_SIZE;
     }
     around(around(m.size))
 }
@@ -450,5 +488,5 @@ pub fn measure(rows: &[[u64; 50]], count: usize, root: u64, s: &[u8], least: boo
 pub fn is_tree(rows: &[[u64; 50]], count: usize, root: u64, s: &[u8]) -> bool
     ensures { λ r. ⌜ fits leastReal root (length (now (rows .entry))) count (itemsIn (now (s .entry)) (now (rows .entry)) count) ≡ r ⌝ }
 {
-    measure(rows, count, root, s, true) <= 16384
+    measure(rows, count, root, s, true) <= MESSAGE_LIMIT
 }

@@ -229,7 +229,7 @@ module _ (s : List ℕ) (p : ℕ) (o : Open) (k row above before what : ℕ) (h 
   told-contents : what ≡ 13 → memberAt s p o k row above before ≡ Contents after within held (k - 1)
   told-contents e =
       gone (omega arith)
-      ∙ inner-contents tag (k - 1) held what after (body-tag what (getD s (p + 2) 0) (p + 4) within e (h .suits .body e)) e
+      ∙ inner-contents tag (k - 1) held what after (body-tag what (getD s (p + 2) 0) (p + 4) within e (h .suits .contents e)) e
 
   told-items : 13 < what → memberAt s p o k row above before ≡ Items after (collectionOf what) within held (k - 1)
   told-items l =
@@ -290,13 +290,13 @@ next-is b row before c e r o a =
 
 module _ (what b n : ℕ) where
   pub suits-plain : what < 13 → b < 31 → n < 128 → Suits what b n
-  suits-plain l v h = record { plain = λ i. (v, h); body = λ e. absurd (omega arith); list = λ i. absurd (omega arith) }
+  suits-plain l v h = record { plain = λ i. (v, h); contents = λ e. absurd (omega arith); list = λ i. absurd (omega arith) }
 
   pub suits-body : what ≡ 13 → b ≡ 49 → Suits what b n
-  suits-body e v = record { plain = λ i. absurd (omega arith); body = λ i. v; list = λ i. absurd (omega arith) }
+  suits-body e v = record { plain = λ i. absurd (omega arith); contents = λ i. v; list = λ i. absurd (omega arith) }
 
   pub suits-list : 13 ≤ what → (what ≡ 13 → ⊥) → b ≡ pick (eqb what 14) 100 48 → Suits what b n
-  suits-list l e v = record { plain = λ i. absurd (omega arith); body = λ i. absurd (e i); list = λ i. v }
+  suits-list l e v = record { plain = λ i. absurd (omega arith); contents = λ i. absurd (e i); list = λ i. v }
 
 pub kind-is : (which item b : ℕ) {x kind : ℕ} → item ≡ 160 → b / 32 ≡ 3 → x ≡ b % 32 → kindIn which x ≡ kind → KindTold which item b kind
 kind-is which item b z c e k = record { zero = z; class = c; names = ap (kindIn which) (sym e) ∙ k }

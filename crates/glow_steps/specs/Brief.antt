@@ -10,7 +10,7 @@ use Rattle.ber_containers.specs.declared.Open.{Open}
 use Rattle.ber_containers.specs.declared.Tag.{Tag}
 use Rattle.ber_containers.specs.declared.Stands.the-variants.{Here}
 use Rattle.ber_containers.specs.Ends.{standingAt}
-use Rattle.glow_grammar.specs.Grammar.{ruleOf, kindIn}
+use Rattle.glow_grammar.specs.Grammar.{body, kids, context, application, universal, itemTag, set, sequence, elementCollection, octetOf, ruleOf, kindIn}
 use Rattle.glow_steps.specs.Members.{inOrder, again}
 
 -- the open container of a tag of the length n (128: indefinite), in a container that ends at `end`
@@ -42,9 +42,9 @@ pub record NextRule (b row before what : ℕ) : Type 0 where
 
 -- the first octet of a value that stands at such a member: a universal primitive tag, a set for contents, a collection's tag
 pub record Suits (what b n : ℕ) : Type 0 where
-  pub plain : what < 13 → (b < 31) × (n < 128)
-  pub body : what ≡ 13 → b ≡ 49
-  pub list : 13 < what → b ≡ pick (eqb what 14) 100 48
+  pub plain : what < body → (b < 31) × (n < 128)
+  pub contents : what ≡ body → b ≡ octetOf universal set
+  pub list : body < what → b ≡ pick (eqb what kids) (octetOf application elementCollection) (octetOf universal sequence)
 
 pub record MemberTold (s : List ℕ) (p end k row before what : ℕ) : Type 0 where
   pub room : 2 ≤ k
@@ -55,7 +55,7 @@ pub record MemberTold (s : List ℕ) (p end k row before what : ℕ) : Type 0 wh
 
 -- the octets of an item's tag and of an application tag that names a kind
 pub record KindTold (which item b kind : ℕ) : Type 0 where
-  pub zero : item ≡ 160
+  pub zero : item ≡ octetOf context itemTag
   pub class : b / 32 ≡ 3
   pub names : kindIn which (b % 32) ≡ kind
 

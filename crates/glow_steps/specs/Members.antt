@@ -19,6 +19,8 @@ use Rattle.ber_containers.specs.Passing.{passedAt}
 use Rattle.glow_rows.specs.declared.Cell.{Cell}
 use Rattle.glow_grammar.specs.declared.Leaf.{Leaf}
 use Rattle.glow_grammar.specs.declared.Leaf.the-variants.{Kept, Refused as Unfit}
+use Rattle.glow_grammar.specs.Grammar.{universal, application, context, itemTag, pastAll}
+use Rattle.glow_grammar.specs.Grammar as grammar
 use Rattle.glow_grammar.specs.Grammar.{body, ruleOf, required, isSet, innerClass, innerNumber, collectionOf, kindIn}
 use Rattle.glow_grammar.specs.Leaf.{leafAt}
 use Rattle.glow_steps.specs.declared.Member.{Member}
@@ -75,7 +77,7 @@ leafOf s t k g after c (Unfit number place) = NoMember (no number place)
 -- the value g of a member that holds one value: a universal primitive tag
 unfoldable pub plainAt : List ℕ → Tag → ℕ → Tag → ℕ → ℕ → ℕ → ℕ → Member
 plainAt s t k g what above after c =
-    pick (isTag g 0 0 (g .number))
+    pick (isTag g universal 0 (g .number))
     (leafOf s t k g after c (leafAt s (t .start) (g .number) (g .start) (g .inner .end - g .start) what above))
     (NoMember (no 33 (t .start)))
 
@@ -97,17 +99,17 @@ listedAt s t k what above after c = valueOf s t k what above after c (firstAt s 
 -- "Among members, a context tag we don't list is passed over"; a listed number without a value inside is a tag unexpected
 unfoldable pub ruledAt : List ℕ → ℕ → Tag → ℕ → ℕ → ℕ → ℕ → ℕ → Member
 ruledAt s p t k row above before what =
-    pick (eqb what 0) (overOf (afterOther row before (t .number)) (passedAt s t k))
+    pick (eqb what grammar.no) (overOf (afterOther row before (t .number)) (passedAt s t k))
     (pick (eqb (t .constructed) 1)
     (pick (again row before (t .number)) (NoMember (no 33 p))
     (listedAt s t k what above (afterListed row before (t .number)) (column row (t .number))))
     (NoMember (no 33 p)))
 
--- 2^28 is above every tag number
+-- at the container's end every required member is due
 abbrev pub memberOf : List ℕ → ℕ → ℕ → ℕ → ℕ → ℕ → Stands → Member
-memberOf s p k row above before (Ended next) = pick (due row before 268435456) (NoMember (no 33 p)) (Done next)
+memberOf s p k row above before (Ended next) = pick (due row before pastAll) (NoMember (no 33 p)) (Done next)
 memberOf s p k row above before (Here t) =
-    pick (eqb (t .class) 2)
+    pick (eqb (t .class) context)
     (pick (inOrder row before (t .number)) (ruledAt s p t (k - 1) row above before (ruleOf row (t .number))) (NoMember (no 33 p)))
     (NoMember (no 33 p))
 memberOf s p k row above before (Refused e) = NoMember e
@@ -118,7 +120,7 @@ memberAt s p o k row above before = memberOf s p k row above before (enterAt s p
 
 -- the kind of the tag g in a collection: 0 if it may not stand there
 unfoldable pub kindOf : ℕ → Tag → ℕ
-kindOf which g = pick (isTag g 1 1 (g .number)) (kindIn which (g .number)) 0
+kindOf which g = pick (isTag g application 1 (g .number)) (kindIn which (g .number)) 0
 
 abbrev pub elementOf : ℕ → Tag → ℕ → Found → Item
 elementOf which t k (Value g) =
@@ -129,7 +131,7 @@ elementOf which t k (NotFound e) = NoItem e
 abbrev pub itemOf : List ℕ → ℕ → ℕ → ℕ → Stands → Item
 itemOf s p k which (Ended next) = NoMore next
 itemOf s p k which (Here t) =
-    pick (isTag t 2 1 0) (elementOf which t (k - 1) (firstAt s (t .start) (t .inner) (k - 1))) (NoItem (no 33 p))
+    pick (isTag t context 1 itemTag) (elementOf which t (k - 1) (firstAt s (t .start) (t .inner) (k - 1))) (NoItem (no 33 p))
 itemOf s p k which (Refused e) = NoItem e
 
 -- what stands at p in a collection

@@ -6,6 +6,9 @@ use ber_containers::Open;
 use ber_containers::Stands;
 use ber_containers::Tag;
 use glow_grammar::Leaf;
+use glow_grammar::collections;
+use glow_grammar::rules;
+use glow_grammar::tags;
 use glow_rows::Cell;
 ghost use Prim.Native.Nat.{_+_, _-_, _≤_, _<_};
 ghost use mathlib.Core.Path.{_≡_};
@@ -149,7 +152,7 @@ fn plain(
     ensures { λ r. ⌜ MemberOnward (now (s .entry)) (t .start) r ⌝ }
 {
     let at = t.start;
-    if !ber_containers::is_tag(g, 0, 0, g.number) {
+    if !ber_containers::is_tag(g, tags::UNIVERSAL, 0, g.number) {
         return Member::Refused(No(33, at));
     }
     let start = g.start;
@@ -170,23 +173,35 @@ fn plain(
 fn inner_class(what: u64) -> u64
     ensures { λ r. ⌜ innerClass what ≡ r ⌝ }
 {
-    if what == 14 { 1 } else { 0 }
+    if what == rules::KIDS {
+        tags::APPLICATION
+    } else {
+        tags::UNIVERSAL
+    }
 }
 
 fn inner_number(what: u64) -> u64
     ensures { λ r. ⌜ innerNumber what ≡ r ⌝ }
 {
-    if what == 13 {
-        return 17;
+    if what == rules::BODY {
+        return tags::SET;
     }
-    if what == 14 { 4 } else { 16 }
+    if what == rules::KIDS {
+        tags::ELEMENT_COLLECTION
+    } else {
+        tags::SEQUENCE
+    }
 }
 
-// The collection that a member holds: 1 for children, 2 for connections.
+// The collection that a member holds: children or connections.
 pub fn collection_of(what: u64) -> u64
     ensures { λ r. ⌜ collectionOf what ≡ r ⌝ }
 {
-    if what == 14 { 1 } else { 2 }
+    if what == rules::KIDS {
+        collections::CHILDREN
+    } else {
+        collections::CONNECTIONS
+    }
 }
 
 // The value g of a member t that holds contents or a collection.
@@ -198,7 +213,7 @@ fn inner(t: Tag, k: usize, g: Tag, what: u64, after: u64) -> Member
     if !ber_containers::is_tag(g, inner_class(what), 1, inner_number(what)) {
         return Member::Refused(No(33, t.start));
     }
-    if what == 13 {
+    if what == rules::BODY {
         return Member::Contents(after, outer, g, k);
     }
     Member::Items(after, collection_of(what), outer, g, k)
@@ -212,7 +227,7 @@ fn listed(s: &[u8], t: Tag, k: usize, what: u64, above: usize, after: u64, c: us
     match ber_containers::first(s, t.start, t.inner, k) {
         Found::Refused(e) => Member::Refused(e),
         Found::Value(g) => {
-            if 13 <= what {
+            if rules::BODY <= what {
                 return inner(t, k, g, what, after);
             }
             plain(s, t, k, g, what, above, after, c)
@@ -228,7 +243,7 @@ fn ruled(s: &[u8], p: usize, t: Tag, k: usize, row: u64, above: usize, before: u
 {
     let n = t.number;
     let what = glow_grammar::rule_of(row, n);
-    if what == 0 {
+    if what == rules::NONE {
         let after = after_other(row, before, n);
         match ber_containers::passed(s, t, k) {
             Onto::Refused(e) => {
@@ -263,62 +278,64 @@ fn wide(x: u8) -> u64
     x as u64
 }
 
-// What stands at the member of a constructed context tag b, if that may come now; 0 where that is for the general turn to say.
+// What stands at the member of a constructed context tag b, if that may come now; NONE where that is for the general turn to say.
 fn next_rule(b: u8, row: u64, before: u64) -> u64
     ensures { λ r. ⌜ ((r ≡ 0 → ⊥) → NextRule b row before r) ⌝ }
 {
     if b / 32 != 5 {
-        return 0;
+        return rules::NONE;
     }
     let n = wide(b % 32);
     let what = glow_grammar::rule_of(row, n);
-    if what == 0 {
-        return 0;
+    if what == rules::NONE {
+        return rules::NONE;
     }
     if !in_order(row, before, n) {
-        return 0;
+        return rules::NONE;
     }
     if is_again(row, before, n) {
-        return 0;
+        return rules::NONE;
     }
     what
 }
 
-// Whether the value's tag b, of the length n, is what stands at the member: a universal primitive tag, the contents' set, or the collection's own.
+// Whether the value's tag b, of the length n, is what stands at the member: a universal primitive tag, the contents' set,
+// or the collection's own.
 fn suits(what: u64, b: u8, n: usize) -> bool
     ensures { λ r. ⌜ (r ≡ true → Suits what b n) ⌝ }
 {
-    if what < 13 {
+    if what < rules::BODY {
         if b < 31 {
             return n < 128;
         }
         return false;
     }
-    if what == 13 {
-        return b == 49;
+    if what == rules::BODY {
+        return b == tags::SET_OCTET;
     }
-    if what == 14 {
-        return b == 100;
+    if what == rules::KIDS {
+        return b == tags::ELEMENT_COLLECTION_OCTET;
     }
-    b == 48
+    b == tags::SEQUENCE_OCTET
 }
 
-// What stands at a member of the tag b, if that may come now and its value's tag is of that kind; 0 where that is for the general turn to say.
+// What stands at a member of the tag b, if that may come now and its value's tag is of that kind;
+// NONE where that is for the general turn to say.
 fn rule_by(b: u8, value: u8, n: usize, row: u64, before: u64) -> u64
     ensures { λ r. ⌜ ((r ≡ 0 → ⊥) → (NextRule b row before r) × (Suits r value n)) ⌝ }
 {
     let what = next_rule(b, row, before);
-    if what == 0 {
-        return 0;
+    if what == rules::NONE {
+        return rules::NONE;
     }
     if suits(what, value, n) {
         return what;
     }
-    0
+    rules::NONE
 }
 
-// The length of the value inside the tag at p, of the length l (128: indefinite), if its tag and length take one octet each and it fills the tag; 128 where
-// 00 00 ends both, 129 where that is for the general turn to say.
+// The length of the value inside the tag at p, of the length l (128: indefinite), if its tag and length take one octet each
+// and it fills the tag; 128 where 00 00 ends both, 129 where that is for the general turn to say.
 fn nested(s: &[u8], p: usize, end: usize, l: usize) -> usize
     requires { ⌜ (l ≤ 128) × (Short (now s) p end l) ⌝ }
     ensures { λ r. ⌜ (r < 129 → Nested (now (s .entry)) p end r) ⌝ }
@@ -340,20 +357,21 @@ fn nested(s: &[u8], p: usize, end: usize, l: usize) -> usize
     n
 }
 
-// What stands at a member at p, if tags and lengths take one octet each and the value fills the member; 0 where that is for the general turn to say.
+// What stands at a member at p, if tags and lengths take one octet each and the value fills the member;
+// NONE where that is for the general turn to say.
 pub fn rule_at(s: &[u8], p: usize, end: usize, k: usize, row: u64, before: u64) -> u64
     ensures { λ r. ⌜ ((r ≡ 0 → ⊥) → MemberTold (now (s .entry)) p end k row before r) ⌝ }
 {
     if k < 2 {
-        return 0;
+        return rules::NONE;
     }
     let l = ber_containers::short(s, p, end);
     if 128 < l {
-        return 0;
+        return rules::NONE;
     }
     let n = nested(s, p, end, l);
     if 128 < n {
-        return 0;
+        return rules::NONE;
     }
     rule_by(s[p], s[p + 2], n, row, before)
 }
@@ -374,13 +392,13 @@ pub fn member_at(
     match ber_containers::entering(s, p, o, k) {
         Stands::Refused(e) => Member::Refused(e),
         Stands::Ended(next) => {
-            if is_due(row, before, 268435456) {
+            if is_due(row, before, tags::PAST_ALL) {
                 return Member::Refused(No(33, p));
             }
             Member::Done(next)
         }
         Stands::Here(t) => {
-            if t.class != 2 {
+            if t.class != tags::CONTEXT {
                 return Member::Refused(No(33, p));
             }
             if in_order(row, before, t.number) {
@@ -394,7 +412,7 @@ pub fn member_at(
 fn kind_of(which: u64, g: Tag) -> u64
     ensures { λ r. ⌜ kindOf which g ≡ r ⌝ }
 {
-    if ber_containers::is_tag(g, 1, 1, g.number) {
+    if ber_containers::is_tag(g, tags::APPLICATION, 1, g.number) {
         return glow_grammar::kind_in(which, g.number);
     }
     0
@@ -404,7 +422,7 @@ fn kind_of(which: u64, g: Tag) -> u64
 fn kind_by(which: u64, item: u8, b: u8) -> u64
     ensures { λ r. ⌜ ((r ≡ 0 → ⊥) → KindTold which item b r) ⌝ }
 {
-    if item != 160 {
+    if item != tags::ITEM_OCTET {
         return 0;
     }
     if b / 32 != 3 {
@@ -440,7 +458,7 @@ pub fn item_at(s: &[u8], p: usize, o: Open, k: usize, which: u64) -> Item
         Stands::Refused(e) => Item::Refused(e),
         Stands::Ended(next) => Item::Done(next),
         Stands::Here(t) => {
-            if !ber_containers::is_tag(t, 2, 1, 0) {
+            if !ber_containers::is_tag(t, tags::CONTEXT, 1, tags::ITEM) {
                 return Item::Refused(No(33, p));
             }
             let start = t.start;
@@ -463,19 +481,23 @@ pub fn item_at(s: &[u8], p: usize, o: Open, k: usize, which: u64) -> Item
 fn root_number(number: u64) -> u64
     ensures { λ r. ⌜ rootOf number ≡ r ⌝ }
 {
-    if number == 11 {
-        return 0;
+    if number == tags::ROOT_ELEMENT_COLLECTION {
+        return collections::ROOT_ELEMENTS;
     }
-    if number == 5 { 3 } else { 4 }
+    if number == tags::STREAM_COLLECTION {
+        collections::STREAMS
+    } else {
+        collections::NO_ROOT
+    }
 }
 
 fn root_kind(g: Tag) -> u64
     ensures { λ r. ⌜ rootKind g ≡ r ⌝ }
 {
-    if ber_containers::is_tag(g, 1, 1, g.number) {
+    if ber_containers::is_tag(g, tags::APPLICATION, 1, g.number) {
         return root_number(g.number);
     }
-    4
+    collections::NO_ROOT
 }
 
 // Root and the collection in it.
@@ -486,20 +508,20 @@ pub fn root_of(s: &[u8]) -> Top
         definite: 1,
         end: 18446744073709551615,
     };
-    match ber_containers::entering(s, 0, all, 64) {
+    match ber_containers::entering(s, 0, all, collections::DEPTH) {
         Stands::Refused(e) => Top::Refused(e),
         Stands::Ended(next) => Top::Refused(No(33, 0)),
         Stands::Here(t) => {
-            if !ber_containers::is_tag(t, 1, 1, 0) {
+            if !ber_containers::is_tag(t, tags::APPLICATION, 1, tags::ROOT) {
                 return Top::Refused(No(33, 0));
             }
             let start = t.start;
             let outer = t.inner;
-            match ber_containers::first(s, start, outer, 63) {
+            match ber_containers::first(s, start, outer, collections::IN_ROOT) {
                 Found::Refused(e) => Top::Refused(e),
                 Found::Value(g) => {
                     let which = root_kind(g);
-                    if which == 4 {
+                    if which == collections::NO_ROOT {
                         return Top::Refused(No(33, start));
                     }
                     Top::Root(which, outer, g)

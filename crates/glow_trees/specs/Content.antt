@@ -7,6 +7,7 @@ use lib.Dec.{leb, ltb, eqb}
 use lib.IntN.{ℤ, pos, negsuc}
 use Rattle.ber_integers.specs.Digits.{pick}
 use Rattle.glow_rows.specs.declared.Cell.{Cell}
+use Rattle.glow_rows.specs.Cell.{boolean, integer, real, octets, text, numbers}
 use Rattle.glow_rows.specs.Entry.{Entry, Entries}
 
 -- the universal tag number of a value, and what it holds
@@ -17,10 +18,10 @@ pub data Content : Type 0 where
   wrong : Content  -- words that are no member's
 
 abbrev pub isPart : ℕ → Bool
-isPart kind = pick (eqb kind 4) true (pick (eqb kind 12) true (eqb kind 13))
+isPart kind = pick (eqb kind octets) true (pick (eqb kind text) true (eqb kind numbers))
 
 abbrev pub isWord : ℕ → Bool
-isWord kind = pick (eqb kind 1) true (pick (eqb kind 2) true (eqb kind 9))
+isWord kind = pick (eqb kind boolean) true (pick (eqb kind integer) true (eqb kind real))
 
 -- What a cell says, with the message beside it: "a part that does not lie in the message makes no tree".
 unfoldable pub contentOf : List ℕ → Cell → Content

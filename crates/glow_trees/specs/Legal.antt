@@ -9,7 +9,9 @@ use lib.Ieee.{Float, binary64}
 use Rattle.ber_integers.specs.Digits.{pick}
 use Rattle.ber_reals.specs.Write.{Form, unwritten, octets, form}
 use Rattle.ber_identifiers.specs.Identifier.{Arcs, bad, over, numbers, arcs}
+use Rattle.glow_rows.specs.Cell as universal
 use Rattle.glow_grammar.specs.Grammar.{any, name, step, path, kids, links, ruleOf, required, children, connections}
+use Rattle.glow_grammar.specs.Grammar.{rootElements, streams, kidsMember, linksMember, inCollection}
 use Rattle.glow_grammar.specs.Grammar as grammar
 use Rattle.glow_grammar.specs.Leaf.{both, expects, inRange, isName, isPath}
 use Rattle.glow_trees.specs.Content.{Content, nothing, word, bytes, wrong, isPart, isWord, intOf}
@@ -32,7 +34,7 @@ isReal w = pick (Ieee.nanBits binary64 w) false (isFormed (form (Ieee.ofBits bin
 -- "Numbers are 1 to 2,147,483,647; .." by the member's rule
 unfoldable pub wordSuits : ℕ → ℕ → ℕ → Bool
 wordSuits what kind w =
-    pick (eqb kind 1) (leb w 1) (pick (eqb kind 2) (pick (eqb what any) true (inRange what (intOf w))) (isReal w))
+    pick (eqb kind universal.boolean) (leb w 1) (pick (eqb kind universal.integer) (pick (eqb what any) true (inRange what (intOf w))) (isReal w))
 
 abbrev pub pathSuits : Arcs → Bool
 pathSuits bad = false
@@ -47,15 +49,15 @@ listSuits (numbers ns) = true
 -- "Identifiers start with a letter or "_" and hold no "/""; "A full path has 1 to 16 numbers"
 unfoldable pub partSuits : ℕ → ℕ → List ℕ → Bool
 partSuits what kind bs =
-    pick (eqb kind 13) (pick (eqb what path) (pathSuits (arcs bs 0 (length bs))) (listSuits (arcs bs 0 (length bs))))
+    pick (eqb kind universal.numbers) (pick (eqb what path) (pathSuits (arcs bs 0 (length bs))) (listSuits (arcs bs 0 (length bs))))
     (pick (eqb what name) (isName bs) true)
 
 -- whether a member may hold this, by its rule: 0 is no member; words are of 64 bits
 unfoldable pub suits : ℕ → Content → Bool
 suits what nothing = true
 suits what (word kind w) =
-    pick (eqb what 0) false (both (isWord kind) (both (ltb w 18446744073709551616) (both (expects what kind) (wordSuits what kind w))))
-suits what (bytes kind bs) = pick (eqb what 0) false (both (isPart kind) (both (expects what kind) (partSuits what kind bs)))
+    pick (eqb what grammar.no) false (both (isWord kind) (both (ltb w 18446744073709551616) (both (expects what kind) (wordSuits what kind w))))
+suits what (bytes kind bs) = pick (eqb what grammar.no) false (both (isPart kind) (both (expects what kind) (partSuits what kind bs)))
 suits what wrong = false
 
 -- the members from cell c on
@@ -117,14 +119,14 @@ legal which k above (tree kind members kids′ links′ rest) =
     (both (complete (required kind) members)
     (both (leb (pathAfter kind above members) 16)
     (both (pick (empty (inner kind members)) true (leb 5 k))
-    (both (pick (eqb (ruleOf kind 2) kids) (legal children (k - 4) (pathAfter kind above members) kids′) (isNone kids′))
-    (both (pick (eqb (ruleOf kind 5) links) (legal connections (k - 4) (pathAfter kind above members) links′) (isNone links′))
+    (both (pick (eqb (ruleOf kind kidsMember) kids) (legal children (k - 4) (pathAfter kind above members) kids′) (isNone kids′))
+    (both (pick (eqb (ruleOf kind linksMember) links) (legal connections (k - 4) (pathAfter kind above members) links′) (isNone links′))
     (legal which k above rest)))))))))
 
--- Root's collection: 0 elements, 3 streams
+-- Root's collection: elements or streams
 abbrev pub isRoot : ℕ → Bool
-isRoot root = pick (eqb root 0) true (eqb root 3)
+isRoot root = pick (eqb root rootElements) true (eqb root streams)
 
 -- Root, its collection and what stands there
 unfoldable pub legalRoot : ℕ → Trees → Bool
-legalRoot root t = both (isRoot root) (legal root 62 0 t)
+legalRoot root t = both (isRoot root) (legal root inCollection 0 t)

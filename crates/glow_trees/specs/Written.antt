@@ -11,7 +11,10 @@ use Rattle.ber_integers.specs.Digits.{pick}
 use Rattle.ber_integers.specs.Integer.{shortest}
 use Rattle.ber_reals.specs.Write.{Form, unwritten, octets, form}
 use Rattle.ber_tags.specs.Write.{tagOctets, lengthOctets}
-use Rattle.glow_grammar.specs.Grammar.{applications, contentsOf}
+use Rattle.glow_rows.specs.Cell as kinds
+use Rattle.glow_grammar.specs.Grammar.{universal, application, context, rootTag, itemTag, contentsMember, kidsMember, linksMember}
+use Rattle.glow_grammar.specs.Grammar.{set, sequence, elementCollection, applications, contentsOf}
+unfoldable pub use Rattle.glow_grammar.specs.Grammar.{rootNumber}
 use Rattle.glow_trees.specs.Content.{Content, nothing, word, bytes, wrong, intOf}
 use Rattle.glow_trees.specs.Trees.{Trees, none, tree}
 use Rattle.glow_trees.specs.Legal.{inner}
@@ -22,17 +25,17 @@ tagged class constructed number xs = tagOctets class constructed number ++ (leng
 
 -- an outer tag of a context number around one value
 abbrev pub outer : ℕ → ℕ → Bool → ℕ → List ℕ → List ℕ
-outer n class constructed number xs = tagged 2 true n (tagged class constructed number xs)
+outer n class constructed number xs = tagged context true n (tagged class constructed number xs)
 
 -- "non-zero is true; written FF"; integers in fewest octets
 unfoldable pub spelled : (ℕ → List ℕ) → ℕ → ℕ → List ℕ
-spelled real kind w = pick (eqb kind 1) (pick (eqb w 0) (0 ∷ []) (255 ∷ [])) (pick (eqb kind 2) (shortest (intOf w)) (real w))
+spelled real kind w = pick (eqb kind kinds.boolean) (pick (eqb w 0) (0 ∷ []) (255 ∷ [])) (pick (eqb kind kinds.integer) (shortest (intOf w)) (real w))
 
 -- a member by its context number; an absent one is left out
 unfoldable pub memberOctets : (ℕ → List ℕ) → ℕ → Content → List ℕ
 memberOctets real n nothing = []
-memberOctets real n (word kind w) = outer n 0 false kind (spelled real kind w)
-memberOctets real n (bytes kind bs) = outer n 0 false kind bs
+memberOctets real n (word kind w) = outer n universal false kind (spelled real kind w)
+memberOctets real n (bytes kind bs) = outer n universal false kind bs
 memberOctets real n wrong = []
 
 -- members from the context number n on, ascending
@@ -54,18 +57,14 @@ own kind (x ∷ xs) = pick (eqb (contentsOf kind) 0) (x ∷ xs) (x ∷ [])
 unfoldable pub treesOctets : (ℕ → List ℕ) → Trees → List ℕ
 treesOctets real none = []
 treesOctets real (tree kind members kids links rest) =
-    outer 0 1 true (getD applications kind 0)
+    outer itemTag application true (getD applications kind 0)
     (membersOctets real 0 (own kind members)
-    ++ (wrapped 1 0 17 (membersOctets real 0 (inner kind members))
-    ++ (wrapped 2 1 4 (treesOctets real kids) ++ wrapped 5 0 16 (treesOctets real links))))
+    ++ (wrapped contentsMember universal set (membersOctets real 0 (inner kind members))
+    ++ (wrapped kidsMember application elementCollection (treesOctets real kids) ++ wrapped linksMember universal sequence (treesOctets real links))))
     ++ treesOctets real rest
 
--- "Root 0, .. StreamCollection 5, .. RootElementCollection 11"
-unfoldable pub rootNumber : ℕ → ℕ
-rootNumber root = pick (eqb root 0) 11 5
-
 unfoldable pub messageOctets : (ℕ → List ℕ) → ℕ → Trees → List ℕ
-messageOctets real root t = tagged 1 true 0 (tagged 1 true (rootNumber root) (treesOctets real t))
+messageOctets real root t = tagged application true rootTag (tagged application true (rootNumber root) (treesOctets real t))
 
 -- "Written with scale 0, odd mantissa, fewest octets."
 abbrev pub formOctets : Form → List ℕ

@@ -134,7 +134,8 @@ module _ {All : Out → Type 0} {base : Rows} {rows : Rows} {count : ℕ} where
 
     module _ {kind j : ℕ} {outer : Open} {g : Tag} {rows′ : Rows} {v : Walked}
         (e : itemAt s p o k which ≡ Element kind outer g j) (w : p < length s) (l : p < g .start)
-        (f : FillsIn s outer j (MembersGive s (j - 1) (g .inner) kind (length (h .es)) above (g .start) 0 (h .es ++ (blank kind parent ∷ []))) base rows′ v) where
+        (f : FillsIn s outer j (MembersGive s (j - 1) (g .inner) kind (length (h .es)) above (g .start) 0
+        (h .es ++ (blank kind parent ∷ []))) base rows′ v) where
       item-held-element-no : {z : No} → v ≡ NotRead z → Fills All base rows′ (NotRead z)
       item-held-element-no {z} q = record {
         given = out (Stopped z) (f .given .entries);
@@ -191,18 +192,26 @@ pub onward-read : (before above : ℕ) {w : Walked} {next n : ℕ} {r : Turn} �
 unfolding onwardOf
 onward-read before above q e = rw q e
 
-pub ended-due : (row : ℕ) (at : Cursor) (next : ℕ) → due row (at .before) 268435456 ≡ true → endedOf row at next ≡ NoTurn (no 33 (at .place))
+pub ended-due : (row : ℕ) (at : Cursor) (next : ℕ) → due row (at .before) 268435456 ≡ true → endedOf row at next ≡ NotRead (no 33 (at .place))
 unfolding endedOf
 ended-due row at next d = rw d
 
-pub ended-read : (row : ℕ) (at : Cursor) (next : ℕ) → due row (at .before) 268435456 ≡ false → endedOf row at next ≡ Ended next (at .count)
+pub ended-read : (row : ℕ) (at : Cursor) (next : ℕ) → due row (at .before) 268435456 ≡ false → endedOf row at next ≡ Read next (at .count)
 unfolding endedOf
 ended-read row at next d = rw d
+
+pub ended-onward : (row : ℕ) (at : Cursor) (next from n : ℕ) {r : Walked} → endedOf row at next ≡ r → from ≤ at .place → at .place ≤ next
+    → at .count ≤ at .place → n ≤ at .count → WalkedOnward from n r
+unfolding endedOf
+ended-onward row at next from n e l h m w =
+    subst (WalkedOnward from n) e
+    (pick-by (WalkedOnward from n) (due row (at .before) 268435456) (λ d. tt) (λ d. (omega arith, (omega arith, omega arith))))
 
 module _ (s : List ℕ) (k : ℕ) (o : Open) (row me : ℕ) (at : Cursor) {rows : Rows} where
   pub members-on : {All : Out → Type 0} {base rows′ : Rows} {r : Turn} {c : Cursor} → Held All (MembersLeft s k o row me at) base rows (at .count)
       → MembersTurn s k o row me at rows rows′ r → r ≡ On c → Held All (MembersLeft s k o row me c) base rows′ (c .count)
-  members-on {rows′ = rows′} {c = c} h t e = then-on (MembersLeft s k o row me) at h {c = c} (subst (Turns (MembersLeft s k o row me) at rows rows′) e (t .turned))
+  members-on {rows′ = rows′} {c = c} h t e = then-on (MembersLeft s k o row me) at h {c = c}
+      (subst (Turns (MembersLeft s k o row me) at rows rows′) e (t .turned))
 
   pub members-end : {All : Out → Type 0} {base rows′ : Rows} {r : Turn} {next n : ℕ} → Held All (MembersLeft s k o row me at) base rows (at .count)
       → MembersTurn s k o row me at rows rows′ r → r ≡ Ended next n → Fills All base rows′ (Read next n)
@@ -218,29 +227,32 @@ module _ (s : List ℕ) (k : ℕ) (o : Open) (row me : ℕ) (at : Cursor) {rows 
 
   pub turn-done : {next : ℕ} → memberAt s (at .place) o k row (at .above) (at .before) ≡ Done next
       → MembersTurn s k o row me at rows rows (Ended next (at .count))
-  turn-done q = record { turned = λ es base e h. held-done s k o row me (at .above) (at .place) (at .before) (here (MembersLeft s k o row me) at es base e h) q }
+  turn-done q = record {
+    turned = λ es base e h. held-done s k o row me (at .above) (at .place) (at .before)
+        (here (MembersLeft s k o row me) at es base e h) q;
+  }
 
   pub turn-no : {x : No} → memberAt s (at .place) o k row (at .above) (at .before) ≡ NoMember x → MembersTurn s k o row me at rows rows (NoTurn x)
   turn-no q = record { turned = λ es base e h. held-no s k o row me (at .above) (at .place) (at .before) (here (MembersLeft s k o row me) at es base e h) q }
 
-  pub turn-ended : {next : ℕ} {r : Turn} → enterAt s (at .place) o k ≡ HasEnded next → at .place ≤ next → at .count ≤ at .place
-      → endedOf row at next ≡ r → MembersTurn s k o row me at rows rows r × TurnOnward s (at .place) (at .count) r
+  pub members-ended : {All : Out → Type 0} {base : Rows} {next : ℕ} {r : Walked} → Held All (MembersLeft s k o row me at) base rows (at .count)
+      → enterAt s (at .place) o k ≡ HasEnded next → endedOf row at next ≡ r → Fills All base rows r
   unfolding endedOf
-  turn-ended {next} {r} q l m e =
-      subst P e
-      (pick-by P (due row (at .before) 268435456)
-      (λ d. (turn-no (member-due s (at .place) o k row (at .above) (at .before) q d), tt))
-      (λ d. (turn-done (member-done s (at .place) o k row (at .above) (at .before) q d), (l, (omega arith, omega arith)))))
-    where
-      P : Turn → Type 0
-      P y = MembersTurn s k o row me at rows rows y × TurnOnward s (at .place) (at .count) y
+  members-ended {All} {base} h q e =
+      subst (Fills All base rows) e
+      (pick-by (Fills All base rows) (due row (at .before) 268435456)
+      (λ d. held-no s k o row me (at .above) (at .place) (at .before) h (member-due s (at .place) o k row (at .above) (at .before) q d))
+      (λ d. held-done s k o row me (at .above) (at .place) (at .before) h (member-done s (at .place) o k row (at .above) (at .before) q d)))
 
   pub turn-over : {after next : ℕ} {r : Turn} → memberAt s (at .place) o k row (at .above) (at .before) ≡ Over after next → at .place < length s
       → at .place < next → at .count ≤ at .place → On (cursor next after (at .above) (at .count)) ≡ r
       → MembersTurn s k o row me at rows rows r × TurnOnward s (at .place) (at .count) r
   turn-over q w l m x = (
     subst (MembersTurn s k o row me at rows rows) x
-        (record { turned = λ es base e h. held-over s k o row me (at .above) (at .place) (at .before) (here (MembersLeft s k o row me) at es base e h) q w l }),
+        (record {
+          turned = λ es base e h. held-over s k o row me (at .above) (at .place) (at .before)
+              (here (MembersLeft s k o row me) at es base e h) q w l;
+        }),
     on-onward s (at .place) (at .count) x w l m,
   )
 
@@ -250,7 +262,10 @@ module _ (s : List ℕ) (k : ℕ) (o : Open) (row me : ℕ) (at : Cursor) {rows 
       → MembersTurn s k o row me at rows rows′ r × TurnOnward s (at .place) (at .count) r
   turn-leaf {rows′ = rows′} q w l m b d x = (
     subst (MembersTurn s k o row me at rows rows′) x
-        (record { turned = λ es base e h. held-leaf s k o row me (at .above) (at .place) (at .before) (here (MembersLeft s k o row me) at es base e h) q w l m d }),
+        (record {
+          turned = λ es base e h. held-leaf s k o row me (at .above) (at .place) (at .before)
+              (here (MembersLeft s k o row me) at es base e h) q w l m d;
+        }),
     on-onward s (at .place) (at .count) x w l b,
   )
 
@@ -266,7 +281,8 @@ module _ (s : List ℕ) (k : ℕ) (o : Open) (row me : ℕ) (at : Cursor) {rows 
     )
       where
         go : (v : Walked)
-            → ((es : Entries) (base : Rows) → length es ≡ at .count → rows ≡ overlay es base → FillsIn s outer j (MembersGive s (j - 1) (g .inner) (contentsOf row) me (at .above) (g .start) 0 es) base rows′ v)
+            → ((es : Entries) (base : Rows) → length es ≡ at .count → rows ≡ overlay es base
+            → FillsIn s outer j (MembersGive s (j - 1) (g .inner) (contentsOf row) me (at .above) (g .start) 0 es) base rows′ v)
             → WalkedOnward (g .start) (at .count) v → Turns (MembersLeft s k o row me) at rows rows′ (onwardOf after (at .above) v)
         go (Read next n) f u es base e h =
             held-contents s k o row me (at .above) (at .place) (at .before) (here (MembersLeft s k o row me) at es base e h) q w l (f es base e h) refl
@@ -286,7 +302,8 @@ module _ (s : List ℕ) (k : ℕ) (o : Open) (row me : ℕ) (at : Cursor) {rows 
     )
       where
         go : (v : Walked)
-            → ((es : Entries) (base : Rows) → length es ≡ at .count → rows ≡ overlay es base → FillsIn s outer j (ItemsGive s (j - 1) (g .inner) which (me + 1) (at .above) (g .start) es) base rows′ v)
+            → ((es : Entries) (base : Rows) → length es ≡ at .count → rows ≡ overlay es base
+            → FillsIn s outer j (ItemsGive s (j - 1) (g .inner) which (me + 1) (at .above) (g .start) es) base rows′ v)
             → WalkedOnward (g .start) (at .count) v → Turns (MembersLeft s k o row me) at rows rows′ (onwardOf after (at .above) v)
         go (Read next n) f u es base e h =
             held-list s k o row me (at .above) (at .place) (at .before) (here (MembersLeft s k o row me) at es base e h) q w l (f es base e h) refl
@@ -301,7 +318,8 @@ fewer p n (NotRead e) h = tt
 module _ (s : List ℕ) (k : ℕ) (o : Open) (which parent : ℕ) (at : Cursor) {rows : Rows} where
   pub items-on : {All : Out → Type 0} {base rows′ : Rows} {r : Turn} {c : Cursor} → Held All (ItemsLeft s k o which parent at) base rows (at .count)
       → ItemsTurn s k o which parent at rows rows′ r → r ≡ On c → Held All (ItemsLeft s k o which parent c) base rows′ (c .count)
-  items-on {rows′ = rows′} {c = c} h t e = then-on (ItemsLeft s k o which parent) at h {c = c} (subst (Turns (ItemsLeft s k o which parent) at rows rows′) e (t .turned))
+  items-on {rows′ = rows′} {c = c} h t e = then-on (ItemsLeft s k o which parent) at h {c = c}
+      (subst (Turns (ItemsLeft s k o which parent) at rows rows′) e (t .turned))
 
   pub items-end : {All : Out → Type 0} {base rows′ : Rows} {r : Turn} {next n : ℕ} → Held All (ItemsLeft s k o which parent at) base rows (at .count)
       → ItemsTurn s k o which parent at rows rows′ r → r ≡ Ended next n → Fills All base rows′ (Read next n)
@@ -316,10 +334,16 @@ module _ (s : List ℕ) (k : ℕ) (o : Open) (which parent : ℕ) (at : Cursor) 
       (subst (Turns (ItemsLeft s k o which parent) at rows rows′) e (t .turned) (h .es) base (h .counts) (h .holds))
 
   pub item-turn-done : {next : ℕ} → itemAt s (at .place) o k which ≡ NoMore next → ItemsTurn s k o which parent at rows rows (Ended next (at .count))
-  item-turn-done q = record { turned = λ es base e h. item-held-done s k o which parent (at .above) (at .place) (here (ItemsLeft s k o which parent) at es base e h) q }
+  item-turn-done q = record {
+    turned = λ es base e h. item-held-done s k o which parent (at .above) (at .place)
+        (here (ItemsLeft s k o which parent) at es base e h) q;
+  }
 
   pub item-turn-no : {x : No} → itemAt s (at .place) o k which ≡ NoItem x → ItemsTurn s k o which parent at rows rows (NoTurn x)
-  item-turn-no q = record { turned = λ es base e h. item-held-no s k o which parent (at .above) (at .place) (here (ItemsLeft s k o which parent) at es base e h) q }
+  item-turn-no q = record {
+    turned = λ es base e h. item-held-no s k o which parent (at .above) (at .place)
+        (here (ItemsLeft s k o which parent) at es base e h) q;
+  }
 
   module _ {kind j : ℕ} {outer : Open} {g : Tag} {rows′ : Rows} {v : Walked} {r : Turn}
       (q : itemAt s (at .place) o k which ≡ Element kind outer g j) (w : at .place < length s) (l : at .place < g .start)

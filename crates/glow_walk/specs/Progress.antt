@@ -9,7 +9,7 @@ use Rattle.ber_containers.specs.declared.Open.{Open}
 use Rattle.ber_containers.specs.declared.Onto.{Onto}
 use Rattle.ber_containers.specs.declared.Onto.the-variants.{Next, Refused as Stopped}
 use Rattle.glow_rows.specs.Entry.{Entries, Rows, blank, overlay}
-use Rattle.glow_grammar.specs.Grammar.{body, contentsOf}
+use Rattle.glow_grammar.specs.Grammar.{body, contentsOf, pastAll}
 use Rattle.glow_steps.specs.Members.{due}
 use Rattle.glow_steps.specs.Brief.{MemberTold}
 use Rattle.glow_walk.specs.declared.Cursor.{Cursor}
@@ -77,8 +77,8 @@ onwardOf before above (Read next count) = On (cursor next before above count)
 onwardOf before above (NotRead e) = NoTurn e
 
 -- at the end of a row's members
-unfoldable pub endedOf : ℕ → Cursor → ℕ → Turn
-endedOf row at next = pick (due row (at .before) 268435456) (NoTurn (no 33 (at .place))) (Ended next (at .count))
+unfoldable pub endedOf : ℕ → Cursor → ℕ → Walked
+endedOf row at next = pick (due row (at .before) pastAll) (NotRead (no 33 (at .place))) (Read next (at .count))
 
 -- what is left from a cursor on, among the members of a row and in a collection
 abbrev pub MembersLeft : List ℕ → ℕ → Open → ℕ → ℕ → Cursor → Entries → Out → Type 0
@@ -144,8 +144,8 @@ pub record LeafTurn (s : List ℕ) (row me : ℕ) (at : Cursor) (what : ℕ) (ro
 
 -- a member that holds contents or a collection, told at once
 pub record NestedRoom (s : List ℕ) (k : ℕ) (o : Open) (row me : ℕ) (at : Cursor) (what : ℕ) : Type 0 where
-  pub told : MemberTold s (at .place) (o .end) k row (at .before) what
-  pub holds : body ≤ what
+  pub told : (what ≡ 0 → ⊥) → MemberTold s (at .place) (o .end) k row (at .before) what
+  pub holds : (what ≡ 0 → ⊥) → body ≤ what
   pub mine : me < at .count
   pub enough : at .count ≤ at .place
 

@@ -7,6 +7,7 @@ use Rattle.ber_integers.specs.Digits.{pick}
 use Rattle.ber_containers.specs.declared.Onto.{Onto}
 use Rattle.ber_containers.specs.declared.Onto.the-variants.{Next, Refused as Stopped}
 use Rattle.ber_containers.specs.Ends.{no}
+use Rattle.glow_grammar.specs.Grammar.{inRoot, inCollection}
 use Rattle.glow_steps.specs.declared.Top.{Top}
 use Rattle.glow_steps.specs.declared.Top.the-variants.{Root, Refused as NoRoot}
 use Rattle.glow_steps.specs.Root.{topAt}
@@ -24,8 +25,8 @@ pub record Walk : Type 0 where
 
 abbrev pub walkOf : List ℕ → Top → Walk
 walkOf s (Root which outer g) =
-    let x : Out = itemsBy (suc (length s)) s 62 (g .inner) which 0 0 (g .start) [] in
-    record { which = which; out = out (finished s (closed s outer 63 (x .answer))) (x .entries) }
+    let x : Out = itemsBy (suc (length s)) s inCollection (g .inner) which 0 0 (g .start) [] in
+    record { which = which; out = out (finished s (closed s outer inRoot (x .answer))) (x .entries) }
 walkOf s (NoRoot e) = record { which = 0; out = out (Stopped e) [] }
 
 unfoldable pub walk : List ℕ → Walk

@@ -3,12 +3,18 @@ use ber_containers::No;
 use ber_containers::Onto;
 use ber_containers::Open;
 use glow_grammar::Leaf;
+use glow_grammar::collections;
+use glow_grammar::rules;
+use glow_grammar::tags;
 use glow_rows::Cell;
+use glow_rows::tags::TEXT;
 use glow_steps::Item;
 use glow_steps::Member;
 use glow_steps::Top;
 ghost use Prim.Native.Nat.{_+_, _≤_, _<_};
 ghost use mathlib.Core.Path.{_≡_};
+ghost use mathlib.Core.Bool.{true, false};
+ghost use Rattle.glow_grammar.specs.Grammar.{body};
 ghost use Rattle.glow_grammar.specs.Leaf.{cellBy};
 ghost use Rattle.glow_steps.specs.Brief.{openedBy};
 ghost use Rattle.glow_walk.specs.Progress.{WalkedOnward, TurnOnward, Keeps, Closes, Finishes, cursor, onwardOf, endedOf, LeafRoom, LeafTurn};
@@ -26,7 +32,8 @@ pub enum Whole {
     Refused(No),
 }
 
-// Where the reader stands in a container: the place, what came before it, the count of the path's numbers and that of the entries so far.
+// Where the reader stands in a container: the place, what came before it, the count of the path's numbers and that of the
+// entries so far.
 pub struct Cursor {
     pub place: usize,
     pub before: u64,
@@ -84,7 +91,7 @@ fn opened(start: usize, l: usize, end: usize) -> Open
 fn worded(number: u64, first: u64, len: usize) -> Cell
     ensures { λ r. ⌜ cellBy number first len ≡ r ⌝ }
 {
-    if number < 12 {
+    if number < TEXT {
         return Cell {
             kind: number,
             first,
@@ -107,7 +114,7 @@ fn close(s: &[u8], outer: Open, k: usize, w: Walked) -> Walked
         Walked::Refused(e) => Walked::Refused(e),
         Walked::Read(next, count) => {
             let z = ber_containers::shut(s, next, outer);
-            if z != 18446744073709551615 {
+            if z != ber_containers::NOT_SHUT {
                 return Walked::Read(z, count);
             }
             match ber_containers::last(s, next, outer, k) {
@@ -146,13 +153,23 @@ fn onward(before: u64, above: usize, w: Walked) -> Turn
 }
 
 // The end of a row's members, with the place after it: a required member may be missing.
-fn ended(row: u64, at: Cursor, next: usize) -> Turn
+fn ended(row: u64, at: Cursor, next: usize) -> Walked
     ensures { λ r. ⌜ endedOf row at next ≡ r ⌝ }
 {
-    if glow_steps::is_due(row, at.before, 268435456) {
-        return Turn::Refused(No(33, at.place));
+    if glow_steps::is_due(row, at.before, tags::PAST_ALL) {
+        return Walked::Refused(No(33, at.place));
     }
-    Turn::Read(next, at.count)
+    Walked::Read(next, at.count)
+}
+
+fn is_leaf(what: u64) -> bool
+    ensures { λ r. ⌜ (r ≡ true → (what ≡ 0 → ⊥) × (what < body)) ⌝ }
+    ensures { λ r. ⌜ (r ≡ false → (what ≡ 0 → ⊥) → body ≤ what) ⌝ }
+{
+    if what == rules::NONE {
+        return false;
+    }
+    what < rules::BODY
 }
 
 // A member that holds one value, told at once by its rule `what`: the value goes into its cell.
@@ -169,20 +186,20 @@ fn leaf(s: &[u8], row: u64, me: usize, at: Cursor, what: u64, table: &mut [[u64;
     let len = size(s[p + 3]);
     let start = p + 4;
     let first = glow_grammar::word_of(s, kind, start, len, what);
-    if first != 9223372036854775808 {
+    if first != glow_grammar::NO_WORD {
         glow_rows::put_cell(table, me, c, worded(kind, first, len));
         return on(start + len, before, at.above, at.count);
     }
     match glow_grammar::read_leaf(s, p + 2, kind, start, len, what, at.above) {
         Leaf::Refused(no, place) => Turn::Refused(No(no, place)),
-        Leaf::Kept(v, above) => {
-            glow_rows::put_cell(table, me, c, v);
+        Leaf::Kept(value, above) => {
+            glow_rows::put_cell(table, me, c, value);
             on(start + len, before, above, at.count)
         }
     }
 }
 
-// Contents from a place on, in their outer tag, for the entry `me`; n entries before them.
+// Contents from a place on, in their outer tag, for the entry `me`, after the cursor `at`.
 fn contents(
     s: &[u8],
     from: usize,
@@ -191,21 +208,20 @@ fn contents(
     left: usize,
     row: u64,
     me: usize,
-    above: usize,
-    n: usize,
+    at: Cursor,
     table: &mut [[u64; 50]],
 ) -> Walked
-    requires { ⌜ (me < n) × (n ≤ from) ⌝ }
-    ensures { λ r. ⌜ ContentsFill (now (s .entry)) o outer left row me above from n (now (table .entry)) (now (table .exit)) r ⌝ }
-    ensures { λ r. ⌜ WalkedOnward from n r ⌝ }
+    requires { ⌜ (me < at .count) × (at .count ≤ from) ⌝ }
+    ensures { λ r. ⌜ ContentsFill (now (s .entry)) o outer left row me (at .above) from (at .count) (now (table .entry)) (now (table .exit)) r ⌝ }
+    ensures { λ r. ⌜ WalkedOnward from (at .count) r ⌝ }
 {
     let k = ber_containers::less(left);
     let row = glow_grammar::contents_of(row);
-    let w = element(s, from, o, k, row, me, above, n, table);
+    let w = element(s, from, o, k, row, me, at.above, at.count, table);
     close(s, outer, left, w)
 }
 
-// A collection from a place on, in its outer tag; n entries before it.
+// A collection from a place on, in its outer tag, after the cursor `at`.
 fn list(
     s: &[u8],
     from: usize,
@@ -214,20 +230,19 @@ fn list(
     left: usize,
     which: u64,
     parent: usize,
-    above: usize,
-    n: usize,
+    at: Cursor,
     table: &mut [[u64; 50]],
 ) -> Walked
-    requires { ⌜ n ≤ from ⌝ }
-    ensures { λ r. ⌜ ListFill (now (s .entry)) o outer left which parent above from n (now (table .entry)) (now (table .exit)) r ⌝ }
-    ensures { λ r. ⌜ WalkedOnward from n r ⌝ }
+    requires { ⌜ at .count ≤ from ⌝ }
+    ensures { λ r. ⌜ ListFill (now (s .entry)) o outer left which parent (at .above) from (at .count) (now (table .entry)) (now (table .exit)) r ⌝ }
+    ensures { λ r. ⌜ WalkedOnward from (at .count) r ⌝ }
 {
     let k = ber_containers::less(left);
-    let w = items(s, from, o, k, which, parent, above, n, table);
+    let w = items(s, from, o, k, which, parent, at.above, at.count, table);
     close(s, outer, left, w)
 }
 
-// A new entry, in its outer tag, with its members from a place on; n entries before it.
+// A new entry, in its outer tag, with its members from a place on, after the cursor `at`.
 fn entry(
     s: &[u8],
     from: usize,
@@ -236,21 +251,21 @@ fn entry(
     left: usize,
     kind: u64,
     parent: usize,
-    above: usize,
-    n: usize,
+    at: Cursor,
     table: &mut [[u64; 50]],
 ) -> Walked
-    requires { ⌜ n < from ⌝ }
-    ensures { λ r. ⌜ EntryFill (now (s .entry)) o outer left kind parent above from n (now (table .entry)) (now (table .exit)) r ⌝ }
-    ensures { λ r. ⌜ WalkedOnward from (n + 1) r ⌝ }
+    requires { ⌜ at .count < from ⌝ }
+    ensures { λ r. ⌜ EntryFill (now (s .entry)) o outer left kind parent (at .above) from (at .count) (now (table .entry)) (now (table .exit)) r ⌝ }
+    ensures { λ r. ⌜ WalkedOnward from (at .count + 1) r ⌝ }
 {
-    glow_rows::blank(table, n, kind, word(parent));
+    let me = at.count;
+    glow_rows::blank(table, me, kind, word(parent));
     let k = ber_containers::less(left);
-    let w = element(s, from, o, k, kind, n, above, n + 1, table);
+    let w = element(s, from, o, k, kind, me, at.above, me + 1, table);
     close(s, outer, left, w)
 }
 
-// A member that holds contents or a collection, told at once by its rule `what`.
+// A member that holds contents or a collection, told at once by its rule `what`, or any member by the general turn.
 fn nested(
     s: &[u8],
     o: Open,
@@ -265,38 +280,20 @@ fn nested(
     ensures { λ r. ⌜ MembersTurn (now (s .entry)) k o row me at (now (table .entry)) (now (table .exit)) r ⌝ }
     ensures { λ r. ⌜ TurnOnward (now (s .entry)) (at .place) (at .count) r ⌝ }
 {
+    if what == rules::NONE {
+        return general(s, o, k, row, me, at, table);
+    }
     let p = at.place;
     let after = glow_steps::after_listed(row, at.before, wide(s[p] % 32));
     let from = p + 4;
     let inner = opened(from, size(s[p + 3]), o.end);
-    if what == 13 {
-        let w = contents(
-            s,
-            from,
-            inner,
-            inner,
-            k - 1,
-            row,
-            me,
-            at.above,
-            at.count,
-            table,
-        );
+    if what == rules::BODY {
+        let w = contents(s, from, inner, inner, k - 1, row, me, at, table);
         return onward(after, at.above, w);
     }
     let which = glow_steps::collection_of(what);
-    let w = list(
-        s,
-        from,
-        inner,
-        inner,
-        k - 1,
-        which,
-        me + 1,
-        at.above,
-        at.count,
-        table,
-    );
+    let parent = me + 1;
+    let w = list(s, from, inner, inner, k - 1, which, parent, at, table);
     onward(after, at.above, w)
 }
 
@@ -323,64 +320,14 @@ fn general(
             on(place, before, above, at.count)
         }
         Member::Contents(before, outer, g, left) => {
-            let w = contents(
-                s,
-                g.start,
-                g.inner,
-                outer,
-                left,
-                row,
-                me,
-                at.above,
-                at.count,
-                table,
-            );
+            let w = contents(s, g.start, g.inner, outer, left, row, me, at, table);
             onward(before, at.above, w)
         }
         Member::Items(before, which, outer, g, left) => {
-            let w = list(
-                s,
-                g.start,
-                g.inner,
-                outer,
-                left,
-                which,
-                me + 1,
-                at.above,
-                at.count,
-                table,
-            );
+            let w = list(s, g.start, g.inner, outer, left, which, me + 1, at, table);
             onward(before, at.above, w)
         }
     }
-}
-
-// One turn of the members of a row, for the entry `me`.
-fn member_turn(
-    s: &[u8],
-    o: Open,
-    k: usize,
-    row: u64,
-    me: usize,
-    at: Cursor,
-    table: &mut [[u64; 50]],
-) -> Turn
-    requires { ⌜ (me < at .count) × (at .count ≤ at .place) ⌝ }
-    ensures { λ r. ⌜ MembersTurn (now (s .entry)) k o row me at (now (table .entry)) (now (table .exit)) r ⌝ }
-    ensures { λ r. ⌜ TurnOnward (now (s .entry)) (at .place) (at .count) r ⌝ }
-{
-    let z = ber_containers::shut(s, at.place, o);
-    if z != 18446744073709551615 {
-        return ended(row, at, z);
-    }
-    let what = glow_steps::rule_at(s, at.place, o.end, k, row, at.before);
-    if what == 0 {
-        return general(s, o, k, row, me, at, table);
-    }
-    if what < 13 {
-        return leaf(s, row, me, at, what, table);
-    }
-    nested(s, o, k, row, me, at, what, table)
 }
 
 // The members of a row from a place on, for the entry `me`; n entries before them.
@@ -401,15 +348,34 @@ fn element(
 {
     let mut at = begin(from, above, n);
     loop {
-        match member_turn(s, o, k, row, me, at, table) {
-            Turn::On(next) => {
-                at = next;
+        let z = ber_containers::shut(s, at.place, o);
+        if z != ber_containers::NOT_SHUT {
+            return ended(row, at, z);
+        }
+        let what = glow_steps::rule_at(s, at.place, o.end, k, row, at.before);
+        if is_leaf(what) {
+            match leaf(s, row, me, at, what, table) {
+                Turn::On(next) => {
+                    at = next;
+                }
+                Turn::Read(next, count) => {
+                    return Walked::Read(next, count);
+                }
+                Turn::Refused(e) => {
+                    return Walked::Refused(e);
+                }
             }
-            Turn::Read(next, count) => {
-                return Walked::Read(next, count);
-            }
-            Turn::Refused(e) => {
-                return Walked::Refused(e);
+        } else {
+            match nested(s, o, k, row, me, at, what, table) {
+                Turn::On(next) => {
+                    at = next;
+                }
+                Turn::Read(next, count) => {
+                    return Walked::Read(next, count);
+                }
+                Turn::Refused(e) => {
+                    return Walked::Refused(e);
+                }
             }
         }
     }
@@ -431,43 +397,21 @@ fn item_turn(
 {
     let p = at.place;
     let z = ber_containers::shut(s, p, o);
-    if z != 18446744073709551615 {
+    if z != ber_containers::NOT_SHUT {
         return Turn::Read(z, at.count);
     }
     let quick = glow_steps::kind_at(s, p, o.end, k, which);
     if quick != 0 {
         let from = p + 4;
         let inner = opened(from, size(s[p + 3]), o.end);
-        let w = entry(
-            s,
-            from,
-            inner,
-            inner,
-            k - 1,
-            quick,
-            parent,
-            at.above,
-            at.count,
-            table,
-        );
+        let w = entry(s, from, inner, inner, k - 1, quick, parent, at, table);
         return onward(0, at.above, w);
     }
     match glow_steps::item_at(s, p, o, k, which) {
         Item::Done(next) => Turn::Read(next, at.count),
         Item::Refused(e) => Turn::Refused(e),
         Item::Element(kind, outer, g, left) => {
-            let w = entry(
-                s,
-                g.start,
-                g.inner,
-                outer,
-                left,
-                kind,
-                parent,
-                at.above,
-                at.count,
-                table,
-            );
+            let w = entry(s, g.start, g.inner, outer, left, kind, parent, at, table);
             onward(0, at.above, w)
         }
     }
@@ -527,8 +471,18 @@ pub fn message(s: &[u8], table: &mut [[u64; 50]]) -> Whole
     match glow_steps::root_of(s) {
         Top::Refused(e) => Whole::Refused(e),
         Top::Root(which, outer, g) => {
-            let w = items(s, g.start, g.inner, 62, which, 0, 0, 0, table);
-            finish(s, which, close(s, outer, 63, w))
+            let w = items(
+                s,
+                g.start,
+                g.inner,
+                collections::IN_COLLECTION,
+                which,
+                0,
+                0,
+                0,
+                table,
+            );
+            finish(s, which, close(s, outer, collections::IN_ROOT, w))
         }
     }
 }

@@ -8,7 +8,8 @@ use lib.ListN.{length, drop, getD}
 use Rattle.ber_integers.specs.declared.Wrote.the-variants.{Next}
 use Rattle.ber_integers.specs.Digits.{pick, put, outcome}
 use Rattle.ber_tags.specs.Write.{lengthOctets}
-use Rattle.glow_grammar.specs.Grammar.{children, connections}
+use Rattle.glow_rows.specs.Cell.{boolean, integer}
+use Rattle.glow_grammar.specs.Grammar.{children, connections, universal, context, contentsMember, set, octetOf}
 use Rattle.glow_rows.specs.Entry.{Rows}
 use Rattle.glow_trees.specs.Content.{Content, Item, contentsOf}
 use Rattle.glow_trees.specs.Rows.{cellsFrom, itemsIn}
@@ -28,11 +29,11 @@ head tag n = tag ∷ lengthOctets n
 
 -- an outer tag of a context number, and the tag in it, around n octets
 unfoldable pub heads : ℕ → ℕ → ℕ → List ℕ
-heads number tag n = head (160 + number) (taggedSize n) ++ head tag n
+heads number tag n = head (octetOf context 0 + number) (taggedSize n) ++ head tag n
 
 -- an entry's own members, and its contents
 unfoldable pub entryPart : ℕ → List Content → List ℕ
-entryPart kind xs = membersOctets writtenReal 0 (own kind xs) ++ wrapped 1 0 17 (membersOctets writtenReal 0 (inner kind xs))
+entryPart kind xs = membersOctets writtenReal 0 (own kind xs) ++ wrapped contentsMember universal set (membersOctets writtenReal 0 (inner kind xs))
 
 -- the members in n cells of a row, from cell c on
 abbrev pub rowCells : List ℕ → Rows → ℕ → ℕ → ℕ → List Content
@@ -41,7 +42,7 @@ rowCells s rows i n c = contentsOf s (cellsFrom n c (getD rows i []))
 -- what may stand in a message is written: a word, a member by some rule, members, and an entry alone
 abbrev pub WordPuts : ℕ → ℕ → List ℕ → ℕ → ℕ → List ℕ → Type 0
 WordPuts kind w out at r out′ =
-    pick (eqb kind 1) true (pick (eqb kind 2) true (isReal w)) ≡ true → Puts out at (spelled writtenReal kind w) r out′
+    pick (eqb kind boolean) true (pick (eqb kind integer) true (isReal w)) ≡ true → Puts out at (spelled writtenReal kind w) r out′
 
 abbrev pub MemberPuts : ℕ → Content → List ℕ → ℕ → ℕ → List ℕ → Type 0
 MemberPuts number x out at r out′ = (what : ℕ) → suits what x ≡ true → Puts out at (memberOctets writtenReal number x) r out′

@@ -1,5 +1,8 @@
 // The message of a tree, written forward: each length is measured before what it counts is written.
 use ber_integers::Wrote;
+use glow_grammar::collections;
+use glow_grammar::tags;
+use glow_member_sizes::MESSAGE_LIMIT;
 use glow_member_sizes::around;
 use glow_member_sizes::index;
 use glow_member_sizes::int_of;
@@ -9,6 +12,11 @@ use glow_member_sizes::plus;
 use glow_member_sizes::wide;
 use glow_member_sizes::word_size;
 use glow_rows::Cell;
+use glow_rows::kinds;
+use glow_rows::tags::ABSENT;
+use glow_rows::tags::BOOLEAN;
+use glow_rows::tags::INTEGER;
+use glow_sizes::LEFT;
 use glow_sizes::cell_at;
 use glow_sizes::contents_size;
 use glow_sizes::entry_size;
@@ -25,13 +33,19 @@ ghost use Prim.Native.Nat.{_+_, _-_, _%_, _≤_, _<_};
 ghost use lib.ListN.{length, getD};
 ghost use lib.Dec.{eqb};
 ghost use Rattle.ber_integers.specs.Digits.{pick, outcome};
-ghost use Rattle.glow_grammar.specs.Grammar.{applications};
+ghost use Rattle.glow_grammar.specs.Grammar.{applications, rootNumber, application, octetOf};
 ghost use Rattle.glow_trees.specs.Content.{contentOf};
 ghost use Rattle.glow_trees.specs.Rows.{itemsIn};
-ghost use Rattle.glow_trees.specs.Written.{rootNumber};
 ghost use Rattle.glow_writer.specs.Writes.{writes};
 ghost use Rattle.glow_member_sizes.specs.Sizes.{taggedSize};
 ghost use Rattle.glow_writer.specs.Puts.{Puts, head, heads, rowCells, WordPuts, MemberPuts, MembersPut, EntryPuts, ItemsPut, ItemBy, InsideBy};
+
+// The context numbers of members that hold contents, children and connections, as octets.
+const CONTENTS: u8 = tags::CONTENTS_MEMBER as u8;
+
+const KIDS: u8 = tags::KIDS_MEMBER as u8;
+
+const LINKS: u8 = tags::LINKS_MEMBER as u8;
 
 // The next entry and the place after what was written.
 pub struct Placed {
@@ -58,7 +72,7 @@ fn put_outer(number: u8, tag: u8, n: u64, out: &mut [u8], at: usize) -> usize
     requires { ⌜ number < 31 ⌝ }
     ensures { λ r. ⌜ (taggedSize n ≤ 16384 → Puts (now (out .entry)) at (heads number tag n) r (now (out .exit))) ⌝ }
 {
-    let a = put_head(160 + number, around(n), out, at);
+    let a = put_head(tags::CONTEXT_OCTET + number, around(n), out, at);
     put_head(tag, n, out, a)
 }
 
@@ -78,10 +92,10 @@ fn flag(w: u64) -> u8
 fn put_word(kind: u64, w: u64, out: &mut [u8], at: usize) -> usize
     ensures { λ r. ⌜ WordPuts kind w (now (out .entry)) at r (now (out .exit)) ⌝ }
 {
-    if kind == 1 {
+    if kind == BOOLEAN {
         return put_octet(flag(w), out, at);
     }
-    if kind == 2 {
+    if kind == INTEGER {
         return place(ber_integers::write_int(int_of(w), out, at));
     }
     place(ber_reals::write_bits(w, out, at))
@@ -92,7 +106,7 @@ fn put_member(s: &[u8], v: Cell, number: u8, out: &mut [u8], at: usize) -> usize
     requires { ⌜ number < 31 ⌝ }
     ensures { λ r. ⌜ MemberPuts number (contentOf (now (s .entry)) v) (now (out .entry)) at r (now (out .exit)) ⌝ }
 {
-    if v.kind == 0 {
+    if v.kind == ABSENT {
         return at;
     }
     let tag = low(v.kind);
@@ -145,38 +159,38 @@ fn put_entry(rows: &[[u64; 50]], i: usize, s: &[u8], kind: u64, out: &mut [u8], 
     if n == 0 {
         return a;
     }
-    let b = put_outer(1, 0x31, n, out, a);
+    let b = put_outer(CONTENTS, tags::SET_OCTET, n, out, a);
     put_cells(rows, i, s, kind, split, 16, out, b)
 }
 
 // The tag of an entry's kind, its application number, constructed: of the first kinds.
 fn first_tag(kind: u64) -> u8
     requires { ⌜ kind ≤ 4 ⌝ }
-    ensures { λ r. ⌜ r ≡ 96 + getD applications kind 0 ⌝ }
+    ensures { λ r. ⌜ r ≡ octetOf application 0 + getD applications kind 0 ⌝ }
 {
     match kind {
-        1 => 0x61,
-        2 => 0x62,
-        3 => 0x63,
-        4 => 0x6d,
-        _ => 0x60,
+        kinds::PARAMETER => tags::PARAMETER_OCTET,
+        kinds::COMMAND => tags::COMMAND_OCTET,
+        kinds::NODE => tags::NODE_OCTET,
+        kinds::MATRIX => tags::MATRIX_OCTET,
+        _ => tags::APPLICATION_OCTET,
     }
 }
 
 // The same of any kind.
 fn tag_of(kind: u64) -> u8
-    ensures { λ r. ⌜ r ≡ 96 + getD applications kind 0 ⌝ }
+    ensures { λ r. ⌜ r ≡ octetOf application 0 + getD applications kind 0 ⌝ }
 {
-    if kind <= 4 {
+    if kind <= kinds::MATRIX {
         return first_tag(kind);
     }
     match kind {
-        5 => 0x69,
-        6 => 0x6a,
-        7 => 0x71,
-        8 => 0x70,
-        9 => 0x66,
-        _ => 0x60,
+        kinds::QUALIFIED_PARAMETER => tags::QUALIFIED_PARAMETER_OCTET,
+        kinds::QUALIFIED_NODE => tags::QUALIFIED_NODE_OCTET,
+        kinds::QUALIFIED_MATRIX => tags::QUALIFIED_MATRIX_OCTET,
+        kinds::CONNECTION => tags::CONNECTION_OCTET,
+        kinds::STREAM_ENTRY => tags::STREAM_ENTRY_OCTET,
+        _ => tags::APPLICATION_OCTET,
     }
 }
 
@@ -230,8 +244,28 @@ fn put_item(
     let e = entry_size(rows, i, s, k, above, false);
     let me = wide(i) + 1;
     let deep = inside_of(k);
-    let kids = trees_size(rows, s, count, 1, me, i + 1, deep, e.path, false);
-    let links = trees_size(rows, s, count, 2, me, kids.next, deep, e.path, false);
+    let kids = trees_size(
+        rows,
+        s,
+        count,
+        collections::CHILDREN,
+        me,
+        i + 1,
+        deep,
+        e.path,
+        false,
+    );
+    let links = trees_size(
+        rows,
+        s,
+        count,
+        collections::CONNECTIONS,
+        me,
+        kids.next,
+        deep,
+        e.path,
+        false,
+    );
     let held = plus(
         e.size,
         plus(wrapped_size(kids.size), wrapped_size(links.size)),
@@ -242,9 +276,9 @@ fn put_item(
         rows,
         s,
         count,
-        1,
-        2,
-        0x64,
+        collections::CHILDREN,
+        KIDS,
+        tags::ELEMENT_COLLECTION_OCTET,
         kids.size,
         me,
         i + 1,
@@ -257,9 +291,9 @@ fn put_item(
         rows,
         s,
         count,
-        2,
-        5,
-        0x30,
+        collections::CONNECTIONS,
+        LINKS,
+        tags::SEQUENCE_OCTET,
         links.size,
         me,
         c.next,
@@ -305,9 +339,13 @@ fn put_items(
 
 // The tag of Root's collection.
 fn root_tag(root: u64) -> u8
-    ensures { λ r. ⌜ r ≡ 96 + rootNumber root ⌝ }
+    ensures { λ r. ⌜ r ≡ octetOf application 0 + rootNumber root ⌝ }
 {
-    if root == 0 { 0x6b } else { 0x65 }
+    if root == collections::ROOT_ELEMENTS {
+        tags::ROOT_ELEMENT_COLLECTION_OCTET
+    } else {
+        tags::STREAM_COLLECTION_OCTET
+    }
 }
 
 // The message of the first `count` rows, with their texts in s.
@@ -316,15 +354,15 @@ pub fn write(rows: &[[u64; 50]], count: usize, root: u64, s: &[u8], out: &mut [u
         ≡ outcome r (now (out .exit)) ⌝ }
 {
     let m = measure(rows, count, root, s, false);
-    if 16384 < m {
+    if MESSAGE_LIMIT < m {
         return Wrote::Out;
     }
     if wide(out.len()) < m {
         return Wrote::Out;
     }
-    let all = trees_size(rows, s, count, root, 0, 0, 62, 0, false);
-    let a = put_head(0x60, around(all.size), out, 0);
+    let all = trees_size(rows, s, count, root, 0, 0, LEFT, 0, false);
+    let a = put_head(tags::ROOT_OCTET, around(all.size), out, 0);
     let b = put_head(root_tag(root), all.size, out, a);
-    let p = put_items(rows, s, count, root, 0, 0, 62, 0, out, b);
+    let p = put_items(rows, s, count, root, 0, 0, LEFT, 0, out, b);
     Wrote::Next(p.place)
 }

@@ -88,7 +88,8 @@ returns c =
         turned = λ o k h w l m.
             turn-leaf _ _ _ _ _ _
             (quick-kept _ _ _ _ _ _ _ _ h w (the-wide .ensures .0) (the-size .ensures) (the-after-listed .ensures .0) l (the-wide2 .ensures .0)
-            (the-column-of .ensures .0) (the-word-of .ensures (the-if1 .taken) _ _ ∙ ap (λ (y : Cell). Kept y (the-Start .args .at .above)) (the-worded .ensures)))
+            (the-column-of .ensures .0) (the-word-of .ensures (the-if1 .taken) _ _
+            ∙ ap (λ (y : Cell). Kept y (the-Start .args .at .above)) (the-worded .ensures)))
             (omega (arith, q .0)) (omega arith) m (q .1 .1) (the-put-cell .ensures) (the-on .ensures) .0;
       },
       on-onward _ _ _ (the-on .ensures) (omega (arith, q .0)) (omega arith) (q .1 .1),
@@ -103,8 +104,8 @@ read-leaf-requires c κs = search needs
 enum-known-no : tie.Need-enum-known-no
 enum-known-no c = search needs
 
-enum-known-v : tie.Need-enum-known-v
-enum-known-v c = search needs
+enum-known-value : tie.Need-enum-known-value
+enum-known-value c = search needs
 
 put-cell-requires-2 : tie.Need-put-cell-requires-2
 put-cell-requires-2 c κs = search needs
@@ -137,14 +138,16 @@ same-length-2 c = search needs
 
 returns-3 : tie.Need-returns-3
 returns-3 c =
-    let the-Start = c .before .before .before .before .before .before .before .before .before .before .before .before .before .before .before .before .before .before .before in
+    let the-Start = c .before .before .before .before .before .before .before .before .before .before .before
+    .before .before .before .before .before .before .before .before in
     let the-wide = c .before .before .before .before .before .before .before .before .before .before .before .before .before .before .before .before .wide in
-    let the-column-of = c .before .before .before .before .before .before .before .before .before .before .before .before .before .before .before .column-of in
+    let the-column-of = c .before .before .before .before .before .before .before .before .before .before
+    .before .before .before .before .before .column-of in
     let the-after-listed = c .before .before .before .before .before .before .before .before .before .before .before .before .before .before .after-listed in
     let the-wide2 = c .before .before .before .before .before .before .before .before .before .before .before .before .wide2 in
     let the-size = c .before .before .before .before .before .before .before .before .before .before .size in
     let the-read-leaf = c .before .before .before .before .before .before .before .read-leaf in
-    let the-v = c .before .before .before .before .before .v in
+    let the-value = c .before .before .before .before .before .value in
     let the-put-cell2 = c .before .before .put-cell2 in
     let the-on2 = c .on2 in
     let q = the-Start .pre in (
@@ -152,7 +155,7 @@ returns-3 c =
         turned = λ o k h w l m.
             turn-leaf _ _ _ _ _ _
             (quick-kept _ _ _ _ _ _ _ _ h w (the-wide .ensures .0) (the-size .ensures) (the-after-listed .ensures .0) l (the-wide2 .ensures .0)
-            (the-column-of .ensures .0) (the-read-leaf .ensures .0 ∙ the-v .given .1))
+            (the-column-of .ensures .0) (the-read-leaf .ensures .0 ∙ the-value .given .1))
             (omega (arith, q .0)) (omega arith) m (q .1 .1) (the-put-cell2 .ensures) (the-on2 .ensures) .0;
       },
       on-onward _ _ _ (the-on2 .ensures) (omega (arith, q .0)) (omega arith) (q .1 .1),
@@ -183,7 +186,7 @@ leaf-spec =
     add-read-leaf
     read-leaf-requires
     enum-known-no
-    enum-known-v
+    enum-known-value
     put-cell-requires-2
     add-on-2
     on-requires-2

@@ -13,38 +13,35 @@ use Rattle.glow_steps.proofs.Laws.{item-done}
 use Rattle.glow_steps.proofs.Quick.{quick-contents, quick-items, quick-element}
 use Rattle.glow_walk.specs.declared.Cursor.{Cursor}
 use Rattle.glow_walk.specs.Progress.{cursor, TurnOnward, WalkedOnward, Held, MembersLeft, ItemsLeft}
-use Rattle.glow_walk.proofs.Held.{members-begin, members-on, members-end, members-stop, turn-done, turn-no, turn-ended, turn-over, turn-leaf}
+use Rattle.glow_walk.proofs.Held.{members-begin, members-on, members-end, members-stop, members-ended, ended-onward, turn-done, turn-no, turn-over, turn-leaf}
 use Rattle.glow_walk.proofs.Held.{turn-contents, turn-items, items-begin, items-on, items-end, items-stop, item-turn-done, item-turn-no}
 use Rattle.glow_walk.proofs.Held.{turn-element, contents-fill, list-fill, entry-fill}
 use borrow.Fn.Kinds.{In}
 use borrow.Fn.PlainCycle.{Measures, is, falls, and}
 use Rattle.glow_walk.proofs.contents.Reads as contents
 use Rattle.glow_walk.proofs.contents.Kinds as contents-kinds
-use Rattle.glow_walk.proofs.+contents+element+entry+general+item_turn+items+list+member_turn+nested.Lts-contents as contents-lts
+use Rattle.glow_walk.proofs.+contents+element+entry+general+item_turn+items+list+nested.Lts-contents as contents-lts
 use Rattle.glow_walk.proofs.element.Reads as element
 use Rattle.glow_walk.proofs.element.Kinds as element-kinds
-use Rattle.glow_walk.proofs.+contents+element+entry+general+item_turn+items+list+member_turn+nested.Lts-element as element-lts
+use Rattle.glow_walk.proofs.+contents+element+entry+general+item_turn+items+list+nested.Lts-element as element-lts
 use Rattle.glow_walk.proofs.entry.Reads as entry
 use Rattle.glow_walk.proofs.entry.Kinds as entry-kinds
-use Rattle.glow_walk.proofs.+contents+element+entry+general+item_turn+items+list+member_turn+nested.Lts-entry as entry-lts
+use Rattle.glow_walk.proofs.+contents+element+entry+general+item_turn+items+list+nested.Lts-entry as entry-lts
 use Rattle.glow_walk.proofs.general.Reads as general
 use Rattle.glow_walk.proofs.general.Kinds as general-kinds
-use Rattle.glow_walk.proofs.+contents+element+entry+general+item_turn+items+list+member_turn+nested.Lts-general as general-lts
+use Rattle.glow_walk.proofs.+contents+element+entry+general+item_turn+items+list+nested.Lts-general as general-lts
 use Rattle.glow_walk.proofs.item_turn.Reads as item-turn
 use Rattle.glow_walk.proofs.item_turn.Kinds as item-turn-kinds
-use Rattle.glow_walk.proofs.+contents+element+entry+general+item_turn+items+list+member_turn+nested.Lts-item_turn as item-turn-lts
+use Rattle.glow_walk.proofs.+contents+element+entry+general+item_turn+items+list+nested.Lts-item_turn as item-turn-lts
 use Rattle.glow_walk.proofs.items.Reads as items
 use Rattle.glow_walk.proofs.items.Kinds as items-kinds
-use Rattle.glow_walk.proofs.+contents+element+entry+general+item_turn+items+list+member_turn+nested.Lts-items as items-lts
+use Rattle.glow_walk.proofs.+contents+element+entry+general+item_turn+items+list+nested.Lts-items as items-lts
 use Rattle.glow_walk.proofs.list.Reads as list
 use Rattle.glow_walk.proofs.list.Kinds as list-kinds
-use Rattle.glow_walk.proofs.+contents+element+entry+general+item_turn+items+list+member_turn+nested.Lts-list as list-lts
-use Rattle.glow_walk.proofs.member_turn.Reads as member-turn
-use Rattle.glow_walk.proofs.member_turn.Kinds as member-turn-kinds
-use Rattle.glow_walk.proofs.+contents+element+entry+general+item_turn+items+list+member_turn+nested.Lts-member_turn as member-turn-lts
+use Rattle.glow_walk.proofs.+contents+element+entry+general+item_turn+items+list+nested.Lts-list as list-lts
 use Rattle.glow_walk.proofs.nested.Reads as nested
 use Rattle.glow_walk.proofs.nested.Kinds as nested-kinds
-use Rattle.glow_walk.proofs.+contents+element+entry+general+item_turn+items+list+member_turn+nested.Lts-nested as nested-lts
+use Rattle.glow_walk.proofs.+contents+element+entry+general+item_turn+items+list+nested.Lts-nested as nested-lts
 use Rattle.ber_containers.proofs.less.Reads as less-reads
 use Rattle.ber_containers.proofs.shut.Reads as shut-reads
 use Rattle.glow_grammar.proofs.contents_of.Reads as contents-of-reads
@@ -59,6 +56,7 @@ use Rattle.glow_steps.proofs.rule_at.Reads as rule-at-reads
 use Rattle.glow_walk.proofs.begin.Reads as begin-reads
 use Rattle.glow_walk.proofs.close.Reads as close-reads
 use Rattle.glow_walk.proofs.ended.Reads as ended-reads
+use Rattle.glow_walk.proofs.is_leaf.Reads as is-leaf-reads
 use Rattle.glow_walk.proofs.leaf.Reads as leaf-reads
 use Rattle.glow_walk.proofs.on.Reads as on-reads
 use Rattle.glow_walk.proofs.onward.Reads as onward-reads
@@ -66,10 +64,10 @@ use Rattle.glow_walk.proofs.opened.Reads as opened-reads
 use Rattle.glow_walk.proofs.size.Reads as size-reads
 use Rattle.glow_walk.proofs.wide.Reads as wide-reads
 use Rattle.glow_walk.proofs.word.Reads as word-reads
-use Rattle.glow_walk.proofs.+contents+element+entry+general+item_turn+items+list+member_turn+nested.{
+use Rattle.glow_walk.proofs.+contents+element+entry+general+item_turn+items+list+nested.{
   statement,
 }
-use Rattle.glow_walk.proofs.+contents+element+entry+general+item_turn+items+list+member_turn+nested.Tie.{
+use Rattle.glow_walk.proofs.+contents+element+entry+general+item_turn+items+list+nested.Tie.{
   close,
 }
 
@@ -111,11 +109,8 @@ abbrev μ-items : Measures 2 items-kinds.ps ℕ
 abbrev μ-list : Measures 2 list-kinds.ps ℕ
 μ-list κs a = 4 * (length (now (a .0)) - a .1 .0) + 4
 
-abbrev μ-member-turn : Measures 2 member-turn-kinds.ps ℕ
-μ-member-turn κs a = 4 * (length (now (a .0)) - a .1 .1 .1 .1 .1 .0 .place) + 2
-
 abbrev μ-nested : Measures 2 nested-kinds.ps ℕ
-μ-nested κs a = 4 * (length (now (a .0)) - a .1 .1 .1 .1 .1 .0 .place) + 1
+μ-nested κs a = 4 * (length (now (a .0)) - a .1 .1 .1 .1 .1 .0 .place) + 2
 
 abbrev contents-at : ℕ → In 2 contents-kinds.ps
 contents-at t = and 2 contents-kinds.ps (is 2 contents-kinds.ps μ-contents t) contents.Pre
@@ -161,14 +156,6 @@ list-at t = and 2 list-kinds.ps (is 2 list-kinds.ps μ-list t) list.Pre
 abbrev list-below : ℕ → In 2 list-kinds.ps
 list-below t = and 2 list-kinds.ps (falls 2 list-kinds.ps _<_ μ-list t) list.Pre
 
-abbrev member-turn-at : ℕ → In 2 member-turn-kinds.ps
-member-turn-at t =
-    and 2 member-turn-kinds.ps (is 2 member-turn-kinds.ps μ-member-turn t) member-turn.Pre
-
-abbrev member-turn-below : ℕ → In 2 member-turn-kinds.ps
-member-turn-below t =
-    and 2 member-turn-kinds.ps (falls 2 member-turn-kinds.ps _<_ μ-member-turn t) member-turn.Pre
-
 abbrev nested-at : ℕ → In 2 nested-kinds.ps
 nested-at t = and 2 nested-kinds.ps (is 2 nested-kinds.ps μ-nested t) nested.Pre
 
@@ -176,7 +163,16 @@ abbrev nested-below : ℕ → In 2 nested-kinds.ps
 nested-below t = and 2 nested-kinds.ps (falls 2 nested-kinds.ps _<_ μ-nested t) nested.Pre
 
 abbrev contents-calls : ℕ → contents-lts.Claims
-contents-calls t = (less-reads.Asked, less-reads.Learnt, contents-of-reads.Asked, contents-of-reads.Learnt, element-below t, element.Post, close-reads.Asked, close-reads.Learnt)
+contents-calls t = (
+  less-reads.Asked,
+  less-reads.Learnt,
+  contents-of-reads.Asked,
+  contents-of-reads.Learnt,
+  element-below t,
+  element.Post,
+  close-reads.Asked,
+  close-reads.Learnt,
+)
 
 contents-less-requires : (t : ℕ) → contents-lts.Need-less-requires (contents-calls t) (contents-at t) contents.Post
 contents-less-requires t c κs = search needs
@@ -208,7 +204,22 @@ contents-returns t c =
     )
 
 abbrev element-calls : ℕ → element-lts.Claims
-element-calls t = (begin-reads.Asked, begin-reads.Learnt, member-turn-below t, member-turn.Post)
+element-calls t = (
+  begin-reads.Asked,
+  begin-reads.Learnt,
+  shut-reads.Asked,
+  shut-reads.Learnt,
+  ended-reads.Asked,
+  ended-reads.Learnt,
+  rule-at-reads.Asked,
+  rule-at-reads.Learnt,
+  is-leaf-reads.Asked,
+  is-leaf-reads.Learnt,
+  leaf-reads.Asked,
+  leaf-reads.Learnt,
+  nested-below t,
+  nested.Post,
+)
 
 abbrev element-Inv-loop : element-lts.InvT-loop
 element-Inv-loop s from o k row me above n table₀ at₀ table at = ElementLoop s o k row me above from n table₀ table at
@@ -234,78 +245,219 @@ element-loop-holds t c =
       held = λ es base e h. members-begin _ _ _ _ _ _ _ _ es base (the-begin .ensures) e h;
     }
 
-element-member-turn-requires : (t : ℕ) → element-lts.Need-member-turn-requires (element-calls t) (element-at t) element.Post element-Inv-loop element-μ-loop
-element-member-turn-requires t c κs =
-    let the-Start = c .before .before .before .before in
-    let the-loop = c .before .loop in
+element-shut-requires : (t : ℕ) → element-lts.Need-shut-requires (element-calls t) (element-at t) element.Post element-Inv-loop element-μ-loop
+element-shut-requires t c κs = search needs
+
+element-ended-requires : (t : ℕ) → element-lts.Need-ended-requires (element-calls t) (element-at t) element.Post element-Inv-loop element-μ-loop
+element-ended-requires t c κs = search needs
+
+element-same-length : (t : ℕ) → element-lts.Need-same-length (element-calls t) (element-at t) element.Post element-Inv-loop element-μ-loop
+element-same-length t c =
+    let the-loop = c .before .before .before .loop in
+    the-loop .inv .same
+
+element-returns : (t : ℕ) → element-lts.Need-returns (element-calls t) (element-at t) element.Post element-Inv-loop element-μ-loop
+element-returns t c =
+    let the-loop = c .before .before .before .loop in
+    let the-shut = c .before .before .shut in
+    let the-if1 = c .before .if1 in
+    let the-ended = c .ended in
     let i = the-loop .inv in
-    let q = the-Start .pre .1 in
-    (omega (arith, i .onward), (omega (arith, i .later, q .0), i .enough))
+    let z = the-shut .ensures (the-if1 .taken) in (
+      record { filled = λ es base e h. members-ended _ _ _ _ _ _ (i .held es base e h) (enter-ended _ _ _ _ (z .0)) (the-ended .ensures) },
+      ended-onward _ _ _ _ _ (the-ended .ensures) (i .onward) (z .1) (i .enough) (i .later),
+    )
+
+element-rule-at-requires : (t : ℕ) → element-lts.Need-rule-at-requires (element-calls t) (element-at t) element.Post element-Inv-loop element-μ-loop
+element-rule-at-requires t c κs = search needs
+
+element-is-leaf-requires : (t : ℕ) → element-lts.Need-is-leaf-requires (element-calls t) (element-at t) element.Post element-Inv-loop element-μ-loop
+element-is-leaf-requires t c κs = search needs
+
+element-leaf-requires : (t : ℕ) → element-lts.Need-leaf-requires (element-calls t) (element-at t) element.Post element-Inv-loop element-μ-loop
+element-leaf-requires t c κs =
+    let the-loop = c .before .before .before .before .before .before .loop in
+    let the-rule-at = c .before .before .before .rule-at in
+    let the-is-leaf = c .before .before .is-leaf in
+    let the-if2 = c .before .if2 in
+    let x = the-is-leaf .ensures .0 (the-if2 .taken) in
+    let h = the-rule-at .ensures (x .0) in
+    let f = h .pair .fits (h .suits .plain (x .1) .1) in
+    (h .pair .inside, (omega (arith, f, h .top), the-loop .inv .enough))
 
 element-enum-known-next : (t : ℕ) → element-lts.Need-enum-known-next (element-calls t) (element-at t) element.Post element-Inv-loop element-μ-loop
 element-enum-known-next t c = search needs
 
 element-loop-less : (t : ℕ) → element-lts.Need-loop-less (element-calls t) (element-at t) element.Post element-Inv-loop element-μ-loop
 element-loop-less t c =
-    let the-member-turn = c .before .before .before .before .member-turn in
+    let the-leaf = c .before .before .before .before .leaf in
     let the-next = c .before .next in
-    let u = subst (TurnOnward _ _ _) (the-next .given .1) (the-member-turn .ensures .1) in
+    let u = subst (TurnOnward _ _ _) (the-next .given .1) (the-leaf .ensures .1) in
     omega (arith, u .0, u .1 .0)
 
 element-loop-again : (t : ℕ) → element-lts.Need-loop-again (element-calls t) (element-at t) element.Post element-Inv-loop element-μ-loop
 element-loop-again t c =
-    let the-loop = c .before .before .before .before .before .before .loop in
-    let the-member-turn = c .before .before .before .before .member-turn in
+    let the-Start = c .before .before .before .before .before .before .before .before .before .before .before .before .before .before in
+    let the-loop = c .before .before .before .before .before .before .before .before .before .before .before .loop in
+    let the-rule-at = c .before .before .before .before .before .before .before .before .rule-at in
+    let the-is-leaf = c .before .before .before .before .before .before .before .is-leaf in
+    let the-if2 = c .before .before .before .before .before .before .if2 in
+    let the-leaf = c .before .before .before .before .leaf in
     let the-next = c .before .next in
     let i = the-loop .inv in
-    let u = subst (TurnOnward _ _ _) (the-next .given .1) (the-member-turn .ensures .1) in
+    let u = subst (TurnOnward _ _ _) (the-next .given .1) (the-leaf .ensures .1) in
+    let x = the-is-leaf .ensures .0 (the-if2 .taken) in
+    let q = the-Start .pre .1 in
     record {
       onward = omega (arith, i .onward, u .1 .0);
       enough = u .1 .1 .0;
       later = omega (arith, i .later, u .1 .1 .1);
-      same = the-member-turn .kept .1 .1 .1 .1 .1 .1 .0 ∙ i .same;
-      held = λ es base e h. members-on _ _ _ _ _ _ (i .held es base e h) (the-member-turn .ensures .0) (the-next .given .1);
+      same = the-leaf .kept .1 .1 .1 .1 .1 .0 ∙ i .same;
+      held = λ es base e h. members-on _ _ _ _ _ _ (i .held es base e h) (the-leaf .ensures .0 .turned _ _ (the-rule-at .ensures (x .0)) (x .0) (x .1) (omega (arith, i .later, q .0))) (the-next .given .1);
     }
 
 element-enum-known-next-2 : (t : ℕ) → element-lts.Need-enum-known-next-2 (element-calls t) (element-at t) element.Post element-Inv-loop element-μ-loop
 element-enum-known-next-2 t c = search needs
 
-element-same-length : (t : ℕ) → element-lts.Need-same-length (element-calls t) (element-at t) element.Post element-Inv-loop element-μ-loop
-element-same-length t c =
-    let the-loop = c .before .before .before .before .before .before .loop in
-    let the-member-turn = c .before .before .before .before .member-turn in
-    the-member-turn .kept .1 .1 .1 .1 .1 .1 .0 ∙ the-loop .inv .same
+element-same-length-2 : (t : ℕ) → element-lts.Need-same-length-2 (element-calls t) (element-at t) element.Post element-Inv-loop element-μ-loop
+element-same-length-2 t c =
+    let the-loop = c .before .before .before .before .before .before .before .before .before .before .before .loop in
+    let the-leaf = c .before .before .before .before .leaf in
+    the-leaf .kept .1 .1 .1 .1 .1 .0 ∙ the-loop .inv .same
 
-element-returns : (t : ℕ) → element-lts.Need-returns (element-calls t) (element-at t) element.Post element-Inv-loop element-μ-loop
-element-returns t c =
-    let the-loop = c .before .before .before .before .before .before .loop in
-    let the-member-turn = c .before .before .before .before .member-turn in
+element-returns-2 : (t : ℕ) → element-lts.Need-returns-2 (element-calls t) (element-at t) element.Post element-Inv-loop element-μ-loop
+element-returns-2 t c =
+    let the-Start = c .before .before .before .before .before .before .before .before .before .before .before .before .before .before in
+    let the-loop = c .before .before .before .before .before .before .before .before .before .before .before .loop in
+    let the-rule-at = c .before .before .before .before .before .before .before .before .rule-at in
+    let the-is-leaf = c .before .before .before .before .before .before .before .is-leaf in
+    let the-if2 = c .before .before .before .before .before .before .if2 in
+    let the-leaf = c .before .before .before .before .leaf in
     let the-next2 = c .before .next2 in
     let i = the-loop .inv in
-    let u = subst (TurnOnward _ _ _) (the-next2 .given .1) (the-member-turn .ensures .1) in (
-      record { filled = λ es base e h. members-end _ _ _ _ _ _ (i .held es base e h) (the-member-turn .ensures .0) (the-next2 .given .1) },
+    let x = the-is-leaf .ensures .0 (the-if2 .taken) in
+    let q = the-Start .pre .1 in
+    let u = subst (TurnOnward _ _ _) (the-next2 .given .1) (the-leaf .ensures .1) in (
+      record { filled = λ es base e h. members-end _ _ _ _ _ _ (i .held es base e h) (the-leaf .ensures .0 .turned _ _ (the-rule-at .ensures (x .0)) (x .0) (x .1) (omega (arith, i .later, q .0))) (the-next2 .given .1) },
       (omega (arith, i .onward, u .0), (u .1 .0, omega (arith, i .later, u .1 .1))),
     )
 
 element-enum-known-e : (t : ℕ) → element-lts.Need-enum-known-e (element-calls t) (element-at t) element.Post element-Inv-loop element-μ-loop
 element-enum-known-e t c = search needs
 
-element-same-length-2 : (t : ℕ) → element-lts.Need-same-length-2 (element-calls t) (element-at t) element.Post element-Inv-loop element-μ-loop
-element-same-length-2 t c =
-    let the-loop = c .before .before .before .before .before .before .loop in
-    let the-member-turn = c .before .before .before .before .member-turn in
-    the-member-turn .kept .1 .1 .1 .1 .1 .1 .0 ∙ the-loop .inv .same
+element-same-length-3 : (t : ℕ) → element-lts.Need-same-length-3 (element-calls t) (element-at t) element.Post element-Inv-loop element-μ-loop
+element-same-length-3 t c =
+    let the-loop = c .before .before .before .before .before .before .before .before .before .before .before .loop in
+    let the-leaf = c .before .before .before .before .leaf in
+    the-leaf .kept .1 .1 .1 .1 .1 .0 ∙ the-loop .inv .same
 
-element-returns-2 : (t : ℕ) → element-lts.Need-returns-2 (element-calls t) (element-at t) element.Post element-Inv-loop element-μ-loop
-element-returns-2 t c =
-    let the-loop = c .before .before .before .before .before .before .loop in
-    let the-member-turn = c .before .before .before .before .member-turn in
+element-returns-3 : (t : ℕ) → element-lts.Need-returns-3 (element-calls t) (element-at t) element.Post element-Inv-loop element-μ-loop
+element-returns-3 t c =
+    let the-Start = c .before .before .before .before .before .before .before .before .before .before .before .before .before .before in
+    let the-loop = c .before .before .before .before .before .before .before .before .before .before .before .loop in
+    let the-rule-at = c .before .before .before .before .before .before .before .before .rule-at in
+    let the-is-leaf = c .before .before .before .before .before .before .before .is-leaf in
+    let the-if2 = c .before .before .before .before .before .before .if2 in
+    let the-leaf = c .before .before .before .before .leaf in
     let the-e = c .before .e in
     let i = the-loop .inv in
-    (record { filled = λ es base e h. members-stop _ _ _ _ _ _ (i .held es base e h) (the-member-turn .ensures .0) (the-e .given .1) }, tt)
+    let x = the-is-leaf .ensures .0 (the-if2 .taken) in
+    let q = the-Start .pre .1 in
+    (record { filled = λ es base e h. members-stop _ _ _ _ _ _ (i .held es base e h) (the-leaf .ensures .0 .turned _ _ (the-rule-at .ensures (x .0)) (x .0) (x .1) (omega (arith, i .later, q .0))) (the-e .given .1) }, tt)
+
+element-nested-requires : (t : ℕ) → element-lts.Need-nested-requires (element-calls t) (element-at t) element.Post element-Inv-loop element-μ-loop
+element-nested-requires t c κs =
+    let the-Start = c .before .before .before .before .before .before .before .before .before in
+    let the-loop = c .before .before .before .before .before .before .loop in
+    let the-rule-at = c .before .before .before .rule-at in
+    let the-is-leaf = c .before .before .is-leaf in
+    let the-if2 = c .before .if2 in
+    let i = the-loop .inv in
+    let q = the-Start .pre .1 in (
+      omega (arith, i .onward),
+      record {
+        told = the-rule-at .ensures;
+        holds = the-is-leaf .ensures .1 (the-if2 .left);
+        mine = omega (arith, i .later, q .0);
+        enough = i .enough;
+      },
+    )
+
+element-enum-known-next-3 : (t : ℕ) → element-lts.Need-enum-known-next-3 (element-calls t) (element-at t) element.Post element-Inv-loop element-μ-loop
+element-enum-known-next-3 t c = search needs
+
+element-loop-less-2 : (t : ℕ) → element-lts.Need-loop-less-2 (element-calls t) (element-at t) element.Post element-Inv-loop element-μ-loop
+element-loop-less-2 t c =
+    let the-nested = c .before .before .before .before .nested in
+    let the-next3 = c .before .next3 in
+    let u = subst (TurnOnward _ _ _) (the-next3 .given .1) (the-nested .ensures .1) in
+    omega (arith, u .0, u .1 .0)
+
+element-loop-again-2 : (t : ℕ) → element-lts.Need-loop-again-2 (element-calls t) (element-at t) element.Post element-Inv-loop element-μ-loop
+element-loop-again-2 t c =
+    let the-loop = c .before .before .before .before .before .before .before .before .before .before .before .loop in
+    let the-nested = c .before .before .before .before .nested in
+    let the-next3 = c .before .next3 in
+    let i = the-loop .inv in
+    let u = subst (TurnOnward _ _ _) (the-next3 .given .1) (the-nested .ensures .1) in
+    record {
+      onward = omega (arith, i .onward, u .1 .0);
+      enough = u .1 .1 .0;
+      later = omega (arith, i .later, u .1 .1 .1);
+      same = the-nested .kept .1 .1 .1 .1 .1 .1 .1 .0 ∙ i .same;
+      held = λ es base e h. members-on _ _ _ _ _ _ (i .held es base e h) (the-nested .ensures .0) (the-next3 .given .1);
+    }
+
+element-enum-known-next-4 : (t : ℕ) → element-lts.Need-enum-known-next-4 (element-calls t) (element-at t) element.Post element-Inv-loop element-μ-loop
+element-enum-known-next-4 t c = search needs
+
+element-same-length-4 : (t : ℕ) → element-lts.Need-same-length-4 (element-calls t) (element-at t) element.Post element-Inv-loop element-μ-loop
+element-same-length-4 t c =
+    let the-loop = c .before .before .before .before .before .before .before .before .before .before .before .loop in
+    let the-nested = c .before .before .before .before .nested in
+    the-nested .kept .1 .1 .1 .1 .1 .1 .1 .0 ∙ the-loop .inv .same
+
+element-returns-4 : (t : ℕ) → element-lts.Need-returns-4 (element-calls t) (element-at t) element.Post element-Inv-loop element-μ-loop
+element-returns-4 t c =
+    let the-loop = c .before .before .before .before .before .before .before .before .before .before .before .loop in
+    let the-nested = c .before .before .before .before .nested in
+    let the-next4 = c .before .next4 in
+    let i = the-loop .inv in
+    let u = subst (TurnOnward _ _ _) (the-next4 .given .1) (the-nested .ensures .1) in (
+      record { filled = λ es base e h. members-end _ _ _ _ _ _ (i .held es base e h) (the-nested .ensures .0) (the-next4 .given .1) },
+      (omega (arith, i .onward, u .0), (u .1 .0, omega (arith, i .later, u .1 .1))),
+    )
+
+element-enum-known-e-2 : (t : ℕ) → element-lts.Need-enum-known-e-2 (element-calls t) (element-at t) element.Post element-Inv-loop element-μ-loop
+element-enum-known-e-2 t c = search needs
+
+element-same-length-5 : (t : ℕ) → element-lts.Need-same-length-5 (element-calls t) (element-at t) element.Post element-Inv-loop element-μ-loop
+element-same-length-5 t c =
+    let the-loop = c .before .before .before .before .before .before .before .before .before .before .before .loop in
+    let the-nested = c .before .before .before .before .nested in
+    the-nested .kept .1 .1 .1 .1 .1 .1 .1 .0 ∙ the-loop .inv .same
+
+element-returns-5 : (t : ℕ) → element-lts.Need-returns-5 (element-calls t) (element-at t) element.Post element-Inv-loop element-μ-loop
+element-returns-5 t c =
+    let the-loop = c .before .before .before .before .before .before .before .before .before .before .before .loop in
+    let the-nested = c .before .before .before .before .nested in
+    let the-e2 = c .before .e2 in
+    let i = the-loop .inv in
+    (record { filled = λ es base e h. members-stop _ _ _ _ _ _ (i .held es base e h) (the-nested .ensures .0) (the-e2 .given .1) }, tt)
 
 abbrev entry-calls : ℕ → entry-lts.Claims
-entry-calls t = (word-reads.Asked, word-reads.Learnt, blank-reads.Asked, blank-reads.Learnt, less-reads.Asked, less-reads.Learnt, element-below t, element.Post, close-reads.Asked, close-reads.Learnt)
+entry-calls t = (
+  word-reads.Asked,
+  word-reads.Learnt,
+  blank-reads.Asked,
+  blank-reads.Learnt,
+  less-reads.Asked,
+  less-reads.Learnt,
+  element-below t,
+  element.Post,
+  close-reads.Asked,
+  close-reads.Learnt,
+)
 
 entry-word-requires : (t : ℕ) → entry-lts.Need-word-requires (entry-calls t) (entry-at t) entry.Post
 entry-word-requires t c κs = search needs
@@ -347,7 +499,20 @@ entry-returns t c =
     )
 
 abbrev general-calls : ℕ → general-lts.Claims
-general-calls t = (member-at-reads.Asked, member-at-reads.Learnt, on-reads.Asked, on-reads.Learnt, put-cell-reads.Asked, put-cell-reads.Learnt, contents-below t, contents.Post, onward-reads.Asked, onward-reads.Learnt, list-below t, list.Post)
+general-calls t = (
+  member-at-reads.Asked,
+  member-at-reads.Learnt,
+  on-reads.Asked,
+  on-reads.Learnt,
+  put-cell-reads.Asked,
+  put-cell-reads.Learnt,
+  contents-below t,
+  contents.Post,
+  onward-reads.Asked,
+  onward-reads.Learnt,
+  list-below t,
+  list.Post,
+)
 
 general-member-at-requires : (t : ℕ) → general-lts.Need-member-at-requires (general-calls t) (general-at t) general.Post
 general-member-at-requires t c κs = search needs
@@ -457,7 +622,7 @@ general-returns-4 t c =
 general-same-length-2 : (t : ℕ) → general-lts.Need-same-length-2 (general-calls t) (general-at t) general.Post
 general-same-length-2 t c =
     let the-contents = c .before .before .contents in
-    the-contents .kept .1 .1 .1 .1 .1 .1 .1 .1 .1 .0
+    the-contents .kept .1 .1 .1 .1 .1 .1 .1 .1 .0
 
 general-returns-5 : (t : ℕ) → general-lts.Need-returns-5 (general-calls t) (general-at t) general.Post
 general-returns-5 t c =
@@ -471,7 +636,7 @@ general-returns-5 t c =
 general-same-length-3 : (t : ℕ) → general-lts.Need-same-length-3 (general-calls t) (general-at t) general.Post
 general-same-length-3 t c =
     let the-list = c .before .before .list in
-    the-list .kept .1 .1 .1 .1 .1 .1 .1 .1 .1 .0
+    the-list .kept .1 .1 .1 .1 .1 .1 .1 .1 .0
 
 general-returns-6 : (t : ℕ) → general-lts.Need-returns-6 (general-calls t) (general-at t) general.Post
 general-returns-6 t c =
@@ -483,7 +648,22 @@ general-returns-6 t c =
     turn-items _ _ _ _ _ _ (the-member-at .ensures .0 ∙ the-before5 .given .1) (w .0) (w .1) (the-list .ensures .0) (the-list .ensures .1) (the-onward2 .ensures)
 
 abbrev item-turn-calls : ℕ → item-turn-lts.Claims
-item-turn-calls t = (shut-reads.Asked, shut-reads.Learnt, kind-at-reads.Asked, kind-at-reads.Learnt, size-reads.Asked, size-reads.Learnt, opened-reads.Asked, opened-reads.Learnt, entry-below t, entry.Post, onward-reads.Asked, onward-reads.Learnt, item-at-reads.Asked, item-at-reads.Learnt)
+item-turn-calls t = (
+  shut-reads.Asked,
+  shut-reads.Learnt,
+  kind-at-reads.Asked,
+  kind-at-reads.Learnt,
+  size-reads.Asked,
+  size-reads.Learnt,
+  opened-reads.Asked,
+  opened-reads.Learnt,
+  entry-below t,
+  entry.Post,
+  onward-reads.Asked,
+  onward-reads.Learnt,
+  item-at-reads.Asked,
+  item-at-reads.Learnt,
+)
 
 item-turn-shut-requires : (t : ℕ) → item-turn-lts.Need-shut-requires (item-turn-calls t) (item-turn-at t) item-turn.Post
 item-turn-shut-requires t c κs = search needs
@@ -551,7 +731,7 @@ item-turn-onward-requires t c κs = search needs
 item-turn-same-length : (t : ℕ) → item-turn-lts.Need-same-length (item-turn-calls t) (item-turn-at t) item-turn.Post
 item-turn-same-length t c =
     let the-entry = c .before .before .entry in
-    the-entry .kept .1 .1 .1 .1 .1 .1 .1 .1 .1 .0
+    the-entry .kept .1 .1 .1 .1 .1 .1 .1 .1 .0
 
 item-turn-returns-2 : (t : ℕ) → item-turn-lts.Need-returns-2 (item-turn-calls t) (item-turn-at t) item-turn.Post
 item-turn-returns-2 t c =
@@ -608,7 +788,7 @@ item-turn-returns-4 t c =
 item-turn-same-length-2 : (t : ℕ) → item-turn-lts.Need-same-length-2 (item-turn-calls t) (item-turn-at t) item-turn.Post
 item-turn-same-length-2 t c =
     let the-entry2 = c .before .before .entry2 in
-    the-entry2 .kept .1 .1 .1 .1 .1 .1 .1 .1 .1 .0
+    the-entry2 .kept .1 .1 .1 .1 .1 .1 .1 .1 .0
 
 item-turn-returns-5 : (t : ℕ) → item-turn-lts.Need-returns-5 (item-turn-calls t) (item-turn-at t) item-turn.Post
 item-turn-returns-5 t c =
@@ -620,7 +800,12 @@ item-turn-returns-5 t c =
     turn-element _ _ _ _ _ _ (the-item-at .ensures .0 ∙ the-kind .given .1) (w .0) (w .1) (the-entry2 .ensures .0) (the-entry2 .ensures .1) (the-onward2 .ensures)
 
 abbrev items-calls : ℕ → items-lts.Claims
-items-calls t = (begin-reads.Asked, begin-reads.Learnt, item-turn-below t, item-turn.Post)
+items-calls t = (
+  begin-reads.Asked,
+  begin-reads.Learnt,
+  item-turn-below t,
+  item-turn.Post,
+)
 
 abbrev items-Inv-loop : items-lts.InvT-loop
 items-Inv-loop s from o k which parent above n table₀ at₀ table at = ItemsLoop s o k which parent above from n table₀ table at
@@ -715,7 +900,14 @@ items-returns-2 t c =
     (record { filled = λ es base e h. items-stop _ _ _ _ _ _ (i .held es base e h) (the-item-turn .ensures .0) (the-e .given .1) }, tt)
 
 abbrev list-calls : ℕ → list-lts.Claims
-list-calls t = (less-reads.Asked, less-reads.Learnt, items-below t, items.Post, close-reads.Asked, close-reads.Learnt)
+list-calls t = (
+  less-reads.Asked,
+  less-reads.Learnt,
+  items-below t,
+  items.Post,
+  close-reads.Asked,
+  close-reads.Learnt,
+)
 
 list-less-requires : (t : ℕ) → list-lts.Need-less-requires (list-calls t) (list-at t) list.Post
 list-less-requires t c κs = search needs
@@ -742,92 +934,48 @@ list-returns t c =
       the-close .ensures .1 _ _ (the-items .ensures .1),
     )
 
-abbrev member-turn-calls : ℕ → member-turn-lts.Claims
-member-turn-calls t = (shut-reads.Asked, shut-reads.Learnt, ended-reads.Asked, ended-reads.Learnt, rule-at-reads.Asked, rule-at-reads.Learnt, general-below t, general.Post, leaf-reads.Asked, leaf-reads.Learnt, nested-below t, nested.Post)
+abbrev nested-calls : ℕ → nested-lts.Claims
+nested-calls t = (
+  general-below t,
+  general.Post,
+  wide-reads.Asked,
+  wide-reads.Learnt,
+  after-listed-reads.Asked,
+  after-listed-reads.Learnt,
+  size-reads.Asked,
+  size-reads.Learnt,
+  opened-reads.Asked,
+  opened-reads.Learnt,
+  contents-below t,
+  contents.Post,
+  onward-reads.Asked,
+  onward-reads.Learnt,
+  collection-of-reads.Asked,
+  collection-of-reads.Learnt,
+  list-below t,
+  list.Post,
+)
 
-member-turn-shut-requires : (t : ℕ) → member-turn-lts.Need-shut-requires (member-turn-calls t) (member-turn-at t) member-turn.Post
-member-turn-shut-requires t c κs = search needs
+nested-general-requires : (t : ℕ) → nested-lts.Need-general-requires (nested-calls t) (nested-at t) nested.Post
+nested-general-requires t c κs =
+    let the-Start = c .before .before .before in
+    let q = the-Start .pre .1 in (omega arith, (q .mine, q .enough))
 
-member-turn-ended-requires : (t : ℕ) → member-turn-lts.Need-ended-requires (member-turn-calls t) (member-turn-at t) member-turn.Post
-member-turn-ended-requires t c κs = search needs
-
-member-turn-returns : (t : ℕ) → member-turn-lts.Need-returns (member-turn-calls t) (member-turn-at t) member-turn.Post
-member-turn-returns t c =
-    let the-Start = c .before .before .before .before in
-    let the-shut = c .before .before .shut in
-    let the-if1 = c .before .if1 in
-    let the-ended = c .ended in
-    let z = the-shut .ensures (the-if1 .taken) in
-    turn-ended _ _ _ _ _ _ (enter-ended _ _ _ _ (z .0)) (z .1) (the-Start .pre .1 .1) (the-ended .ensures)
-
-member-turn-rule-at-requires : (t : ℕ) → member-turn-lts.Need-rule-at-requires (member-turn-calls t) (member-turn-at t) member-turn.Post
-member-turn-rule-at-requires t c κs = search needs
-
-member-turn-general-requires : (t : ℕ) → member-turn-lts.Need-general-requires (member-turn-calls t) (member-turn-at t) member-turn.Post
-member-turn-general-requires t c κs =
-    let the-Start = c .before .before .before .before .before .before in
-    let q = the-Start .pre .1 in (omega arith, q)
-
-member-turn-same-length : (t : ℕ) → member-turn-lts.Need-same-length (member-turn-calls t) (member-turn-at t) member-turn.Post
-member-turn-same-length t c =
+nested-same-length : (t : ℕ) → nested-lts.Need-same-length (nested-calls t) (nested-at t) nested.Post
+nested-same-length t c =
     let the-general = c .before .general in
     the-general .kept .1 .1 .1 .1 .1 .1 .0
 
-member-turn-returns-2 : (t : ℕ) → member-turn-lts.Need-returns-2 (member-turn-calls t) (member-turn-at t) member-turn.Post
-member-turn-returns-2 t c =
+nested-returns : (t : ℕ) → nested-lts.Need-returns (nested-calls t) (nested-at t) nested.Post
+nested-returns t c =
     let the-general = c .before .general in
     the-general .ensures
 
-member-turn-leaf-requires : (t : ℕ) → member-turn-lts.Need-leaf-requires (member-turn-calls t) (member-turn-at t) member-turn.Post
-member-turn-leaf-requires t c κs =
-    let the-Start = c .before .before .before .before .before .before .before in
-    let the-rule-at = c .before .before .before .rule-at in
-    let the-if2 = c .before .before .if2 in
-    let the-if3 = c .before .if3 in
-    let h = the-rule-at .ensures (the-if2 .left) in
-    let f = h .pair .fits (h .suits .plain (the-if3 .taken) .1) in
-    (h .pair .inside, (omega (arith, f, h .top), the-Start .pre .1 .1))
-
-member-turn-same-length-2 : (t : ℕ) → member-turn-lts.Need-same-length-2 (member-turn-calls t) (member-turn-at t) member-turn.Post
-member-turn-same-length-2 t c =
-    let the-leaf = c .before .leaf in
-    the-leaf .kept .1 .1 .1 .1 .1 .0
-
-member-turn-returns-3 : (t : ℕ) → member-turn-lts.Need-returns-3 (member-turn-calls t) (member-turn-at t) member-turn.Post
-member-turn-returns-3 t c =
-    let the-Start = c .before .before .before .before .before .before .before .before .before in
-    let the-rule-at = c .before .before .before .before .before .rule-at in
-    let the-if2 = c .before .before .before .before .if2 in
-    let the-if3 = c .before .before .before .if3 in
-    let the-leaf = c .before .leaf in
-    (the-leaf .ensures .0 .turned _ _ (the-rule-at .ensures (the-if2 .left)) (the-if2 .left) (the-if3 .taken) (the-Start .pre .1 .0), the-leaf .ensures .1)
-
-member-turn-nested-requires : (t : ℕ) → member-turn-lts.Need-nested-requires (member-turn-calls t) (member-turn-at t) member-turn.Post
-member-turn-nested-requires t c κs =
-    let the-Start = c .before .before .before .before .before .before .before in
-    let the-rule-at = c .before .before .before .rule-at in
-    let the-if2 = c .before .before .if2 in
-    let the-if3 = c .before .if3 in
-    let q = the-Start .pre .1 in
-    (omega arith, record { told = the-rule-at .ensures (the-if2 .left); holds = the-if3 .left; mine = q .0; enough = q .1 })
-
-member-turn-same-length-3 : (t : ℕ) → member-turn-lts.Need-same-length-3 (member-turn-calls t) (member-turn-at t) member-turn.Post
-member-turn-same-length-3 t c =
-    let the-nested = c .before .nested in
-    the-nested .kept .1 .1 .1 .1 .1 .1 .1 .0
-
-member-turn-returns-4 : (t : ℕ) → member-turn-lts.Need-returns-4 (member-turn-calls t) (member-turn-at t) member-turn.Post
-member-turn-returns-4 t c =
-    let the-nested = c .before .nested in
-    the-nested .ensures
-
-abbrev nested-calls : ℕ → nested-lts.Claims
-nested-calls t = (wide-reads.Asked, wide-reads.Learnt, after-listed-reads.Asked, after-listed-reads.Learnt, size-reads.Asked, size-reads.Learnt, opened-reads.Asked, opened-reads.Learnt, contents-below t, contents.Post, onward-reads.Asked, onward-reads.Learnt, collection-of-reads.Asked, collection-of-reads.Learnt, list-below t, list.Post)
-
 nested-shared-slice-read-wide : (t : ℕ) → nested-lts.Need-shared-slice-read-wide (nested-calls t) (nested-at t) nested.Post
 nested-shared-slice-read-wide t c =
-    let the-Start = c .before .before in
-    let i = the-Start .pre .1 .told .pair .inside in omega (arith, i)
+    let the-Start = c .before .before .before in
+    let the-if1 = c .before .if1 in
+    let i = the-Start .pre .1 .told (the-if1 .left) .pair .inside in omega (arith, i)
 
 nested-wide-requires : (t : ℕ) → nested-lts.Need-wide-requires (nested-calls t) (nested-at t) nested.Post
 nested-wide-requires t c κs = search needs
@@ -837,122 +985,132 @@ nested-after-listed-requires t c κs = search needs
 
 nested-add-from : (t : ℕ) → nested-lts.Need-add-from (nested-calls t) (nested-at t) nested.Post
 nested-add-from t c =
-    let the-Start = c .before .before .before .before in
-    let i = the-Start .pre .1 .told .pair .inside in omega (arith, i)
+    let the-Start = c .before .before .before .before .before in
+    let the-if1 = c .before .before .before .if1 in
+    let i = the-Start .pre .1 .told (the-if1 .left) .pair .inside in omega (arith, i)
 
 nested-add-size : (t : ℕ) → nested-lts.Need-add-size (nested-calls t) (nested-at t) nested.Post
 nested-add-size t c =
-    let the-Start = c .before .before .before .before in
-    let i = the-Start .pre .1 .told .pair .inside in omega (arith, i)
+    let the-Start = c .before .before .before .before .before in
+    let the-if1 = c .before .before .before .if1 in
+    let i = the-Start .pre .1 .told (the-if1 .left) .pair .inside in omega (arith, i)
 
 nested-shared-slice-read-size : (t : ℕ) → nested-lts.Need-shared-slice-read-size (nested-calls t) (nested-at t) nested.Post
 nested-shared-slice-read-size t c =
-    let the-Start = c .before .before .before .before .before in
-    the-Start .pre .1 .told .pair .inside
+    let the-Start = c .before .before .before .before .before .before in
+    let the-if1 = c .before .before .before .before .if1 in
+    the-Start .pre .1 .told (the-if1 .left) .pair .inside
 
 nested-size-requires : (t : ℕ) → nested-lts.Need-size-requires (nested-calls t) (nested-at t) nested.Post
 nested-size-requires t c κs = search needs
 
 nested-opened-requires : (t : ℕ) → nested-lts.Need-opened-requires (nested-calls t) (nested-at t) nested.Post
 nested-opened-requires t c κs =
-    let the-Start = c .before .before .before .before .before .before in
+    let the-Start = c .before .before .before .before .before .before .before in
+    let the-if1 = c .before .before .before .before .before .if1 in
     let the-size = c .size in
-    let h = the-Start .pre .1 .told in
+    let h = the-Start .pre .1 .told (the-if1 .left) in
     let e = the-size .ensures in
     λ l. let f = h .pair .fits (subst (λ y. y < 128) e l) in omega (arith, e, f)
 
 nested-sub-contents : (t : ℕ) → nested-lts.Need-sub-contents (nested-calls t) (nested-at t) nested.Post
 nested-sub-contents t c =
-    let the-Start = c .before .before .before .before .before .before .before .before in
-    let r = the-Start .pre .1 .told .room in omega (arith, r)
+    let the-Start = c .before .before .before .before .before .before .before .before .before in
+    let the-if1 = c .before .before .before .before .before .before .before .if1 in
+    let r = the-Start .pre .1 .told (the-if1 .left) .room in omega (arith, r)
 
 nested-contents-requires : (t : ℕ) → nested-lts.Need-contents-requires (nested-calls t) (nested-at t) nested.Post
 nested-contents-requires t c κs =
-    let the-Start = c .before .before .before .before .before .before .before .before .before in
+    let the-Start = c .before .before .before .before .before .before .before .before .before .before in
+    let the-if1 = c .before .before .before .before .before .before .before .before .if1 in
     let q = the-Start .pre .1 in
-    let i = q .told .pair .inside in
+    let i = q .told (the-if1 .left) .pair .inside in
     (omega (arith, i), (q .mine, omega (arith, q .enough)))
 
 nested-onward-requires : (t : ℕ) → nested-lts.Need-onward-requires (nested-calls t) (nested-at t) nested.Post
 nested-onward-requires t c κs = search needs
 
-nested-same-length : (t : ℕ) → nested-lts.Need-same-length (nested-calls t) (nested-at t) nested.Post
-nested-same-length t c =
+nested-same-length-2 : (t : ℕ) → nested-lts.Need-same-length-2 (nested-calls t) (nested-at t) nested.Post
+nested-same-length-2 t c =
     let the-contents = c .before .before .contents in
-    the-contents .kept .1 .1 .1 .1 .1 .1 .1 .1 .1 .0
+    the-contents .kept .1 .1 .1 .1 .1 .1 .1 .1 .0
 
-nested-returns : (t : ℕ) → nested-lts.Need-returns (nested-calls t) (nested-at t) nested.Post
-nested-returns t c =
-    let the-Start = c .before .before .before .before .before .before .before .before .before .before .before .before in
+nested-returns-2 : (t : ℕ) → nested-lts.Need-returns-2 (nested-calls t) (nested-at t) nested.Post
+nested-returns-2 t c =
+    let the-Start = c .before .before .before .before .before .before .before .before .before .before .before .before .before in
+    let the-if1 = c .before .before .before .before .before .before .before .before .before .before .before .if1 in
     let the-wide = c .before .before .before .before .before .before .before .before .before .wide in
     let the-after-listed = c .before .before .before .before .before .before .before .before .after-listed in
     let the-size = c .before .before .before .before .before .before .size in
     let the-opened = c .before .before .before .before .before .opened in
-    let the-if1 = c .before .before .before .before .if1 in
+    let the-if2 = c .before .before .before .before .if2 in
     let the-contents = c .before .before .contents in
     let the-onward = c .onward in
     let q = the-Start .pre .1 in
-    let i = q .told .pair .inside in
-    let b = q .holds in
+    let h = q .told (the-if1 .left) in
+    let i = h .pair .inside in
     turn-contents _ _ _ _ _ _
-    (quick-contents _ _ _ _ _ _ _ _ (q .told) (λ z. omega (arith, z, b)) (the-wide .ensures .0) (the-size .ensures) (the-after-listed .ensures .0)
-    (the-opened .ensures) (the-if1 .taken))
+    (quick-contents _ _ _ _ _ _ _ _ h (the-if1 .left) (the-wide .ensures .0) (the-size .ensures) (the-after-listed .ensures .0) (the-opened .ensures) (the-if2 .taken))
     (omega (arith, i)) (omega arith) (the-contents .ensures .0) (the-contents .ensures .1) (the-onward .ensures)
 
 nested-collection-of-requires : (t : ℕ) → nested-lts.Need-collection-of-requires (nested-calls t) (nested-at t) nested.Post
 nested-collection-of-requires t c κs = search needs
 
-nested-sub-list : (t : ℕ) → nested-lts.Need-sub-list (nested-calls t) (nested-at t) nested.Post
-nested-sub-list t c =
-    let the-Start = c .before .before .before .before .before .before .before .before .before in
-    let r = the-Start .pre .1 .told .room in omega (arith, r)
-
-nested-add-list : (t : ℕ) → nested-lts.Need-add-list (nested-calls t) (nested-at t) nested.Post
-nested-add-list t c =
-    let the-Start = c .before .before .before .before .before .before .before .before .before in
-    let the-shared-slice-known = c .before .before .before .before .before .before .before .before .shared-slice-known in
+nested-add-parent : (t : ℕ) → nested-lts.Need-add-parent (nested-calls t) (nested-at t) nested.Post
+nested-add-parent t c =
+    let the-Start = c .before .before .before .before .before .before .before .before .before .before in
+    let the-shared-slice-known = c .before .before .before .before .before .before .before .before .before .shared-slice-known in
+    let the-if1 = c .before .before .before .before .before .before .before .before .if1 in
     let q = the-Start .pre .1 in
-    let i = q .told .pair .inside in
+    let i = q .told (the-if1 .left) .pair .inside in
     let l = the-shared-slice-known .given in
     omega (arith, i, q .mine, q .enough)
 
+nested-sub-list : (t : ℕ) → nested-lts.Need-sub-list (nested-calls t) (nested-at t) nested.Post
+nested-sub-list t c =
+    let the-Start = c .before .before .before .before .before .before .before .before .before .before in
+    let the-if1 = c .before .before .before .before .before .before .before .before .if1 in
+    let r = the-Start .pre .1 .told (the-if1 .left) .room in omega (arith, r)
+
 nested-list-requires : (t : ℕ) → nested-lts.Need-list-requires (nested-calls t) (nested-at t) nested.Post
 nested-list-requires t c κs =
-    let the-Start = c .before .before .before .before .before .before .before .before .before .before in
+    let the-Start = c .before .before .before .before .before .before .before .before .before .before .before in
+    let the-if1 = c .before .before .before .before .before .before .before .before .before .if1 in
     let q = the-Start .pre .1 in
-    let i = q .told .pair .inside in
+    let i = q .told (the-if1 .left) .pair .inside in
     (omega (arith, i), omega (arith, q .enough))
 
 nested-onward-requires-2 : (t : ℕ) → nested-lts.Need-onward-requires-2 (nested-calls t) (nested-at t) nested.Post
 nested-onward-requires-2 t c κs = search needs
 
-nested-same-length-2 : (t : ℕ) → nested-lts.Need-same-length-2 (nested-calls t) (nested-at t) nested.Post
-nested-same-length-2 t c =
+nested-same-length-3 : (t : ℕ) → nested-lts.Need-same-length-3 (nested-calls t) (nested-at t) nested.Post
+nested-same-length-3 t c =
     let the-list = c .before .before .list in
-    the-list .kept .1 .1 .1 .1 .1 .1 .1 .1 .1 .0
+    the-list .kept .1 .1 .1 .1 .1 .1 .1 .1 .0
 
-nested-returns-2 : (t : ℕ) → nested-lts.Need-returns-2 (nested-calls t) (nested-at t) nested.Post
-nested-returns-2 t c =
-    let the-Start = c .before .before .before .before .before .before .before .before .before .before .before .before .before in
+nested-returns-3 : (t : ℕ) → nested-lts.Need-returns-3 (nested-calls t) (nested-at t) nested.Post
+nested-returns-3 t c =
+    let the-Start = c .before .before .before .before .before .before .before .before .before .before .before .before .before .before in
+    let the-if1 = c .before .before .before .before .before .before .before .before .before .before .before .before .if1 in
     let the-wide = c .before .before .before .before .before .before .before .before .before .before .wide in
     let the-after-listed = c .before .before .before .before .before .before .before .before .before .after-listed in
     let the-size = c .before .before .before .before .before .before .before .size in
     let the-opened = c .before .before .before .before .before .before .opened in
-    let the-if1 = c .before .before .before .before .before .if1 in
+    let the-if2 = c .before .before .before .before .before .if2 in
     let the-collection-of = c .before .before .before .before .collection-of in
     let the-list = c .before .before .list in
     let the-onward2 = c .onward2 in
     let q = the-Start .pre .1 in
-    let i = q .told .pair .inside in
-    let b = q .holds in
+    let h = q .told (the-if1 .left) in
+    let i = h .pair .inside in
+    let b = q .holds (the-if1 .left) in
     turn-items _ _ _ _ _ _
-    (quick-items _ _ _ _ _ _ _ _ (q .told) (λ z. omega (arith, z, b)) (the-wide .ensures .0) (the-size .ensures) (the-after-listed .ensures .0)
-    (the-opened .ensures) (omega (arith, b, the-if1 .left)) (the-collection-of .ensures))
+    (quick-items _ _ _ _ _ _ _ _ h (the-if1 .left) (the-wide .ensures .0) (the-size .ensures) (the-after-listed .ensures .0)
+    (the-opened .ensures) (omega (arith, b, the-if2 .left)) (the-collection-of .ensures))
     (omega (arith, i)) (omega arith) (the-list .ensures .0) (the-list .ensures .1) (the-onward2 .ensures)
 
-pub +contents+element+entry+general+item-turn+items+list+member-turn+nested-spec :
-    {M : Type 1} → statement M
-+contents+element+entry+general+item-turn+items+list+member-turn+nested-spec =
+pub +contents+element+entry+general+item-turn+items+list+nested-spec : {M : Type 1} → statement M
++contents+element+entry+general+item-turn+items+list+nested-spec =
     close
     μ-contents
     μ-element
@@ -961,7 +1119,6 @@ pub +contents+element+entry+general+item-turn+items+list+member-turn+nested-spec
     μ-item-turn
     μ-items
     μ-list
-    μ-member-turn
     μ-nested
     (λ t. contents-lts.spec (contents-calls t) (contents-at t) contents.Post
     (contents-less-requires t)
@@ -975,16 +1132,32 @@ pub +contents+element+entry+general+item-turn+items+list+member-turn+nested-spec
     element-μ-loop
     (element-begin-requires t)
     (element-loop-holds t)
-    (element-member-turn-requires t)
+    (element-shut-requires t)
+    (element-ended-requires t)
+    (element-same-length t)
+    (element-returns t)
+    (element-rule-at-requires t)
+    (element-is-leaf-requires t)
+    (element-leaf-requires t)
     (element-enum-known-next t)
     (element-loop-less t)
     (element-loop-again t)
     (element-enum-known-next-2 t)
-    (element-same-length t)
-    (element-returns t)
-    (element-enum-known-e t)
     (element-same-length-2 t)
-    (element-returns-2 t))
+    (element-returns-2 t)
+    (element-enum-known-e t)
+    (element-same-length-3 t)
+    (element-returns-3 t)
+    (element-nested-requires t)
+    (element-enum-known-next-3 t)
+    (element-loop-less-2 t)
+    (element-loop-again-2 t)
+    (element-enum-known-next-4 t)
+    (element-same-length-4 t)
+    (element-returns-4 t)
+    (element-enum-known-e-2 t)
+    (element-same-length-5 t)
+    (element-returns-5 t))
     (λ t. entry-lts.spec (entry-calls t) (entry-at t) entry.Post
     (entry-word-requires t)
     (entry-blank-requires t)
@@ -1064,21 +1237,10 @@ pub +contents+element+entry+general+item-turn+items+list+member-turn+nested-spec
     (list-close-requires t)
     (list-same-length t)
     (list-returns t))
-    (λ t. member-turn-lts.spec (member-turn-calls t) (member-turn-at t) member-turn.Post
-    (member-turn-shut-requires t)
-    (member-turn-ended-requires t)
-    (member-turn-returns t)
-    (member-turn-rule-at-requires t)
-    (member-turn-general-requires t)
-    (member-turn-same-length t)
-    (member-turn-returns-2 t)
-    (member-turn-leaf-requires t)
-    (member-turn-same-length-2 t)
-    (member-turn-returns-3 t)
-    (member-turn-nested-requires t)
-    (member-turn-same-length-3 t)
-    (member-turn-returns-4 t))
     λ t. nested-lts.spec (nested-calls t) (nested-at t) nested.Post
+    (nested-general-requires t)
+    (nested-same-length t)
+    (nested-returns t)
     (nested-shared-slice-read-wide t)
     (nested-wide-requires t)
     (nested-after-listed-requires t)
@@ -1090,12 +1252,12 @@ pub +contents+element+entry+general+item-turn+items+list+member-turn+nested-spec
     (nested-sub-contents t)
     (nested-contents-requires t)
     (nested-onward-requires t)
-    (nested-same-length t)
-    (nested-returns t)
-    (nested-collection-of-requires t)
-    (nested-sub-list t)
-    (nested-add-list t)
-    (nested-list-requires t)
-    (nested-onward-requires-2 t)
     (nested-same-length-2 t)
     (nested-returns-2 t)
+    (nested-collection-of-requires t)
+    (nested-add-parent t)
+    (nested-sub-list t)
+    (nested-list-requires t)
+    (nested-onward-requires-2 t)
+    (nested-same-length-3 t)
+    (nested-returns-3 t)
