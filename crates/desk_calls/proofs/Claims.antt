@@ -15,7 +15,8 @@ use Rattle.desk_crosspoints.specs.Desk.{Desk, withCells, deskLegal, Answer, ans
 use Rattle.desk_crosspoints.proofs.Paths.{desk-fits, desk-legal, desk-rest}
 use Rattle.desk_requests.specs.Request.{Request, requested}
 use Rattle.desk_requests.proofs.Claims.{request-legal, refused-same, request-length}
-use Rattle.desk_connections.specs.Connections.{Ask, askOf, asksIn, asksOf, same}
+use Rattle.glow_paths.specs.Paths.{same}
+use Rattle.desk_connections.specs.Connections.{Ask, askOf, asksIn, asksOf}
 use Rattle.desk_calls.specs.Calls.{requestOf, answered, Served, answers, served, handled, Outcome, filled, laid}
 use Rattle.desk_calls.specs.Calls.{unserved, isReady, called}
 use Rattle.desk_calls.proofs.Setup.{called-not, called-ready}

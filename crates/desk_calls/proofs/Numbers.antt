@@ -17,7 +17,8 @@ use Rattle.desk_requests.specs.Lists.{has}
 use Rattle.desk_requests.specs.Request.{Request, result, checks, judged, asked, requested}
 use Rattle.desk_requests.proofs.Checks.{first-by}
 use Rattle.desk_requests.proofs.Claims.{request-legal, request-not-setup}
-use Rattle.desk_connections.specs.Connections.{Ask, same}
+use Rattle.glow_paths.specs.Paths.{same}
+use Rattle.desk_connections.specs.Connections.{Ask}
 use Rattle.desk_connections.proofs.Operations.{Operations}
 use Rattle.desk_calls.specs.Calls.{requestOf, answered, served, handled, laid, unserved, isReady, called}
 use Rattle.desk_calls.specs.Numbers.{openNumbers, requestNumbers, callNumbers, answerNumbers, allHas}

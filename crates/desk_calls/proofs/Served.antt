@@ -8,14 +8,16 @@ use borrow.Author.Tests.{eq-eqb, ne-eqb}
 use lib.ListN.{length, take, drop, getD, set, take-append-drop, drop-of-length-le}
 use lib.Seq.{take-suc-set, drop-set-lt, drop-cons}
 use Rattle.glow_rows.specs.Entry.{Rows}
-use Rattle.glow_rows.specs.declared.Cell.{Cell}
-use Rattle.glow_trees.specs.Content.{Item, contentOf}
+use Rattle.glow_trees.specs.Content.{Item}
 use Rattle.glow_trees.specs.Rows.{itemsIn}
-use Rattle.glow_sizes.specs.Sizes.{rowCell}
 use Rattle.desk_crosspoints.specs.Crosspoints.{Cells}
 use Rattle.desk_crosspoints.specs.Desk.{Desk, withCells, Answer, answer}
-use Rattle.desk_connections.specs.Connections.{numberOf, nobody, fullPath, askOf, asksIn, memberOf, same}
-use Rattle.desk_connections.proofs.Items.{in-length, in-kind, in-parent, in-first, in-second, in-third}
+use Rattle.glow_paths.specs.Paths.{nobody, fullPath, same}
+use Rattle.desk_connections.specs.declared.Asked.{Asked}
+use Rattle.desk_connections.specs.Connections.{askOf, asksIn}
+use Rattle.desk_connections.specs.Rows.{listed, Asks}
+use Rattle.desk_connections.proofs.Rows.{asks-are}
+use Rattle.glow_paths.proofs.Items.{in-length, in-kind, in-parent}
 use Rattle.desk_sources.proofs.Sources.{append-again}
 use Rattle.desk_calls.specs.Calls.{answered, Served, answers, served, handled, outcome}
 use Rattle.desk_calls.specs.Steps.{laidOver, laidAt, askedOf, answeredAt, servedIn, leftFrom, Takes}
@@ -109,17 +111,10 @@ module _ (d : Desk) (s : List ℕ) (rows : Rows) (count : ℕ) (c : count ≤ le
     unfolding answered askOf
     other-matrix h = rw (matrix-is, h)
 
-    pub own-matrix : same (fullPath items p) (d .path) ≡ true → (target operation : ℕ) (t o v : Cell)
-        → t ≡ rowCell rows i 0 → o ≡ rowCell rows i 2 → v ≡ rowCell rows i 1
-        → numberOf (contentOf s t) ≡ target → numberOf (contentOf s o) ≡ operation
-        → (a : Answer) → askedOf d target s v operation ≡ a
-        → answered d (askOf items here) ≡ a
-    unfolding answered askOf
-    own-matrix h target operation t o v x y z m n a b =
-        let q : numberOf (memberOf here 0) ≡ target = ap numberOf (in-first s rows count c i k ∙ ap (contentOf s) (sym x)) ∙ m in
-        let r : numberOf (memberOf here 2) ≡ operation = ap numberOf (in-third s rows count c i k ∙ ap (contentOf s) (sym y)) ∙ n in
-        let l : memberOf here 1 ≡ contentOf s v = in-second s rows count c i k ∙ ap (contentOf s) (sym z) in
-        rw (matrix-is, h, q, r, l) b
+    pub own-matrix : same (fullPath items p) (d .path) ≡ true → (a : Asked) → Asks s (getD rows i []) a
+        → (r : Answer) → askedOf d (a .target) (listed s a) (a .operation) ≡ r → answered d (askOf items here) ≡ r
+    unfolding answered
+    own-matrix h a x r b = ap (answered d) (asks-are s rows count c i k a x) ∙ rw (matrix-is, h) b
 
 pub answer-same : (a : Answer) (x y : ℕ) (after : Cells) → a ≡ answer x after → y ≡ x → a ≡ answer y after
 answer-same a x y after e d = e ∙ ap (λ (i : ℕ). answer i after) (sym d)

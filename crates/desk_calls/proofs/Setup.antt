@@ -21,7 +21,7 @@ use Rattle.desk_crosspoints.proofs.Laws.{both-left, both-right, both-no, both-y
 use Rattle.desk_calls.specs.Calls.{Served, handled, Outcome, outcome, filled, laid, unserved, isReady, called, told}
 use Rattle.desk_calls.specs.Steps.{laidOver}
 use Rattle.desk_calls.specs.declared.Called.{Called}
-use Rattle.desk_connections.proofs.Items.{in-length}
+use Rattle.glow_paths.proofs.Items.{in-length}
 
 -- the writer's measure
 module _ (real : ℕ → List ℕ) (root rows n : ℕ) (es : List Item) (r : ℕ) (e : lengthOf real root rows n es ≡ r) where

@@ -16,7 +16,8 @@ use Rattle.desk_crosspoints.specs.Crosspoints.{kindFits, cellsFit, legal}
 use Rattle.desk_crosspoints.specs.Desk.{deskAt, pathFits, allNumbers, deskLegal}
 use Rattle.desk_requests.specs.Request.{marked, named, allBelow, replaces, becomes, takes, others, rowAfter, result}
 use Rattle.desk_requests.specs.Request.{firstOf, many, overTotal, checks, judged, asked, requested}
-use Rattle.desk_connections.specs.Connections.{numbersIn, isQualified, pathUp, fullPath, ask, askOf, asksIn, same}
+use Rattle.glow_paths.specs.Paths.{numbersIn, isQualified, pathUp, fullPath, same}
+use Rattle.desk_connections.specs.Connections.{ask, askOf, asksIn}
 use Rattle.desk_calls.specs.Calls.{answered, answers, served, handled, outcome, filled, laid, isReady, called}
 
 abbrev desk : ℕ → Figures

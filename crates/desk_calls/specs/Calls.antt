@@ -14,7 +14,8 @@ use Rattle.desk_crosspoints.specs.Crosspoints.{Cells, clear}
 use Rattle.desk_crosspoints.specs.Desk.{Desk, withCells, deskLegal, Answer, answer}
 use Rattle.desk_requests.specs.Request.{Request, request, requested}
 use Rattle.desk_calls.specs.declared.Called.{Called}
-use Rattle.desk_connections.specs.Connections.{Ask, asksOf, same}
+use Rattle.glow_paths.specs.Paths.{same}
+use Rattle.desk_connections.specs.Connections.{Ask, asksOf}
 
 -- a connection's request: its matrix apart
 abbrev pub requestOf : Ask → Request

@@ -4,19 +4,18 @@ use mathlib.Core.Path.{_≡_}
 use mathlib.Core.List.{List, _++_}
 use lib.ListN.{length, take, drop, getD}
 use Rattle.glow_rows.specs.Entry.{Rows}
-use Rattle.glow_rows.specs.declared.Cell.{Cell}
-use Rattle.glow_trees.specs.Content.{contentOf}
 use Rattle.glow_trees.specs.Rows.{itemsIn}
 use Rattle.desk_crosspoints.specs.Crosspoints.{Cells}
 use Rattle.desk_crosspoints.specs.Desk.{Desk, withCells, Answer}
 use Rattle.desk_requests.specs.Request.{request, requested}
-use Rattle.desk_connections.specs.Connections.{octetsOf, numbersIn, nobody, askOf, asksIn}
+use Rattle.glow_paths.specs.Paths.{numbersIn, nobody}
+use Rattle.desk_connections.specs.Connections.{askOf, asksIn}
 use Rattle.desk_calls.specs.Calls.{answered, Served, served, handled, Outcome, outcome}
 
--- With the message beside the first n rows: a request with the sources of a member, the answer to the connection at place i, and what the connections from
+-- With the message beside the first n rows: a request with the sources that octets name, the answer to the connection at place i, and what the connections from
 -- place i on still give.
-abbrev pub askedOf : Desk → ℕ → List ℕ → Cell → ℕ → Answer
-askedOf d target s v operation = requested d (request target (numbersIn (octetsOf (contentOf s v))) operation)
+abbrev pub askedOf : Desk → ℕ → List ℕ → ℕ → Answer
+askedOf d target octets operation = requested d (request target (numbersIn octets) operation)
 
 abbrev pub answeredAt : Desk → Rows → ℕ → List ℕ → ℕ → Answer
 answeredAt d rows n s i = answered d (askOf (itemsIn s rows n) (getD (itemsIn s rows n) i nobody))

@@ -1,11 +1,13 @@
 // The desk's calls: one request on plain numbers, and a message's connections.
-use desk_connections::is_path;
-use desk_connections::number_of;
+use desk_connections::asked_at;
 use desk_crosspoints::Figures;
 use desk_crosspoints::SIDE;
 use desk_sources::sources_of;
-use glow_rows::Cell;
-use glow_sizes::cell_at;
+use glow_paths::is_path;
+use glow_rows::KIND;
+use glow_rows::PARENT;
+use glow_rows::kinds;
+use glow_rows::word_at;
 ghost use mathlib.Core.Path.{_≡_};
 ghost use mathlib.Core.List.{List, []};
 ghost use mathlib.Core.Bool.{true};
@@ -87,21 +89,13 @@ pub fn request(
     request_legal(f, target, sources, operation, crosspoints)
 }
 
-// The word j of a row.
-fn word_at(rows: &[[u64; 50]], i: usize, j: usize) -> u64
-    requires { ⌜ (i < length (now rows)) × (j < 50) ⌝ }
-    ensures { λ r. ⌜ r ≡ getD (getD (now (rows .entry)) i []) j 0 ⌝ }
-{
-    rows[i][j]
-}
-
-// A request with the sources of a member. The desk was judged before the first of them, and each leaves it legal.
-fn ask_member(f: Figures, target: u64, v: Cell, operation: u64, s: &[u8], cells: &mut [u8]) -> u64
+// A request with the sources that octets name. The desk was judged before the first of them, and each leaves it legal.
+fn ask_member(f: Figures, target: u64, octets: &[u8], operation: u64, cells: &mut [u8]) -> u64
     requires { ⌜ legal f (now cells) ≡ true ⌝ }
-    ensures { λ r. ⌜ askedOf (deskAt f [] (now (cells .entry))) target (now (s .entry)) v operation ≡ answer r (now (cells .exit)) ⌝ }
+    ensures { λ r. ⌜ askedOf (deskAt f [] (now (cells .entry))) target (now (octets .entry)) operation ≡ answer r (now (cells .exit)) ⌝ }
 {
     let mut list = [0u64; SIDE];
-    let n = sources_of(s, v, f.sources, &mut list);
+    let n = sources_of(octets, f.sources, &mut list);
     request_legal(f, target, &list[..n], operation, cells)
 }
 
@@ -119,12 +113,13 @@ fn answer_to(
     ensures { λ r. ⌜ answeredAt (deskAt f (now (path .entry)) (now (cells .entry))) (now (rows .entry)) count (now (s .entry)) i
         ≡ answer r (now (cells .exit)) ⌝ }
 {
-    if !is_path(path, rows, count, s, word_at(rows, i, 1)) {
+    if !is_path(path, rows, count, s, word_at(rows, i, PARENT)) {
         return 40;
     }
-    let target = number_of(cell_at(rows, i, 0));
-    let operation = number_of(cell_at(rows, i, 2));
-    ask_member(f, target, cell_at(rows, i, 1), operation, s, cells)
+    let asked = asked_at(rows, i, s);
+    let start = asked.start;
+    let end = asked.end;
+    ask_member(f, asked.target, &s[start..end], asked.operation, cells)
 }
 
 fn narrow(x: u64) -> u8
@@ -152,7 +147,7 @@ fn take_entry(
         r (now (answers .exit)) (now (cells .exit)) ⌝ }
     ensures { λ r. ⌜ (r ≤ n + 1) × (legal f (now (cells .exit)) ≡ true) ⌝ }
 {
-    if word_at(rows, i, 0) != 8 {
+    if word_at(rows, i, KIND) != kinds::CONNECTION {
         return n;
     }
     answers[n] = narrow(answer_to(f, path, rows, count, i, s, cells));

@@ -1,5 +1,3 @@
-pub mod Numbers
-pub mod Items
-pub mod Walk
 pub mod Paths
 pub mod Operations
+pub mod Rows

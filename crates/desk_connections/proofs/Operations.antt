@@ -14,7 +14,8 @@ use Rattle.glow_grammar.specs.Leaf.{both, least, most, inRange, expects}
 use Rattle.glow_trees.specs.Content.{Content, nothing, word, bytes, wrong, intOf, isWord}
 use Rattle.glow_trees.specs.Trees.{Trees, none, tree}
 use Rattle.glow_trees.specs.Legal.{ruleAt, wordSuits, suits, suited, pathAfter, legal, legalRoot, isNone, isRoot, isReal}
-use Rattle.desk_connections.specs.Connections.{numberOf, octetsOf, numbersIn, Ask, ask}
+use Rattle.glow_paths.specs.Paths.{numberOf, octetsOf, numbersIn}
+use Rattle.desk_connections.specs.Connections.{Ask, ask}
 use Rattle.desk_connections.proofs.Paths.{memberAt, ownPath, asksDown, right, tests}
 
 abbrev pub Operations : List Ask → Type 0

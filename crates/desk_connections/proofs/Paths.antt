@@ -18,8 +18,9 @@ use Rattle.glow_grammar.specs.Leaf.{both, expects}
 use Rattle.glow_trees.specs.Content.{Content, nothing, word, bytes, wrong, isPart, isWord, Item, item}
 use Rattle.glow_trees.specs.Trees.{Trees, none, tree, count, flat, standsIn}
 use Rattle.glow_trees.specs.Legal.{ruleAt, suits, suited, complete, pathOf, pathAfter, lengthOf, legal, legalRoot, isNone, isRoot, empty, inner}
-use Rattle.desk_connections.specs.Connections.{numberOf, octetsOf, listOf, numbersIn, isQualified, nobody, pathUp, fullPath, Ask, ask, askOf, asksIn, asksOf}
-use Rattle.desk_connections.proofs.Items.{up-root, up-qualified, up-number}
+use Rattle.glow_paths.specs.Paths.{numberOf, octetsOf, listOf, numbersIn, isQualified, nobody, pathUp, fullPath}
+use Rattle.desk_connections.specs.Connections.{Ask, ask, askOf, asksIn, asksOf}
+use Rattle.glow_paths.proofs.Items.{up-root, up-qualified, up-number}
 
 abbrev pub memberAt : List Content → ℕ → Content
 memberAt xs c = getD xs c nothing

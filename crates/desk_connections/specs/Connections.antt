@@ -1,86 +1,12 @@
 -- What a message's connections ask (document 01, "Desk"), from its entries by content, in message order.
-use Prim.Native.Nat.{ℕ, zero, suc, _+_, _-_, _≤_}
-use mathlib.Core.Path.{_≡_}
-use mathlib.Core.List.{List, [], _∷_, _++_}
-use mathlib.Core.Bool.{Bool, true, false}
-use lib.ListN.{length, getD}
-use lib.Dec.{leb, ltb, eqb}
+use Prim.Native.Nat.{ℕ}
+use mathlib.Core.List.{List, [], _∷_}
+use lib.Dec.{eqb}
 use Rattle.ber_integers.specs.Digits.{pick}
-use Rattle.ber_identifiers.specs.declared.Arc.{Arc}
-use Rattle.ber_identifiers.specs.declared.Arc.the-variants.{Number, Range as Over, Refused as NoArc}
-use Rattle.ber_identifiers.specs.declared.Oid.{Oid}
-use Rattle.ber_identifiers.specs.declared.Oid.the-variants.{Numbers, Range, Refused}
-use Rattle.desk_connections.specs.declared.Step.{Step}
-use Rattle.ber_identifiers.specs.Identifier.{Arcs, bad, over, numbers, arcs, arcsFrom}
-use Rattle.glow_grammar.specs.Grammar.{qualifiedParameter, qualifiedMatrix, connection}
-use Rattle.glow_grammar.specs.Leaf.{both}
-use Rattle.glow_trees.specs.Content.{Content, nothing, word, bytes, wrong, Item, item}
-
--- A member's number (an integer, universal 2), and the octets of a relative identifier (13). Trees that the reader accepts have what is asked for; else
--- anything serves.
-abbrev pub numberOf : Content → ℕ
-numberOf nothing = 0
-numberOf (word kind w) = pick (eqb kind 2) w 0
-numberOf (bytes kind bs) = 0
-numberOf wrong = 0
-
-abbrev pub octetsOf : Content → List ℕ
-octetsOf nothing = []
-octetsOf (word kind w) = []
-octetsOf (bytes kind bs) = pick (eqb kind 13) bs []
-octetsOf wrong = []
-
-abbrev pub listOf : Arcs → List ℕ
-listOf bad = []
-listOf over = []
-listOf (numbers ns) = ns
-
--- the numbers of a relative identifier: a path, or the sources of a connection
-unfoldable pub numbersIn : List ℕ → List ℕ
-numbersIn bs = listOf (arcs bs 0 (length bs))
-
--- Where they end, from what the reader of identifiers answers: at the octets' end, or 0 where they are none.
-abbrev pub endOf : Oid → ℕ → ℕ
-endOf (Numbers n) end = end
-endOf Range end = 0
-endOf Refused end = 0
-
--- A number and where the next one begins: 0 and the end where there is none.
-abbrev pub stepOf : Arc → ℕ → Step
-stepOf (Number n next) end = record { number = n; next = next }
-stepOf (Over next) end = record { number = 0; next = end }
-stepOf NoArc end = record { number = 0; next = end }
-
--- One by one: the numbers from p up to `end` are xs. f is no fewer than the octets left, so it ends nothing early.
-abbrev pub Left : List ℕ → ℕ → ℕ → List ℕ → Type 0
-Left bs p end xs = (f : ℕ) × ((end - p ≤ f) × (arcsFrom bs f p end ≡ numbers xs))
-
--- The first of xs is n, and the others are those from `next` on.
-abbrev pub Goes : List ℕ → ℕ → List ℕ → ℕ → ℕ → Type 0
-Goes bs end xs n next = (ys : List ℕ) × ((xs ≡ n ∷ ys) × Left bs next end ys)
-
--- a qualified element has a full path, any other a number
-unfoldable pub isQualified : ℕ → Bool
-isQualified kind = both (leb qualifiedParameter kind) (leb kind qualifiedMatrix)
-
-abbrev pub memberOf : Item → ℕ → Content
-memberOf e c = getD (e .members) c nothing
-
-abbrev pub nobody : Item
-nobody = item 0 0 []
-
--- The full path of the entry whose place and 1 is p, 0 for Root: a qualified element's path, or the path of the parent and then its own number.
--- f is more than the entries above: "A full path has 1 to 16 numbers", and each element adds one.
-unfoldable pub pathUp : ℕ → List Item → ℕ → List ℕ
-pathUp zero es p = []
-pathUp (suc f) es p =
-    let e : Item = getD es (p - 1) nobody in
-    pick (both (ltb 0 p) (leb p (length es)))
-    (pick (isQualified (e .kind)) (numbersIn (octetsOf (memberOf e 0))) (pathUp f es (e .parent) ++ (numberOf (memberOf e 0) ∷ [])))
-    []
-
-abbrev pub fullPath : List Item → ℕ → List ℕ
-fullPath es p = pathUp 17 es p
+use Rattle.glow_rows.specs.Kind.{connection}
+use Rattle.glow_rows.specs.Place as place
+use Rattle.glow_trees.specs.Content.{Item}
+use Rattle.glow_paths.specs.Paths.{numberOf, octetsOf, numbersIn, memberOf, fullPath}
 
 -- What a connection asks: its matrix, its target, its sources and its operation.
 pub record Ask : Type 0 where
@@ -94,7 +20,7 @@ ask matrix target sources operation = record { matrix = matrix; target = target;
 
 -- "Connection: target 0, sources 1, operation 2"; "A missing list is empty"; "absolute (0, default)"
 unfoldable pub askOf : List Item → Item → Ask
-askOf es e = ask (fullPath es (e .parent)) (numberOf (memberOf e 0)) (numbersIn (octetsOf (memberOf e 1))) (numberOf (memberOf e 2))
+askOf es e = ask (fullPath es (e .parent)) (numberOf (memberOf e place.target)) (numbersIn (octetsOf (memberOf e place.connectionSources))) (numberOf (memberOf e place.operation))
 
 -- of the entries that are left those that are connections, in order; no other entry asks anything
 unfoldable pub asksIn : List Item → List Item → List Ask
@@ -105,16 +31,3 @@ asksIn es (e ∷ left) =
 
 abbrev pub asksOf : List Item → List Ask
 asksOf es = asksIn es es
-
--- two paths
-unfoldable pub same : List ℕ → List ℕ → Bool
-same [] [] = true
-same [] (y ∷ ys) = false
-same (x ∷ xs) [] = false
-same (x ∷ xs) (y ∷ ys) =
-    let rest : Bool = same xs ys in
-    pick (eqb x y) rest false
-
--- the path of the entry whose place and 1 is p, 0 for Root, is this one; "A full path has 1 to 16 numbers", and a longer one is none
-unfoldable pub hasPath : List Item → ℕ → List ℕ → Bool
-hasPath es p path = both (leb (length path) 16) (same (fullPath es p) path)

@@ -18,7 +18,7 @@ use Rattle.desk_crosspoints.proofs.Legal.{legal-fit}
 use Rattle.desk_crosspoints.proofs.Laws.{bit-set, bit-clear, count-le, fit-sources-le}
 use Rattle.desk_crosspoints.proofs.Counts.{clear-cell, clear-count}
 use Rattle.desk_requests.proofs.Rows.{named-length}
-use Rattle.desk_connections.specs.Connections.{numbersIn}
+use Rattle.glow_paths.specs.Paths.{numbersIn}
 use Rattle.desk_requests.specs.Lists.{has, once}
 use Rattle.desk_sources.specs.Gathered.{Kept, Handed}
 use Rattle.desk_requests.proofs.Sets.{has-held, has-not, has-out, out-request, set-request}
@@ -207,8 +207,3 @@ gather-none n a list h d target operation e =
         go : (u : Bool) → legal (d .figures) (d .crosspoints) ≡ u → legal (d .figures) (d .crosspoints) ≡ false
         go false z = z
         go true z = absurd (omega (arith, h, e, fit-sources-le (d .figures) (legal-fit (d .figures) (d .crosspoints) z)))
-
--- the octets of a member
-pub handed-part : (n : ℕ) (octets part kept : List ℕ) → octets ≡ part → Handed n (numbersIn octets) kept → Handed n (numbersIn part) kept
-handed-part n octets part kept e h d target operation s =
-    h d target operation s ∙ ap (λ (l : List ℕ). requested d (request target (numbersIn l) operation)) e

@@ -1,15 +1,12 @@
 // The sources that a connection names, each once, for a request.
-use desk_connections::part_of;
 use desk_crosspoints::SIDE;
-use glow_rows::Cell;
 ghost use mathlib.Core.Path.{_≡_};
 ghost use Prim.Native.Nat.{_≤_, _<_};
 ghost use lib.ListN.{length, take};
-ghost use Rattle.glow_trees.specs.Content.{contentOf};
 ghost use Rattle.desk_crosspoints.specs.Figures.{side};
 ghost use Rattle.desk_crosspoints.specs.Crosspoints.{clear};
 ghost use Rattle.desk_requests.specs.Lists.{once};
-ghost use Rattle.desk_connections.specs.Connections.{octetsOf, numbersIn};
+ghost use Rattle.glow_paths.specs.Paths.{numbersIn};
 ghost use Rattle.desk_sources.specs.Gathered.{Handed, Kept};
 
 fn index(x: u64) -> usize
@@ -42,11 +39,11 @@ fn gather(octets: &[u8], sources: u64, list: &mut [u64], marks: &mut [u8]) -> us
     ensures { λ r. ⌜ Handed sources (numbersIn (now (octets .entry))) (take r (now (list .exit))) ⌝ }
     ensures { λ r. ⌜ r ≤ side ⌝ }
 {
-    let end = desk_connections::list_end(octets);
+    let end = glow_paths::list_end(octets);
     let mut p: usize = 0;
     let mut k: usize = 0;
     while p < end {
-        let x = desk_connections::next_number(octets, p, end);
+        let x = glow_paths::next_number(octets, p, end);
         if sources <= x.number {
             list[0] = x.number;
             return 1;
@@ -57,11 +54,10 @@ fn gather(octets: &[u8], sources: u64, list: &mut [u64], marks: &mut [u8]) -> us
     k
 }
 
-// The sources of a connection's member, for a desk of so many, at the start of `list`: how many. A request with them is the request with the member's own list.
+// The sources that octets name, for a desk of so many, at the start of `list`: how many. A request with them is the request with the list that the octets are.
 // A list with room for fewer than the most sources of a desk is left as it was.
-pub fn sources_of(s: &[u8], v: Cell, sources: u64, list: &mut [u64]) -> usize
-    ensures { λ r. ⌜ (side ≤ length (now (list .entry))
-        → Handed sources (numbersIn (octetsOf (contentOf (now (s .entry)) v))) (take r (now (list .exit)))) ⌝ }
+pub fn sources_of(octets: &[u8], sources: u64, list: &mut [u64]) -> usize
+    ensures { λ r. ⌜ (side ≤ length (now (list .entry)) → Handed sources (numbersIn (now (octets .entry))) (take r (now (list .exit)))) ⌝ }
     ensures { λ r. ⌜ r ≤ length (now (list .entry)) ⌝ }
 {
     if list.len() < SIDE {
@@ -70,9 +66,6 @@ pub fn sources_of(s: &[u8], v: Cell, sources: u64, list: &mut [u64]) -> usize
     if SIDE < index(sources) {
         return 0;
     }
-    let part = part_of(s, v);
-    let start = part.start;
-    let end = part.end;
     let mut marks = [0u8; SIDE];
-    gather(&s[start..end], sources, list, &mut marks)
+    gather(octets, sources, list, &mut marks)
 }

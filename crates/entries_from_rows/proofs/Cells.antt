@@ -32,7 +32,8 @@ use Rattle.glow_entries.specs.declared.Part.the-variants.{Absent as NoPart, At 
 use Rattle.glow_entries.specs.declared.Parent.{Parent}
 use Rattle.glow_entries.specs.declared.Parent.the-variants.{Root, At}
 use Rattle.glow_entries.specs.Held.{HeldInt, HeldNumber, HeldParent, HeldValue, Present}
-use Rattle.glow_entries.specs.Member.{intOf, numberCell, flagCell, partCell, parentWord}
+use Rattle.glow_rows.specs.Cell.{intOf}
+use Rattle.glow_entries.specs.Member.{numberCell, flagCell, partCell, parentWord}
 use Rattle.entries_from_rows.specs.Told.{numberKept, flagKept, textKept, listKept, parentKept}
 
 -- ---- the three forms of a cell that suits a rule

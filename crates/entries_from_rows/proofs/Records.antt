@@ -28,8 +28,10 @@ use Rattle.glow_entries.specs.declared.Stream.{Stream}
 use Rattle.glow_entries.specs.declared.ReadStream.the-variants.{Entry as StreamEntry}
 use Rattle.glow_entries.specs.Held.{HeldKey, HeldParameter, HeldNode, HeldMatrix, HeldCommand, HeldConnection, HeldStream}
 use Rattle.glow_entries.specs.Member.{keyCell, keyKind}
-use Rattle.glow_entries.specs.Record.{entry, parameterCells, parameterRow, parameterRead, nodeCells, nodeRow, nodeRead, matrixCells, matrixRow, matrixRead}
-use Rattle.glow_entries.specs.Record.{commandCells, commandRow, commandRead, connectionCells, connectionRow, connectionRead, streamCells, streamRow, streamRead}
+use Rattle.glow_entries.specs.Record.{parameterRow, parameterRead, nodeRow, nodeRead, matrixRow, matrixRead}
+use Rattle.glow_entries.specs.Record.{commandRow, commandRead, connectionRow, connectionRead, streamRow, streamRead}
+use Rattle.glow_entries.proofs.Cells.{entry, parameterCells, parameter-cells, nodeCells, node-cells, matrixCells, matrix-cells}
+use Rattle.glow_entries.proofs.Cells.{commandCells, command-cells, connectionCells, connection-cells, streamCells, stream-cells}
 use Rattle.glow_entries.proofs.RoundTrip.{parameter-back, node-back, matrix-back, command-back, connection-back, stream-back}
 use Rattle.entries_from_rows.specs.Told.{keyKept, byPath, IsParameter, IsNode, IsMatrix, IsCommand, IsConnection, IsStream, Told}
 use Rattle.entries_from_rows.specs.Told.{parameter, command, node, matrix, qualifiedParameter, qualifiedNode, qualifiedMatrix, connection, streamEntry}
@@ -153,7 +155,7 @@ module _ (p : ℕ) (low : p ≤ 256) (vs : List Cell) (size : length vs ≡ 16) 
     parameter-by : {b : Bool} (key : KeyIn (v 0) b) → kind ≡ pick b 5 1 → Shape 1 (v 1) → Shape 2 (v 2) → Shape 4 (v 3) → Shape 4 (v 4) → Shape 4 (v 5)
         → Shape 10 (v 6) → Shape 0 (v 7) → Shape 0 (v 8) → Shape 9 (v 9) → Shape 3 (v 10) → Shape 0 (v 11) → Shape 9 (v 12) → Shape 0 (v 13)
         → Shape 0 (v 14) → Shape 8 (v 15) → (x : Parameter) × ((byPath (x .key) ≡ b) × ((parameterRead (row e) ≡ ParameterEntry x) × IsParameter e x))
-    unfolding from parameterRow
+    unfolding from
     parameter-by {b} key k s1 s2 s3 s4 s5 s6 s7 s8 s9 s10 s11 s12 s13 s14 s15 =
         let m1 = name-in (v 1) s1 in
         let m2 = text-in (v 2) s2 in
@@ -195,7 +197,7 @@ module _ (p : ℕ) (low : p ≤ 256) (vs : List Cell) (size : length vs ≡ 16) 
           step = m12 .held;
           stream = m15 .held;
         } in
-        let same : row e ≡ parameterRow x = same-row (k ∙ kind-by 1 5 (key .member) b (key .sort)) (up .words) cs in (
+        let same : row e ≡ parameterRow x = same-row (k ∙ kind-by 1 5 (key .member) b (key .sort)) (up .words) cs ∙ sym (parameter-cells x) in (
           x,
           (
             key .sort,
@@ -222,7 +224,7 @@ module _ (p : ℕ) (low : p ≤ 256) (vs : List Cell) (size : length vs ≡ 16) 
 
     node-by : {b : Bool} (key : KeyIn (v 0) b) → kind ≡ pick b 6 3 → Shape 1 (v 1) → Shape 2 (v 2) → Shape 3 (v 3) → Shape 3 (v 4)
         → Off 11 5 → (x : Node) × ((byPath (x .key) ≡ b) × ((nodeRead (row e) ≡ NodeEntry x) × IsNode e x))
-    unfolding from nodeRow blanks
+    unfolding from blanks
     node-by {b} key k s1 s2 s3 s4 off =
         let m1 = name-in (v 1) s1 in
         let m2 = text-in (v 2) s2 in
@@ -243,7 +245,7 @@ module _ (p : ℕ) (low : p ≤ 256) (vs : List Cell) (size : length vs ≡ 16) 
           parent = up .held;
           key = key .held;
         } in
-        let same : row e ≡ nodeRow x = same-row (k ∙ kind-by 3 6 (key .member) b (key .sort)) (up .words) cs in (
+        let same : row e ≡ nodeRow x = same-row (k ∙ kind-by 3 6 (key .member) b (key .sort)) (up .words) cs ∙ sym (node-cells x) in (
           x,
           (
             key .sort,
@@ -265,7 +267,7 @@ module _ (p : ℕ) (low : p ≤ 256) (vs : List Cell) (size : length vs ≡ 16) 
     matrix-by : {b : Bool} (key : KeyIn (v 0) b) → kind ≡ pick b 7 4 → Shape 1 (v 1) → Shape 2 (v 2) → Shape 11 (v 3) → Shape 12 (v 4) → Shape 8 (v 5)
         → Shape 8 (v 6) → Shape 8 (v 7) → Shape 8 (v 8) → Off 7 9
         → (x : Matrix) × ((byPath (x .key) ≡ b) × ((matrixRead (row e) ≡ MatrixEntry x) × IsMatrix e x))
-    unfolding from matrixRow blanks
+    unfolding from blanks
     matrix-by {b} key k s1 s2 s3 s4 s5 s6 s7 s8 off =
         let m1 = name-in (v 1) s1 in
         let m2 = text-in (v 2) s2 in
@@ -301,7 +303,7 @@ module _ (p : ℕ) (low : p ≤ 256) (vs : List Cell) (size : length vs ≡ 16) 
           «total_limit» = m7 .held;
           «target_limit» = m8 .held;
         } in
-        let same : row e ≡ matrixRow x = same-row (k ∙ kind-by 4 7 (key .member) b (key .sort)) (up .words) cs in (
+        let same : row e ≡ matrixRow x = same-row (k ∙ kind-by 4 7 (key .member) b (key .sort)) (up .words) cs ∙ sym (matrix-cells x) in (
           x,
           (
             key .sort,
@@ -326,7 +328,7 @@ module _ (p : ℕ) (low : p ≤ 256) (vs : List Cell) (size : length vs ≡ 16) 
 
   command-by : IntIn (v 0) → Shape 9 (v 1) → Off 14 2
       → (x : Command) × ((commandRead (row (entry 2 p vs)) ≡ CommandEntry x) × IsCommand (entry 2 p vs) x)
-  unfolding from commandRow blanks
+  unfolding from blanks
   command-by m0 s1 off =
       let m1 = int32-in (v 1) s1 in
       let x : Command = record { parent = up .member; number = m0 .member; mask = m1 .member } in
@@ -338,7 +340,7 @@ module _ (p : ℕ) (low : p ≤ 256) (vs : List Cell) (size : length vs ≡ 16) 
         number = m0 .held;
         mask = m1 .held;
       } in
-      let same : row (entry 2 p vs) ≡ commandRow x = same-row refl (up .words) cs in (
+      let same : row (entry 2 p vs) ≡ commandRow x = same-row refl (up .words) cs ∙ sym (command-cells x) in (
         x,
         (
           ap commandRead same ∙ command-back x held,
@@ -348,7 +350,7 @@ module _ (p : ℕ) (low : p ≤ 256) (vs : List Cell) (size : length vs ≡ 16) 
 
   connection-by : IntIn (v 0) → Shape 7 (v 1) → Shape 11 (v 2) → Off 13 3
       → (x : Connection) × ((connectionRead (row (entry 8 p vs)) ≡ ConnectionEntry x) × IsConnection (entry 8 p vs) x)
-  unfolding from connectionRow blanks
+  unfolding from blanks
   connection-by m0 s1 s2 off =
       let m1 = list-in (v 1) s1 in
       let m2 = to2-in (v 2) s2 in
@@ -361,7 +363,7 @@ module _ (p : ℕ) (low : p ≤ 256) (vs : List Cell) (size : length vs ≡ 16) 
         target = m0 .held;
         operation = m2 .held;
       } in
-      let same : row (entry 8 p vs) ≡ connectionRow x = same-row refl (up .words) cs in (
+      let same : row (entry 8 p vs) ≡ connectionRow x = same-row refl (up .words) cs ∙ sym (connection-cells x) in (
         x,
         (
           ap connectionRead same ∙ connection-back x held,
@@ -371,7 +373,7 @@ module _ (p : ℕ) (low : p ≤ 256) (vs : List Cell) (size : length vs ≡ 16) 
 
   stream-by : IntIn (v 0) → Shape 4 (v 1) → (v 1 ≡ absent → ⊥) → Off 14 2
       → (x : Stream) × ((streamRead (row (entry 9 p vs)) ≡ StreamEntry x) × IsStream (entry 9 p vs) x)
-  unfolding from streamRow blanks
+  unfolding from blanks
   stream-by m0 s1 there off =
       let m1 = value-in (v 1) s1 in
       let x : Stream = record { parent = up .member; identifier = m0 .member; value = m1 .member } in
@@ -384,7 +386,7 @@ module _ (p : ℕ) (low : p ≤ 256) (vs : List Cell) (size : length vs ≡ 16) 
         value = m1 .held;
         present = some-value (m1 .member) (m1 .cells) there;
       } in
-      let same : row (entry 9 p vs) ≡ streamRow x = same-row refl (up .words) cs in (
+      let same : row (entry 9 p vs) ≡ streamRow x = same-row refl (up .words) cs ∙ sym (stream-cells x) in (
         x,
         (
           ap streamRead same

@@ -15,7 +15,8 @@ use Rattle.ber_integers.specs.Digits.{pick}
 use Rattle.ber_values.specs.declared.Value.{Value}
 use Rattle.ber_values.specs.declared.Value.the-variants.{Absent, Int, Real, Text, Bool as Truth, Octets}
 use Rattle.glow_rows.specs.declared.Cell.{Cell}
-use Rattle.glow_rows.specs.Cell.{cell, absent, wordOf, cellOf}
+use Rattle.glow_rows.specs.Cell.{cell, absent, wordOf, cellOf, intOf, valueOf, numberIn}
+use Rattle.glow_rows.specs.Row.{cellIn, same}
 use Rattle.glow_rows.specs.Entry.{words, row}
 use Rattle.glow_entries.specs.declared.Number.{Number}
 use Rattle.glow_entries.specs.declared.Number.the-variants.{Absent as NoNumber, Is as IsNumber}
@@ -28,9 +29,10 @@ use Rattle.glow_entries.specs.declared.Key.the-variants.{Number as ByNum
 use Rattle.glow_entries.specs.declared.Parent.{Parent}
 use Rattle.glow_entries.specs.declared.Parent.the-variants.{Root, At}
 use Rattle.glow_entries.specs.Held.{HeldInt, HeldNumber, HeldKey, HeldParent, HeldValue, Present}
-use Rattle.glow_entries.specs.Member.{intOf, numberCell, numberOf, flagCell, flagOf, partCell, partOf, valueOf, cellAt, keyKind, keyCell, keyOf}
-use Rattle.glow_entries.specs.Member.{parentWord, parentOf, same}
-use Rattle.glow_entries.specs.Record.{entry, told}
+use Rattle.glow_entries.specs.Member.{numberCell, intIn, numberOf, flagCell, flagOf, partCell, partOf, keyKind, keyCell, keyOf}
+use Rattle.glow_entries.specs.Member.{parentWord, parentOf}
+use Rattle.glow_entries.specs.Record.{told}
+use Rattle.glow_entries.proofs.Cells.{entry}
 
 int-back : (z : ℤ) → HeldInt z → intOf (wordOf z) ≡ z
 unfolding intOf
@@ -97,8 +99,8 @@ words-at (v ∷ cs) zero = refl
 words-at (v ∷ cs) (suc c) = let n : suc c * 3 ≡ suc (suc (suc (c * 3))) = omega arith in rw n (words-at cs c)
 
 module _ (k p : ℕ) (cs : List Cell) where
-  pub cell-back : (c : ℕ) → c < 16 → cellAt (row (entry k p cs)) c ≡ getD cs c absent
-  unfolding cellAt
+  pub cell-back : (c : ℕ) → c < 16 → cellIn (row (entry k p cs)) c ≡ getD cs c absent
+  unfolding cellIn
   cell-back c h =
       let a : 2 + c * 3 ≡ suc (suc (c * 3)) = omega arith in
       let b : 3 + c * 3 ≡ suc (suc (suc (c * 3))) = omega arith in
@@ -106,19 +108,20 @@ module _ (k p : ℕ) (cs : List Cell) where
       rw (lt-ltb _ _ h, a, b, d) (words-at cs c)
 
   module _ (c : ℕ) where
-    pub int-at : (z : ℤ) → c < 16 → getD cs c absent ≡ cell 2 (wordOf z) 0 → HeldInt z → intOf (cellAt (row (entry k p cs)) c .first) ≡ z
-    int-at z h e i = ap (λ (v : Cell). intOf (v .first)) (cell-back c h ∙ e) ∙ int-back z i
+    pub int-at : (z : ℤ) → c < 16 → getD cs c absent ≡ cell 2 (wordOf z) 0 → HeldInt z → intIn (cellIn (row (entry k p cs)) c) ≡ z
+    unfolding intIn numberIn
+    int-at z h e i = ap intIn (cell-back c h ∙ e) ∙ int-back z i
 
-    pub number-at : (n : Number) → c < 16 → getD cs c absent ≡ numberCell n → HeldNumber n → numberOf (cellAt (row (entry k p cs)) c) ≡ n
+    pub number-at : (n : Number) → c < 16 → getD cs c absent ≡ numberCell n → HeldNumber n → numberOf (cellIn (row (entry k p cs)) c) ≡ n
     number-at n h e i = ap numberOf (cell-back c h ∙ e) ∙ number-back n i
 
-    pub flag-at : (f : Flag) → c < 16 → getD cs c absent ≡ flagCell f → flagOf (cellAt (row (entry k p cs)) c) ≡ f
+    pub flag-at : (f : Flag) → c < 16 → getD cs c absent ≡ flagCell f → flagOf (cellIn (row (entry k p cs)) c) ≡ f
     flag-at f h e = ap flagOf (cell-back c h ∙ e) ∙ flag-back f
 
-    pub value-at : (v : Value) → c < 16 → getD cs c absent ≡ cellOf v → HeldValue v → valueOf (cellAt (row (entry k p cs)) c) ≡ v
+    pub value-at : (v : Value) → c < 16 → getD cs c absent ≡ cellOf v → HeldValue v → valueOf (cellIn (row (entry k p cs)) c) ≡ v
     value-at v h e i = ap valueOf (cell-back c h ∙ e) ∙ value-back v i
 
-  pub part-at : (tag c : ℕ) (x : Part) → 0 < tag → c < 16 → getD cs c absent ≡ partCell tag x → partOf tag (cellAt (row (entry k p cs)) c) ≡ x
+  pub part-at : (tag c : ℕ) (x : Part) → 0 < tag → c < 16 → getD cs c absent ≡ partCell tag x → partOf tag (cellIn (row (entry k p cs)) c) ≡ x
   part-at tag c x t h e = ap (partOf tag) (cell-back c h ∙ e) ∙ part-back tag x t
 
 pub key-at : (plain qualified p : ℕ) (cs : List Cell) (k : Key) → (plain ≡ qualified → ⊥) → getD cs 0 absent ≡ keyCell k → HeldKey k

@@ -5,7 +5,9 @@ use mathlib.Core.Bool.{true, false}
 use mathlib.Core.List.{[], _∷_, _++_}
 use lib.IntN.{pos, negsuc}
 use Rattle.ber_values.specs.declared.Value.the-variants.{Absent, Int, Real, Text, Bool as Truth, Octets}
-use Rattle.glow_rows.specs.Entry.{words, blanks}
+use Rattle.glow_rows.specs.Cell.{intOf, valueOf, numberIn}
+use Rattle.glow_rows.specs.Entry.{words, blanks, withCell}
+use Rattle.glow_rows.specs.Row.{cellIn, same}
 use Rattle.glow_entries.specs.declared.Number.the-variants.{Absent as NoNumber, Is as IsNumber}
 use Rattle.glow_entries.specs.declared.Flag.the-variants.{Absent as NoFlag, Is as IsFlag}
 use Rattle.glow_entries.specs.declared.Part.the-variants.{Absent as NoPart, At as PartAt}
@@ -15,8 +17,8 @@ use Rattle.glow_entries.specs.declared.ReadParameter.the-variants.{Other
 use Rattle.glow_entries.specs.declared.ReadNode.the-variants.{Other as NodeOther}
 use Rattle.glow_entries.specs.declared.ReadMatrix.the-variants.{Other as MatrixOther}
 use Rattle.glow_entries.specs.declared.ReadStream.the-variants.{Other as StreamOther}
-use Rattle.glow_entries.specs.Member.{intOf, numberOf, flagOf, partOf, valueOf, cellAt, keyOf, parentOf, same}
-use Rattle.glow_entries.specs.Record.{told, parameterRow, nodeRow, matrixRow, commandRow, connectionRow, streamRow}
+use Rattle.glow_entries.specs.Member.{intIn, numberOf, flagOf, partOf, keyOf, parentOf}
+use Rattle.glow_entries.specs.Record.{told, filled, parameterRow, nodeRow, matrixRow, commandRow, connectionRow, streamRow}
 use Rattle.glow_entries.specs.Record.{parameterOf, parameterRead, nodeOf, nodeRead, matrixOf, matrixRead, streamOf, streamRead}
 
 -- "value 2, minimum 3, maximum 4, access 5, factor 8, online 9, step 11, stream identifier 14", behind identifier 0 and description 1
@@ -36,7 +38,7 @@ pub v-parameter : parameterRow (record {
 })
     ≡ 1 ∷ 5 ∷ 2 ∷ 7 ∷ 0 ∷ 12 ∷ 10 ∷ 3 ∷ 12 ∷ 20 ∷ 5 ∷ 2 ∷ 18446744073709551615 ∷ 0 ∷ 1 ∷ 1 ∷ 0 ∷ 12 ∷ 30 ∷ 2 ∷ 2 ∷ 105 ∷ 0 ∷ 0 ∷ 0 ∷ 0 ∷ 0 ∷ 0 ∷ 0
     ∷ 2 ∷ 108 ∷ 0 ∷ 1 ∷ 1 ∷ 0 ∷ 0 ∷ 0 ∷ 0 ∷ 2 ∷ 111 ∷ 0 ∷ 0 ∷ 0 ∷ 0 ∷ 0 ∷ 0 ∷ 0 ∷ 2 ∷ 114 ∷ 0 ∷ []
-unfolding parameterRow words
+unfolding filled withCell blanks parameterRow words
 v-parameter = refl
 
 -- a qualified one has a path; members that are absent
@@ -55,7 +57,7 @@ pub v-qualified-parameter : parameterRow (record {
   stream = NoNumber;
 })
     ≡ 5 ∷ 0 ∷ 13 ∷ 40 ∷ 2 ∷ 0 ∷ 0 ∷ 0 ∷ 0 ∷ 0 ∷ 0 ∷ 4 ∷ 60 ∷ 6 ∷ words (blanks 12)
-unfolding parameterRow words blanks
+unfolding filled withCell blanks parameterRow words
 v-qualified-parameter = refl
 
 -- "root flag 2, online 3"
@@ -68,7 +70,7 @@ pub v-plain-node : nodeRow (record {
   online = IsFlag true;
 })
     ≡ 3 ∷ 4 ∷ 2 ∷ 7 ∷ 0 ∷ 0 ∷ 0 ∷ 0 ∷ 12 ∷ 20 ∷ 5 ∷ 1 ∷ 0 ∷ 0 ∷ 1 ∷ 1 ∷ 0 ∷ words (blanks 11)
-unfolding nodeRow words
+unfolding filled withCell blanks nodeRow words
 v-plain-node = refl
 
 pub v-node : nodeRow (record {
@@ -80,7 +82,7 @@ pub v-node : nodeRow (record {
   online = IsFlag false;
 })
     ≡ 6 ∷ 0 ∷ 13 ∷ 40 ∷ 2 ∷ 12 ∷ 10 ∷ 3 ∷ 0 ∷ 0 ∷ 0 ∷ 1 ∷ 1 ∷ 0 ∷ 1 ∷ 0 ∷ 0 ∷ words (blanks 11)
-unfolding nodeRow words
+unfolding filled withCell blanks nodeRow words
 v-node = refl
 
 -- "type 2, mode 3, targets 4, sources 5, total limit 6, limit per target 7"
@@ -97,7 +99,7 @@ pub v-matrix : matrixRow (record {
   «target_limit» = IsNumber (pos 107);
 })
     ≡ 4 ∷ 0 ∷ 2 ∷ 9 ∷ 0 ∷ 0 ∷ 0 ∷ 0 ∷ 12 ∷ 20 ∷ 5 ∷ 2 ∷ 102 ∷ 0 ∷ 2 ∷ 103 ∷ 0 ∷ 2 ∷ 104 ∷ 0 ∷ 2 ∷ 105 ∷ 0 ∷ 2 ∷ 106 ∷ 0 ∷ 2 ∷ 107 ∷ 0 ∷ words (blanks 7)
-unfolding matrixRow words
+unfolding filled withCell blanks matrixRow words
 v-matrix = refl
 
 pub v-qualified-matrix : matrixRow (record {
@@ -113,23 +115,23 @@ pub v-qualified-matrix : matrixRow (record {
   «target_limit» = IsNumber (pos 107);
 })
     ≡ 7 ∷ 0 ∷ 13 ∷ 40 ∷ 2 ∷ 0 ∷ 0 ∷ 0 ∷ 0 ∷ 0 ∷ 0 ∷ 0 ∷ 0 ∷ 0 ∷ 0 ∷ 0 ∷ 0 ∷ 2 ∷ 104 ∷ 0 ∷ 2 ∷ 105 ∷ 0 ∷ 0 ∷ 0 ∷ 0 ∷ 2 ∷ 107 ∷ 0 ∷ words (blanks 7)
-unfolding matrixRow words
+unfolding filled withCell blanks matrixRow words
 v-qualified-matrix = refl
 
 -- "Command: number 0, mask 1. StreamEntry: identifier 0, value 1. Connection: target 0, sources 1, operation 2."
 pub v-command : commandRow (record { parent = At 0; number = pos 100; mask = IsNumber (negsuc 0) })
     ≡ 2 ∷ 1 ∷ 2 ∷ 100 ∷ 0 ∷ 2 ∷ 18446744073709551615 ∷ 0 ∷ words (blanks 14)
-unfolding commandRow words
+unfolding filled withCell blanks commandRow words
 v-command = refl
 
 pub v-connection : connectionRow (record { parent = At 2; target = pos 100; sources = PartAt 50 4; operation = IsNumber (pos 102) })
     ≡ 8 ∷ 3 ∷ 2 ∷ 100 ∷ 0 ∷ 13 ∷ 50 ∷ 4 ∷ 2 ∷ 102 ∷ 0 ∷ words (blanks 13)
-unfolding connectionRow words
+unfolding filled withCell blanks connectionRow words
 v-connection = refl
 
 pub v-stream : streamRow (record { parent = Root; identifier = pos 100; value = Octets 60 6 })
     ≡ 9 ∷ 0 ∷ 2 ∷ 100 ∷ 0 ∷ 4 ∷ 60 ∷ 6 ∷ words (blanks 14)
-unfolding streamRow words
+unfolding filled withCell blanks streamRow words
 v-stream = refl
 
 -- What is no entry of a kind: a row of another kind, one with a word where its kind has no member, a stream entry whose value is absent.
@@ -138,6 +140,6 @@ pub v-other :
     (nodeRead (1 ∷ 0 ∷ 2 ∷ 7 ∷ 0 ∷ words (blanks 15)) ≡ NodeOther) ×
     (matrixRead (7 ∷ 0 ∷ 13 ∷ 40 ∷ 2 ∷ words (blanks 14) ++ (0 ∷ 0 ∷ 1 ∷ [])) ≡ MatrixOther) ×
     (streamRead (9 ∷ 0 ∷ 2 ∷ 100 ∷ 0 ∷ words (blanks 15)) ≡ StreamOther)
-unfolding words blanks intOf numberOf flagOf partOf valueOf cellAt keyOf parentOf same told parameterRow parameterOf parameterRead
+unfolding filled withCell blanks words intOf numberOf flagOf partOf valueOf cellIn keyOf parentOf same told parameterRow parameterOf parameterRead intIn numberIn
     nodeRow nodeOf nodeRead matrixRow matrixOf matrixRead streamRow streamOf streamRead
 v-other = (refl, refl, refl, refl)

@@ -1,15 +1,17 @@
--- The kinds of entry by value, and their rows: word 0 the kind, word 1 the parent's place and 1, then three words for each cell.
--- An element's number or path is cell 0 and its contents' member n is cell n + 1; of any other entry the member n is cell n.
+-- The kinds of entry by value, and their rows: a row begins with the kind and the parent, and each member stands in its cell.
 use Prim.Native.Nat.{ℕ}
+use mathlib.Core.Path.{_≡_}
 use mathlib.Core.List.{List, [], _∷_}
 use lib.Dec.{eqb}
-use lib.ListN.{getD}
 use Rattle.ber_integers.specs.Digits.{pick}
 use Rattle.glow_rows.specs.declared.Cell.{Cell}
-use Rattle.glow_rows.specs.Cell.{cell, absent, wordOf, cellOf}
-use Rattle.glow_rows.specs.Entry.{Entry, blanks, row}
+use Rattle.glow_rows.specs.Cell.{integer, text, numbers, cell, wordOf, cellOf, valueOf, numberIn}
+use Rattle.glow_rows.specs.Kind as kind
+use Rattle.glow_rows.specs.Place as place
+use Rattle.glow_rows.specs.Entry.{Entry, blank, withCell, row}
+use Rattle.glow_rows.specs.Row.{cellIn, same}
 use Rattle.glow_entries.specs.Member.{numberCell, flagCell, partCell, keyCell, keyKind, parentWord}
-use Rattle.glow_entries.specs.Member.{intOf, numberOf, flagOf, partOf, valueOf, cellAt, keyOf, parentOf, same}
+use Rattle.glow_entries.specs.Member.{intIn, numberOf, flagOf, partOf, keyOf, parentOf}
 use Rattle.glow_entries.specs.declared.Parameter.{Parameter}
 use Rattle.glow_entries.specs.declared.ReadParameter.{ReadParameter}
 use Rattle.glow_entries.specs.declared.ReadParameter.the-variants.{Entry as ParameterEntry, Other as ParameterOther}
@@ -29,181 +31,179 @@ use Rattle.glow_entries.specs.declared.Stream.{Stream}
 use Rattle.glow_entries.specs.declared.ReadStream.{ReadStream}
 use Rattle.glow_entries.specs.declared.ReadStream.the-variants.{Entry as StreamEntry, Other as StreamOther}
 
-abbrev pub entry : ℕ → ℕ → List Cell → Entry
-entry kind parent cells = record { kind = kind; parent = parent; cells = cells }
+-- an entry with its members put, each into its cell
+unfoldable pub filled : Entry → List (ℕ × Cell) → Entry
+filled e [] = e
+filled e (m ∷ more) = filled (withCell e (m .0) (m .1)) more
 
 -- what a row is read as: it is an entry's of a kind exactly if it is the row of the entry that it stands for
 unfoldable pub told : {E R : Type 0} → (List ℕ → E) → (E → List ℕ) → (E → R) → R → List ℕ → R
 told of made is other r = pick (same r (made (of r))) (is (of r)) other
 
 -- A parameter, with its value, its minimum and its maximum, of any kind each.
-abbrev pub parameterCells : Parameter → List Cell
-parameterCells e =
-    keyCell (e .key)
-    ∷ partCell 12 (e .identifier)
-    ∷ partCell 12 (e .description)
-    ∷ cellOf (e .value)
-    ∷ cellOf (e .minimum)
-    ∷ cellOf (e .maximum)
-    ∷ numberCell (e .access)
-    ∷ absent
-    ∷ absent
-    ∷ numberCell (e .factor)
-    ∷ flagCell (e .online)
-    ∷ absent
-    ∷ numberCell (e .step)
-    ∷ absent
-    ∷ absent
-    ∷ numberCell (e .stream)
-    ∷ []
-
 unfoldable pub parameterRow : Parameter → List ℕ
-parameterRow e = row (entry (keyKind (e .key) 1 5) (parentWord (e .parent)) (parameterCells e))
+parameterRow e =
+    row (filled (blank (keyKind (e .key) kind.parameter kind.qualifiedParameter) (parentWord (e .parent))) (
+    (place.key, keyCell (e .key)) ∷
+    (place.identifier, partCell text (e .identifier)) ∷
+    (place.description, partCell text (e .description)) ∷
+    (place.value, cellOf (e .value)) ∷
+    (place.minimum, cellOf (e .minimum)) ∷
+    (place.maximum, cellOf (e .maximum)) ∷
+    (place.access, numberCell (e .access)) ∷
+    (place.factor, numberCell (e .factor)) ∷
+    (place.online, flagCell (e .online)) ∷
+    (place.step, numberCell (e .step)) ∷
+    (place.stream, numberCell (e .stream)) ∷
+    []))
 
 unfoldable pub parameterOf : List ℕ → Parameter
 parameterOf r =
     record {
       parent = parentOf r;
-      key = keyOf 5 r;
-      identifier = partOf 12 (cellAt r 1);
-      description = partOf 12 (cellAt r 2);
-      value = valueOf (cellAt r 3);
-      minimum = valueOf (cellAt r 4);
-      maximum = valueOf (cellAt r 5);
-      access = numberOf (cellAt r 6);
-      factor = numberOf (cellAt r 9);
-      online = flagOf (cellAt r 10);
-      step = numberOf (cellAt r 12);
-      stream = numberOf (cellAt r 15);
+      key = keyOf kind.qualifiedParameter r;
+      identifier = partOf text (cellIn r place.identifier);
+      description = partOf text (cellIn r place.description);
+      value = valueOf (cellIn r place.value);
+      minimum = valueOf (cellIn r place.minimum);
+      maximum = valueOf (cellIn r place.maximum);
+      access = numberOf (cellIn r place.access);
+      factor = numberOf (cellIn r place.factor);
+      online = flagOf (cellIn r place.online);
+      step = numberOf (cellIn r place.step);
+      stream = numberOf (cellIn r place.stream);
     }
 
 unfoldable pub parameterRead : List ℕ → ReadParameter
 parameterRead r = told parameterOf parameterRow ParameterEntry ParameterOther r
 
 -- A node.
-abbrev pub nodeCells : Node → List Cell
-nodeCells e =
-    keyCell (e .key)
-    ∷ partCell 12 (e .identifier)
-    ∷ partCell 12 (e .description)
-    ∷ flagCell (e .root)
-    ∷ flagCell (e .online)
-    ∷ blanks 11
-
 unfoldable pub nodeRow : Node → List ℕ
-nodeRow e = row (entry (keyKind (e .key) 3 6) (parentWord (e .parent)) (nodeCells e))
+nodeRow e =
+    row (filled (blank (keyKind (e .key) kind.node kind.qualifiedNode) (parentWord (e .parent))) (
+    (place.key, keyCell (e .key)) ∷
+    (place.identifier, partCell text (e .identifier)) ∷
+    (place.description, partCell text (e .description)) ∷
+    (place.root, flagCell (e .root)) ∷
+    (place.nodeOnline, flagCell (e .online)) ∷
+    []))
 
 unfoldable pub nodeOf : List ℕ → Node
 nodeOf r =
     record {
       parent = parentOf r;
-      key = keyOf 6 r;
-      identifier = partOf 12 (cellAt r 1);
-      description = partOf 12 (cellAt r 2);
-      root = flagOf (cellAt r 3);
-      online = flagOf (cellAt r 4);
+      key = keyOf kind.qualifiedNode r;
+      identifier = partOf text (cellIn r place.identifier);
+      description = partOf text (cellIn r place.description);
+      root = flagOf (cellIn r place.root);
+      online = flagOf (cellIn r place.nodeOnline);
     }
 
 unfoldable pub nodeRead : List ℕ → ReadNode
 nodeRead r = told nodeOf nodeRow NodeEntry NodeOther r
 
 -- A matrix.
-abbrev pub matrixCells : Matrix → List Cell
-matrixCells e =
-    keyCell (e .key)
-    ∷ partCell 12 (e .identifier)
-    ∷ partCell 12 (e .description)
-    ∷ numberCell (e .«matrix_type»)
-    ∷ numberCell (e .mode)
-    ∷ numberCell (e .targets)
-    ∷ numberCell (e .sources)
-    ∷ numberCell (e .«total_limit»)
-    ∷ numberCell (e .«target_limit»)
-    ∷ blanks 7
-
 unfoldable pub matrixRow : Matrix → List ℕ
-matrixRow e = row (entry (keyKind (e .key) 4 7) (parentWord (e .parent)) (matrixCells e))
+matrixRow e =
+    row (filled (blank (keyKind (e .key) kind.matrix kind.qualifiedMatrix) (parentWord (e .parent))) (
+    (place.key, keyCell (e .key)) ∷
+    (place.identifier, partCell text (e .identifier)) ∷
+    (place.description, partCell text (e .description)) ∷
+    (place.matrixType, numberCell (e .«matrix_type»)) ∷
+    (place.mode, numberCell (e .mode)) ∷
+    (place.targets, numberCell (e .targets)) ∷
+    (place.sources, numberCell (e .sources)) ∷
+    (place.totalLimit, numberCell (e .«total_limit»)) ∷
+    (place.targetLimit, numberCell (e .«target_limit»)) ∷
+    []))
 
 unfoldable pub matrixOf : List ℕ → Matrix
 matrixOf r =
     record {
       parent = parentOf r;
-      key = keyOf 7 r;
-      identifier = partOf 12 (cellAt r 1);
-      description = partOf 12 (cellAt r 2);
-      «matrix_type» = numberOf (cellAt r 3);
-      mode = numberOf (cellAt r 4);
-      targets = numberOf (cellAt r 5);
-      sources = numberOf (cellAt r 6);
-      «total_limit» = numberOf (cellAt r 7);
-      «target_limit» = numberOf (cellAt r 8);
+      key = keyOf kind.qualifiedMatrix r;
+      identifier = partOf text (cellIn r place.identifier);
+      description = partOf text (cellIn r place.description);
+      «matrix_type» = numberOf (cellIn r place.matrixType);
+      mode = numberOf (cellIn r place.mode);
+      targets = numberOf (cellIn r place.targets);
+      sources = numberOf (cellIn r place.sources);
+      «total_limit» = numberOf (cellIn r place.totalLimit);
+      «target_limit» = numberOf (cellIn r place.targetLimit);
     }
 
 unfoldable pub matrixRead : List ℕ → ReadMatrix
 matrixRead r = told matrixOf matrixRow MatrixEntry MatrixOther r
 
 -- A command.
-abbrev pub commandCells : Command → List Cell
-commandCells e =
-    cell 2 (wordOf (e .number)) 0
-    ∷ numberCell (e .mask)
-    ∷ blanks 14
-
 unfoldable pub commandRow : Command → List ℕ
-commandRow e = row (entry 2 (parentWord (e .parent)) (commandCells e))
+commandRow e =
+    row (filled (blank kind.command (parentWord (e .parent))) (
+    (place.commandNumber, cell integer (wordOf (e .number)) 0) ∷
+    (place.mask, numberCell (e .mask)) ∷
+    []))
 
 unfoldable pub commandOf : List ℕ → Command
 commandOf r =
     record {
       parent = parentOf r;
-      number = intOf (cellAt r 0 .first);
-      mask = numberOf (cellAt r 1);
+      number = intIn (cellIn r place.commandNumber);
+      mask = numberOf (cellIn r place.mask);
     }
 
 unfoldable pub commandRead : List ℕ → ReadCommand
 commandRead r = told commandOf commandRow CommandEntry CommandOther r
 
 -- A connection of a matrix.
-abbrev pub connectionCells : Connection → List Cell
-connectionCells e =
-    cell 2 (wordOf (e .target)) 0
-    ∷ partCell 13 (e .sources)
-    ∷ numberCell (e .operation)
-    ∷ blanks 13
-
 unfoldable pub connectionRow : Connection → List ℕ
-connectionRow e = row (entry 8 (parentWord (e .parent)) (connectionCells e))
+connectionRow e =
+    row (filled (blank kind.connection (parentWord (e .parent))) (
+    (place.target, cell integer (wordOf (e .target)) 0) ∷
+    (place.connectionSources, partCell numbers (e .sources)) ∷
+    (place.operation, numberCell (e .operation)) ∷
+    []))
 
 unfoldable pub connectionOf : List ℕ → Connection
 connectionOf r =
     record {
       parent = parentOf r;
-      target = intOf (cellAt r 0 .first);
-      sources = partOf 13 (cellAt r 1);
-      operation = numberOf (cellAt r 2);
+      target = intIn (cellIn r place.target);
+      sources = partOf numbers (cellIn r place.connectionSources);
+      operation = numberOf (cellIn r place.operation);
     }
 
 unfoldable pub connectionRead : List ℕ → ReadConnection
 connectionRead r = told connectionOf connectionRow ConnectionEntry ConnectionOther r
 
 -- A stream entry.
-abbrev pub streamCells : Stream → List Cell
-streamCells e =
-    cell 2 (wordOf (e .identifier)) 0
-    ∷ cellOf (e .value)
-    ∷ blanks 14
-
 unfoldable pub streamRow : Stream → List ℕ
-streamRow e = row (entry 9 (parentWord (e .parent)) (streamCells e))
+streamRow e =
+    row (filled (blank kind.streamEntry (parentWord (e .parent))) (
+    (place.streamNumber, cell integer (wordOf (e .identifier)) 0) ∷
+    (place.streamValue, cellOf (e .value)) ∷
+    []))
 
 unfoldable pub streamOf : List ℕ → Stream
 streamOf r =
     record {
       parent = parentOf r;
-      identifier = intOf (cellAt r 0 .first);
-      value = valueOf (cellAt r 1);
+      identifier = intIn (cellIn r place.streamNumber);
+      value = valueOf (cellIn r place.streamValue);
     }
 
 -- its value is never absent
 unfoldable pub streamRead : List ℕ → ReadStream
-streamRead r = pick (eqb (getD r 5 0) 0) StreamOther (told streamOf streamRow StreamEntry StreamOther r)
+streamRead r = pick (eqb (cellIn r place.streamValue .kind) 0) StreamOther (told streamOf streamRow StreamEntry StreamOther r)
+
+-- The numbers of a connection and of a matrix have the words that stand in their cells, whatever row it is.
+pub record ConnectionWords (r : List ℕ) (e : Connection) : Type 0 where
+  pub target : wordOf (e .target) ≡ numberIn (cellIn r place.target)
+  pub operation : numberIn (numberCell (e .operation)) ≡ numberIn (cellIn r place.operation)
+
+pub record MatrixWords (r : List ℕ) (e : Matrix) : Type 0 where
+  pub «matrix_type» : numberIn (numberCell (e .«matrix_type»)) ≡ numberIn (cellIn r place.matrixType)
+  pub mode : numberIn (numberCell (e .mode)) ≡ numberIn (cellIn r place.mode)
+  pub targets : numberIn (numberCell (e .targets)) ≡ numberIn (cellIn r place.targets)
+  pub sources : numberIn (numberCell (e .sources)) ≡ numberIn (cellIn r place.sources)
+  pub «total_limit» : numberIn (numberCell (e .«total_limit»)) ≡ numberIn (cellIn r place.totalLimit)
+  pub «target_limit» : numberIn (numberCell (e .«target_limit»)) ≡ numberIn (cellIn r place.targetLimit)

@@ -1,14 +1,31 @@
 // The kinds of entry of the Glow tree, by value: each is made from a row of the lent table and put into one.
 use ber_values::Value;
 use glow_rows::Cell;
+use glow_rows::KIND;
+use glow_rows::PARENT;
+use glow_rows::Span;
+use glow_rows::absent;
+use glow_rows::begun;
+use glow_rows::cell_in;
+use glow_rows::cell_of;
+use glow_rows::int_of;
+use glow_rows::is_same;
+use glow_rows::kinds;
+use glow_rows::places;
+use glow_rows::put_in;
+use glow_rows::tags;
+use glow_rows::value_of;
 ghost use mathlib.Core.Path.{_≡_};
-ghost use lib.Dec.{eqb};
-ghost use Rattle.glow_rows.specs.Cell.{cellOf};
-ghost use Rattle.glow_rows.specs.Entry.{row, blank};
-ghost use Rattle.glow_entries.specs.Member.{intOf, numberCell, numberOf, flagCell, flagOf, partCell, partOf, valueOf, cellAt, parentWord, parentOf, putAt};
+ghost use Prim.Native.Nat.{_-_, _≤_};
+ghost use lib.ListN.{length, take, drop};
+ghost use Rattle.glow_rows.specs.Cell.{numbers, cellOf, wordOf, intOf, valueOf, numberIn, octetsIn};
+ghost use Rattle.glow_rows.specs.Row.{cellIn};
+ghost use Rattle.glow_entries.specs.declared.Number.the-variants as numberCase;
+ghost use Rattle.glow_entries.specs.Member.{numberCell, intIn, numberOf, flagCell, flagOf, partCell, partOf, parentWord, parentOf};
 ghost use Rattle.glow_entries.specs.Record.{parameterRow, parameterOf, parameterRead, nodeRow, nodeOf, nodeRead, matrixRow, matrixOf, matrixRead};
 ghost use Rattle.glow_entries.specs.Record.{commandRow, commandOf, commandRead, connectionRow, connectionOf, connectionRead, streamRow, streamOf, streamRead};
-ghost use Rattle.glow_entries.specs.Member.{keyKind, keyCell, keyOf, same};
+ghost use Rattle.glow_entries.specs.Record.{ConnectionWords, MatrixWords};
+ghost use Rattle.glow_entries.specs.Member.{keyKind, keyCell, keyOf};
 
 // A number member, or that there is none.
 pub enum Number {
@@ -52,22 +69,12 @@ fn count(x: u64) -> usize
     x as usize
 }
 
-fn none() -> Cell
-    ensures { λ r. ⌜ r ≡ cellOf Value.Absent ⌝ }
-{
-    Cell {
-        kind: 0,
-        first: 0,
-        second: 0,
-    }
-}
-
 fn number_cell(n: Number) -> Cell
     ensures { λ r. ⌜ r ≡ numberCell n ⌝ }
 {
     match n {
-        Number::Absent => none(),
-        Number::Is(x) => glow_rows::cell_of(Value::Int(x)),
+        Number::Absent => absent(),
+        Number::Is(x) => cell_of(Value::Int(x)),
     }
 }
 
@@ -75,8 +82,8 @@ fn flag_cell(f: Flag) -> Cell
     ensures { λ r. ⌜ r ≡ flagCell f ⌝ }
 {
     match f {
-        Flag::Absent => none(),
-        Flag::Is(x) => glow_rows::cell_of(Value::Bool(x)),
+        Flag::Absent => absent(),
+        Flag::Is(x) => cell_of(Value::Bool(x)),
     }
 }
 
@@ -84,7 +91,7 @@ fn part_cell(tag: u64, p: Part) -> Cell
     ensures { λ r. ⌜ r ≡ partCell tag p ⌝ }
 {
     match p {
-        Part::Absent => none(),
+        Part::Absent => absent(),
         Part::At { start, len } => Cell {
             kind: tag,
             first: word(start),
@@ -97,9 +104,9 @@ fn key_cell(k: Key) -> Cell
     ensures { λ r. ⌜ r ≡ keyCell k ⌝ }
 {
     match k {
-        Key::Number(x) => glow_rows::cell_of(Value::Int(x)),
+        Key::Number(x) => cell_of(Value::Int(x)),
         Key::Path { start, len } => Cell {
-            kind: 13,
+            kind: tags::NUMBERS,
             first: word(start),
             second: word(len),
         },
@@ -115,7 +122,8 @@ fn key_kind(k: Key, plain: u64, qualified: u64) -> u64
     }
 }
 
-fn parent_word(p: Parent) -> u64
+// The parent's place and 1; 0 where there is none.
+pub fn parent_word(p: Parent) -> u64
     ensures { λ r. ⌜ r ≡ parentWord p ⌝ }
 {
     match p {
@@ -124,84 +132,41 @@ fn parent_word(p: Parent) -> u64
     }
 }
 
-// The row of an entry with no member yet.
-fn begun(kind: u64, parent: u64) -> [u64; 50]
-    ensures { λ r. ⌜ r ≡ row (blank kind parent) ⌝ }
-{
-    let mut row = [0; 50];
-    row[0] = kind;
-    row[1] = parent;
-    row
-}
-
-// Puts a cell into a row; past the sixteen cells it does nothing.
-fn put(row: &mut [u64; 50], c: usize, v: Cell)
-    ensures { λ _. ⌜ now (row .exit) ≡ putAt (now (row .entry)) c v ⌝ }
-{
-    if c < 16 {
-        let j = 2 + c * 3;
-        row[j] = v.kind;
-        row[j + 1] = v.first;
-        row[j + 2] = v.second;
-    }
-}
-
-// What a word stands for as an integer.
-fn int_of(a: u64) -> i64
-    ensures { λ r. ⌜ r ≡ intOf a ⌝ }
-{
-    if a < 0x8000000000000000 {
-        return a as i64;
-    }
-    -1 - ((18446744073709551615 - a) as i64)
-}
-
-fn cell_at(row: &[u64; 50], c: usize) -> Cell
-    ensures { λ r. ⌜ r ≡ cellAt (now (row .entry)) c ⌝ }
-{
-    if c < 16 {
-        let j = 2 + c * 3;
-        return Cell {
-            kind: row[j],
-            first: row[j + 1],
-            second: row[j + 2],
-        };
-    }
-    none()
-}
-
 fn number_at(row: &[u64; 50], c: usize) -> Number
-    ensures { λ r. ⌜ r ≡ numberOf (cellAt (now (row .entry)) c) ⌝ }
+    ensures { λ r. ⌜ r ≡ numberOf (cellIn (now (row .entry)) c) ⌝ }
+    ensures { λ r. ⌜ numberIn (numberCell r) ≡ numberIn (cellIn (now (row .entry)) c) ⌝ }
 {
-    let v = cell_at(row, c);
-    if v.kind == 2 {
-        return Number::Is(int_of(v.first));
+    let v = cell_in(row, c);
+    if v.kind == tags::INTEGER {
+        if v.second == 0 {
+            return Number::Is(int_of(v.first));
+        }
     }
     Number::Absent
 }
 
 // What a cell stands for as a number that is never absent.
 fn int_at(row: &[u64; 50], c: usize) -> i64
-    ensures { λ r. ⌜ r ≡ intOf (cellAt (now (row .entry)) c .first) ⌝ }
+    ensures { λ r. ⌜ r ≡ intIn (cellIn (now (row .entry)) c) ⌝ }
+    ensures { λ r. ⌜ wordOf r ≡ numberIn (cellIn (now (row .entry)) c) ⌝ }
 {
-    let v = cell_at(row, c);
-    int_of(v.first)
+    int_of(glow_rows::number_of(cell_in(row, c)))
 }
 
 fn flag_at(row: &[u64; 50], c: usize) -> Flag
-    ensures { λ r. ⌜ r ≡ flagOf (cellAt (now (row .entry)) c) ⌝ }
+    ensures { λ r. ⌜ r ≡ flagOf (cellIn (now (row .entry)) c) ⌝ }
 {
-    let v = cell_at(row, c);
-    if v.kind == 1 {
+    let v = cell_in(row, c);
+    if v.kind == tags::BOOLEAN {
         return Flag::Is(v.first == 1);
     }
     Flag::Absent
 }
 
 fn part_at(row: &[u64; 50], tag: u64, c: usize) -> Part
-    ensures { λ r. ⌜ r ≡ partOf tag (cellAt (now (row .entry)) c) ⌝ }
+    ensures { λ r. ⌜ r ≡ partOf tag (cellIn (now (row .entry)) c) ⌝ }
 {
-    let v = cell_at(row, c);
+    let v = cell_in(row, c);
     if v.kind == tag {
         return Part::At {
             start: count(v.first),
@@ -211,61 +176,30 @@ fn part_at(row: &[u64; 50], tag: u64, c: usize) -> Part
     Part::Absent
 }
 
-// What a cell stands for as a value: where it stands for none, that there is none.
-fn value_of(v: Cell) -> Value
-    ensures { λ r. ⌜ r ≡ valueOf v ⌝ }
-{
-    if v.kind == 2 {
-        return Value::Int(int_of(v.first));
-    }
-    if v.kind == 9 {
-        if 0x7ff0000000000000 < v.first % 0x8000000000000000 {
-            return Value::Absent;
-        }
-        return Value::Real(f64::from_bits(v.first));
-    }
-    if v.kind == 12 {
-        return Value::Text {
-            start: count(v.first),
-            len: count(v.second),
-        };
-    }
-    if v.kind == 1 {
-        return Value::Bool(v.first == 1);
-    }
-    if v.kind == 4 {
-        return Value::Octets {
-            start: count(v.first),
-            len: count(v.second),
-        };
-    }
-    Value::Absent
-}
-
 fn value_at(row: &[u64; 50], c: usize) -> Value
-    ensures { λ r. ⌜ r ≡ valueOf (cellAt (now (row .entry)) c) ⌝ }
+    ensures { λ r. ⌜ r ≡ valueOf (cellIn (now (row .entry)) c) ⌝ }
 {
-    let v = cell_at(row, c);
+    let v = cell_in(row, c);
     value_of(v)
 }
 
 fn key_at(row: &[u64; 50], qualified: u64) -> Key
     ensures { λ r. ⌜ r ≡ keyOf qualified (now (row .entry)) ⌝ }
 {
-    let v = cell_at(row, 0);
-    if row[0] == qualified {
+    let v = cell_in(row, places::KEY);
+    if row[KIND] == qualified {
         return Key::Path {
             start: count(v.first),
             len: count(v.second),
         };
     }
-    Key::Number(int_of(v.first))
+    Key::Number(int_of(glow_rows::number_of(v)))
 }
 
 fn parent_at(row: &[u64; 50]) -> Parent
     ensures { λ r. ⌜ r ≡ parentOf (now (row .entry)) ⌝ }
 {
-    let w = row[1];
+    let w = row[PARENT];
     if w == 0 {
         return Parent::Root;
     }
@@ -275,27 +209,34 @@ fn parent_at(row: &[u64; 50]) -> Parent
     Parent::Root
 }
 
-fn is_same(a: &[u64; 50], b: &[u64; 50]) -> bool
-    ensures { λ r. ⌜ r ≡ same (now (a .entry)) (now (b .entry)) ⌝ }
+// The 64 bits of an integer, in two's complement.
+pub fn int_word(z: i64) -> u64
+    ensures { λ r. ⌜ wordOf z ≡ r ⌝ }
 {
-    same_words(a, b)
+    let v = cell_of(Value::Int(z));
+    v.first
 }
 
-// Whether two lists hold the same words.
-fn same_words(a: &[u64], b: &[u64]) -> bool
-    ensures { λ r. ⌜ r ≡ same (now (a .entry)) (now (b .entry)) ⌝ }
+// The same of a number, 0 where there is none.
+pub fn number_word(n: Number) -> u64
+    ensures { λ r. ⌜ numberIn (numberCell n) ≡ r ⌝ }
 {
-    if a.len() != b.len() {
-        return false;
-    }
-    let mut i: usize = 0;
-    while i < a.len() {
-        if a[i] != b[i] {
-            return false;
-        }
-        i += 1;
-    }
-    true
+    glow_rows::number_of(number_cell(n))
+}
+
+// The number that 64 bits are.
+pub fn number_from(w: u64) -> Number
+    ensures { λ r. ⌜ r ≡ numberCase.Is (intOf w) ⌝ }
+{
+    Number::Is(int_of(w))
+}
+
+// The octets of a list of identifier numbers; none where there is no list, or where they do not lie in the message.
+pub fn span_of(s: &[u8], p: Part) -> Span
+    ensures { λ r. ⌜ take (r .end - r .start) (drop (r .start) (now (s .entry))) ≡ octetsIn (now (s .entry)) (partCell numbers p) ⌝ }
+    ensures { λ r. ⌜ (r .start ≤ r .end) × (r .end ≤ length (now (s .entry))) ⌝ }
+{
+    glow_rows::span_of(s, part_cell(tags::NUMBERS, p))
 }
 
 // A parameter, with its value, its minimum and its maximum, of any kind each.
@@ -336,18 +277,29 @@ pub fn parameter_row(e: Parameter) -> [u64; 50]
     let online = e.online;
     let step = e.step;
     let stream = e.stream;
-    let mut row = begun(key_kind(key, 1, 5), parent_word(parent));
-    put(&mut row, 0, key_cell(key));
-    put(&mut row, 1, part_cell(12, identifier));
-    put(&mut row, 2, part_cell(12, description));
-    put(&mut row, 3, glow_rows::cell_of(value));
-    put(&mut row, 4, glow_rows::cell_of(minimum));
-    put(&mut row, 5, glow_rows::cell_of(maximum));
-    put(&mut row, 6, number_cell(access));
-    put(&mut row, 9, number_cell(factor));
-    put(&mut row, 10, flag_cell(online));
-    put(&mut row, 12, number_cell(step));
-    put(&mut row, 15, number_cell(stream));
+    let mut row = begun(
+        key_kind(key, kinds::PARAMETER, kinds::QUALIFIED_PARAMETER),
+        parent_word(parent),
+    );
+    put_in(&mut row, places::KEY, key_cell(key));
+    put_in(
+        &mut row,
+        places::IDENTIFIER,
+        part_cell(tags::TEXT, identifier),
+    );
+    put_in(
+        &mut row,
+        places::DESCRIPTION,
+        part_cell(tags::TEXT, description),
+    );
+    put_in(&mut row, places::VALUE, cell_of(value));
+    put_in(&mut row, places::MINIMUM, cell_of(minimum));
+    put_in(&mut row, places::MAXIMUM, cell_of(maximum));
+    put_in(&mut row, places::ACCESS, number_cell(access));
+    put_in(&mut row, places::FACTOR, number_cell(factor));
+    put_in(&mut row, places::ONLINE, flag_cell(online));
+    put_in(&mut row, places::STEP, number_cell(step));
+    put_in(&mut row, places::STREAM, number_cell(stream));
     row
 }
 
@@ -355,17 +307,17 @@ fn parameter_at(row: &[u64; 50]) -> Parameter
     ensures { λ r. ⌜ r ≡ parameterOf (now (row .entry)) ⌝ }
 {
     let parent = parent_at(row);
-    let key = key_at(row, 5);
-    let identifier = part_at(row, 12, 1);
-    let description = part_at(row, 12, 2);
-    let value = value_at(row, 3);
-    let minimum = value_at(row, 4);
-    let maximum = value_at(row, 5);
-    let access = number_at(row, 6);
-    let factor = number_at(row, 9);
-    let online = flag_at(row, 10);
-    let step = number_at(row, 12);
-    let stream = number_at(row, 15);
+    let key = key_at(row, kinds::QUALIFIED_PARAMETER);
+    let identifier = part_at(row, tags::TEXT, places::IDENTIFIER);
+    let description = part_at(row, tags::TEXT, places::DESCRIPTION);
+    let value = value_at(row, places::VALUE);
+    let minimum = value_at(row, places::MINIMUM);
+    let maximum = value_at(row, places::MAXIMUM);
+    let access = number_at(row, places::ACCESS);
+    let factor = number_at(row, places::FACTOR);
+    let online = flag_at(row, places::ONLINE);
+    let step = number_at(row, places::STEP);
+    let stream = number_at(row, places::STREAM);
     Parameter {
         parent: parent,
         key: key,
@@ -420,12 +372,23 @@ pub fn node_row(e: Node) -> [u64; 50]
     let description = e.description;
     let root = e.root;
     let online = e.online;
-    let mut row = begun(key_kind(key, 3, 6), parent_word(parent));
-    put(&mut row, 0, key_cell(key));
-    put(&mut row, 1, part_cell(12, identifier));
-    put(&mut row, 2, part_cell(12, description));
-    put(&mut row, 3, flag_cell(root));
-    put(&mut row, 4, flag_cell(online));
+    let mut row = begun(
+        key_kind(key, kinds::NODE, kinds::QUALIFIED_NODE),
+        parent_word(parent),
+    );
+    put_in(&mut row, places::KEY, key_cell(key));
+    put_in(
+        &mut row,
+        places::IDENTIFIER,
+        part_cell(tags::TEXT, identifier),
+    );
+    put_in(
+        &mut row,
+        places::DESCRIPTION,
+        part_cell(tags::TEXT, description),
+    );
+    put_in(&mut row, places::ROOT, flag_cell(root));
+    put_in(&mut row, places::NODE_ONLINE, flag_cell(online));
     row
 }
 
@@ -433,11 +396,11 @@ fn node_at(row: &[u64; 50]) -> Node
     ensures { λ r. ⌜ r ≡ nodeOf (now (row .entry)) ⌝ }
 {
     let parent = parent_at(row);
-    let key = key_at(row, 6);
-    let identifier = part_at(row, 12, 1);
-    let description = part_at(row, 12, 2);
-    let root = flag_at(row, 3);
-    let online = flag_at(row, 4);
+    let key = key_at(row, kinds::QUALIFIED_NODE);
+    let identifier = part_at(row, tags::TEXT, places::IDENTIFIER);
+    let description = part_at(row, tags::TEXT, places::DESCRIPTION);
+    let root = flag_at(row, places::ROOT);
+    let online = flag_at(row, places::NODE_ONLINE);
     Node {
         parent: parent,
         key: key,
@@ -494,32 +457,45 @@ pub fn matrix_row(e: Matrix) -> [u64; 50]
     let sources = e.sources;
     let total_limit = e.total_limit;
     let target_limit = e.target_limit;
-    let mut row = begun(key_kind(key, 4, 7), parent_word(parent));
-    put(&mut row, 0, key_cell(key));
-    put(&mut row, 1, part_cell(12, identifier));
-    put(&mut row, 2, part_cell(12, description));
-    put(&mut row, 3, number_cell(matrix_type));
-    put(&mut row, 4, number_cell(mode));
-    put(&mut row, 5, number_cell(targets));
-    put(&mut row, 6, number_cell(sources));
-    put(&mut row, 7, number_cell(total_limit));
-    put(&mut row, 8, number_cell(target_limit));
+    let mut row = begun(
+        key_kind(key, kinds::MATRIX, kinds::QUALIFIED_MATRIX),
+        parent_word(parent),
+    );
+    put_in(&mut row, places::KEY, key_cell(key));
+    put_in(
+        &mut row,
+        places::IDENTIFIER,
+        part_cell(tags::TEXT, identifier),
+    );
+    put_in(
+        &mut row,
+        places::DESCRIPTION,
+        part_cell(tags::TEXT, description),
+    );
+    put_in(&mut row, places::MATRIX_TYPE, number_cell(matrix_type));
+    put_in(&mut row, places::MODE, number_cell(mode));
+    put_in(&mut row, places::TARGETS, number_cell(targets));
+    put_in(&mut row, places::SOURCES, number_cell(sources));
+    put_in(&mut row, places::TOTAL_LIMIT, number_cell(total_limit));
+    put_in(&mut row, places::TARGET_LIMIT, number_cell(target_limit));
     row
 }
 
-fn matrix_at(row: &[u64; 50]) -> Matrix
+// What a row stands for as a matrix: of a row that is one's, that matrix.
+pub fn matrix_at(row: &[u64; 50]) -> Matrix
     ensures { λ r. ⌜ r ≡ matrixOf (now (row .entry)) ⌝ }
+    ensures { λ r. ⌜ MatrixWords (now (row .entry)) r ⌝ }
 {
     let parent = parent_at(row);
-    let key = key_at(row, 7);
-    let identifier = part_at(row, 12, 1);
-    let description = part_at(row, 12, 2);
-    let matrix_type = number_at(row, 3);
-    let mode = number_at(row, 4);
-    let targets = number_at(row, 5);
-    let sources = number_at(row, 6);
-    let total_limit = number_at(row, 7);
-    let target_limit = number_at(row, 8);
+    let key = key_at(row, kinds::QUALIFIED_MATRIX);
+    let identifier = part_at(row, tags::TEXT, places::IDENTIFIER);
+    let description = part_at(row, tags::TEXT, places::DESCRIPTION);
+    let matrix_type = number_at(row, places::MATRIX_TYPE);
+    let mode = number_at(row, places::MODE);
+    let targets = number_at(row, places::TARGETS);
+    let sources = number_at(row, places::SOURCES);
+    let total_limit = number_at(row, places::TOTAL_LIMIT);
+    let target_limit = number_at(row, places::TARGET_LIMIT);
     Matrix {
         parent: parent,
         key: key,
@@ -566,9 +542,13 @@ pub fn command_row(e: Command) -> [u64; 50]
     let parent = e.parent;
     let number = e.number;
     let mask = e.mask;
-    let mut row = begun(2, parent_word(parent));
-    put(&mut row, 0, glow_rows::cell_of(Value::Int(number)));
-    put(&mut row, 1, number_cell(mask));
+    let mut row = begun(kinds::COMMAND, parent_word(parent));
+    put_in(
+        &mut row,
+        places::COMMAND_NUMBER,
+        cell_of(Value::Int(number)),
+    );
+    put_in(&mut row, places::MASK, number_cell(mask));
     row
 }
 
@@ -576,8 +556,8 @@ fn command_at(row: &[u64; 50]) -> Command
     ensures { λ r. ⌜ r ≡ commandOf (now (row .entry)) ⌝ }
 {
     let parent = parent_at(row);
-    let number = int_at(row, 0);
-    let mask = number_at(row, 1);
+    let number = int_at(row, places::COMMAND_NUMBER);
+    let mask = number_at(row, places::MASK);
     Command {
         parent: parent,
         number: number,
@@ -619,20 +599,26 @@ pub fn connection_row(e: Connection) -> [u64; 50]
     let target = e.target;
     let sources = e.sources;
     let operation = e.operation;
-    let mut row = begun(8, parent_word(parent));
-    put(&mut row, 0, glow_rows::cell_of(Value::Int(target)));
-    put(&mut row, 1, part_cell(13, sources));
-    put(&mut row, 2, number_cell(operation));
+    let mut row = begun(kinds::CONNECTION, parent_word(parent));
+    put_in(&mut row, places::TARGET, cell_of(Value::Int(target)));
+    put_in(
+        &mut row,
+        places::CONNECTION_SOURCES,
+        part_cell(tags::NUMBERS, sources),
+    );
+    put_in(&mut row, places::OPERATION, number_cell(operation));
     row
 }
 
-fn connection_at(row: &[u64; 50]) -> Connection
+// What a row stands for as a connection: of a row that is one's, that connection.
+pub fn connection_at(row: &[u64; 50]) -> Connection
     ensures { λ r. ⌜ r ≡ connectionOf (now (row .entry)) ⌝ }
+    ensures { λ r. ⌜ ConnectionWords (now (row .entry)) r ⌝ }
 {
     let parent = parent_at(row);
-    let target = int_at(row, 0);
-    let sources = part_at(row, 13, 1);
-    let operation = number_at(row, 2);
+    let target = int_at(row, places::TARGET);
+    let sources = part_at(row, tags::NUMBERS, places::CONNECTION_SOURCES);
+    let operation = number_at(row, places::OPERATION);
     Connection {
         parent: parent,
         target: target,
@@ -673,9 +659,13 @@ pub fn stream_row(e: Stream) -> [u64; 50]
     let parent = e.parent;
     let identifier = e.identifier;
     let value = e.value;
-    let mut row = begun(9, parent_word(parent));
-    put(&mut row, 0, glow_rows::cell_of(Value::Int(identifier)));
-    put(&mut row, 1, glow_rows::cell_of(value));
+    let mut row = begun(kinds::STREAM_ENTRY, parent_word(parent));
+    put_in(
+        &mut row,
+        places::STREAM_NUMBER,
+        cell_of(Value::Int(identifier)),
+    );
+    put_in(&mut row, places::STREAM_VALUE, cell_of(value));
     row
 }
 
@@ -683,8 +673,8 @@ fn stream_at(row: &[u64; 50]) -> Stream
     ensures { λ r. ⌜ r ≡ streamOf (now (row .entry)) ⌝ }
 {
     let parent = parent_at(row);
-    let identifier = int_at(row, 0);
-    let value = value_at(row, 1);
+    let identifier = int_at(row, places::STREAM_NUMBER);
+    let value = value_at(row, places::STREAM_VALUE);
     Stream {
         parent: parent,
         identifier: identifier,
@@ -696,7 +686,8 @@ fn stream_at(row: &[u64; 50]) -> Stream
 pub fn stream_of(row: &[u64; 50]) -> ReadStream
     ensures { λ r. ⌜ r ≡ streamRead (now (row .entry)) ⌝ }
 {
-    if row[5] == 0 {
+    let v = cell_in(row, places::STREAM_VALUE);
+    if v.kind == tags::ABSENT {
         return ReadStream::Other;
     }
     let e = stream_at(row);

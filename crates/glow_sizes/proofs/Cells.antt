@@ -20,7 +20,7 @@ use Rattle.glow_trees.specs.Rows.{cellAt, cellsFrom}
 use Rattle.glow_trees.specs.Legal.{suits, ruleAt, suited}
 use Rattle.glow_trees.specs.Written.{tagged, memberOctets, membersOctets}
 use Rattle.glow_member_sizes.specs.Sizes.{cap, taggedSize, memberSize}
-use Rattle.glow_sizes.specs.Sizes.{rowCell, rowWord, cellsSize, wrappedSize, split, contentsSize}
+use Rattle.glow_sizes.specs.Sizes.{cellsSize, wrappedSize, split, contentsSize}
 use Rattle.glow_member_sizes.proofs.Caps.{cap-in, cap-over, cap-left, cap-right}
 use Rattle.glow_member_sizes.proofs.Members.{twice}
 
@@ -70,60 +70,6 @@ module _ (real : ℕ → List ℕ) (kind : ℕ) (s row : List ℕ) where
   pub sum-is : (to c total : ℕ) → Sum to c total → cellsSize real kind c (contentsOf s (cellsFrom (to - c) c row)) ≡ total
   unfolding Sum
   sum-is to c total h = h .1
-
--- ---- the cells and words of a row, one by one
-cells-at : (n k c : ℕ) (r : List ℕ) → c < n → getD (cellsFrom n k r) c absent ≡ cellAt r (k + c)
-unfolding cellsFrom
-cells-at zero k c r h = absurd (omega (arith, h))
-cells-at (suc n) k zero r h = let d : k ≡ k + 0 = omega arith in ap (cellAt r) d
-cells-at (suc n) k (suc c) r h =
-    let d : suc k + c ≡ k + suc c = omega arith in cells-at n (suc k) c r (omega (arith, h)) ∙ ap (cellAt r) d
-
-cells-past : (n k c : ℕ) (r : List ℕ) → n ≤ c → getD (cellsFrom n k r) c absent ≡ absent
-unfolding cellsFrom
-cells-past zero k c r h = refl
-cells-past (suc n) k zero r h = absurd (omega (arith, h))
-cells-past (suc n) k (suc c) r h = cells-past n (suc k) c r (omega (arith, h))
-
-cells-none : (n k c : ℕ) → getD (cellsFrom n k []) c absent ≡ absent
-unfolding cellsFrom
-cells-none zero k c = refl
-cells-none (suc n) k zero = refl
-cells-none (suc n) k (suc c) = cells-none n (suc k) c
-
-module _ (rows : Rows) (i c : ℕ) where
-  pub cell-rowless : length rows ≤ i → absent ≡ rowCell rows i c
-  unfolding rowCell
-  cell-rowless h = sym (ap (λ (r : List ℕ). getD (cellsFrom 16 0 r) c absent) (List·getD-eq-default rows [] h) ∙ cells-none 16 0 c)
-
-  pub cell-past : 16 ≤ c → absent ≡ rowCell rows i c
-  unfolding rowCell
-  cell-past h = sym (cells-past 16 0 c (getD rows i []) h)
-
-  pub cell-in : c < 16 → rowCell rows i c ≡ cellAt (getD rows i []) c
-  unfolding rowCell
-  cell-in h = let z : 0 + c ≡ c = omega arith in cells-at 16 0 c (getD rows i []) h ∙ ap (cellAt (getD rows i [])) z
-
-  pub cell-words : c < 16
-      → cell (getD (getD rows i []) (2 + c * 3) 0) (getD (getD rows i []) (2 + c * 3 + 1) 0) (getD (getD rows i []) (2 + c * 3 + 2) 0) ≡ rowCell rows i c
-  cell-words h =
-      let a : 2 + c * 3 + 1 ≡ 3 + c * 3 = omega arith in
-      let b : 2 + c * 3 + 2 ≡ 4 + c * 3 = omega arith in
-      rw (a, b) (sym (cell-in h))
-
-module _ (rows : Rows) (i j : ℕ) where
-  pub word-rowless : length rows ≤ i → 0 ≡ rowWord rows i j
-  word-rowless h = sym (ap (λ (r : List ℕ). pick (ltb j 50) (getD r j 0) 0) (List·getD-eq-default rows [] h) ∙ go (ltb j 50))
-    where
-      go : (b : Bool) → _≡_ {A = ℕ} (pick b 0 0) 0
-      go true = refl
-      go false = refl
-
-  pub word-past : 50 ≤ j → 0 ≡ rowWord rows i j
-  word-past h = simp (le-ltb _ _ h)
-
-  pub word-in : j < 50 → getD (getD rows i []) j 0 ≡ rowWord rows i j
-  word-in h = simp (lt-ltb _ _ h)
 
 -- ---- the contents, by where they begin
 module _ (real : ℕ → List ℕ) (s row : List ℕ) (kind part n : ℕ) (e : split kind ≡ part) where

@@ -21,14 +21,6 @@ use Rattle.glow_member_sizes.specs.Sizes.{messageLimit, noSize, cap, taggedSize
 use Rattle.glow_sizes.specs.declared.Entered.{Entered}
 use Rattle.glow_sizes.specs.declared.Measured.{Measured}
 
--- the cell c of the row i: an absent one where there is none
-unfoldable pub rowCell : Rows → ℕ → ℕ → Cell
-rowCell rows i c = getD (cellsFrom 16 0 (getD rows i [])) c absent
-
--- the word j of the row i, of fifty: 0 where there is none
-abbrev pub rowWord : Rows → ℕ → ℕ → ℕ
-rowWord rows i j = pick (ltb j 50) (getD (getD rows i []) j 0) 0
-
 -- the members from cell c on
 unfoldable pub cellsSize : (ℕ → List ℕ) → ℕ → ℕ → List Content → ℕ
 cellsSize real kind c [] = 0

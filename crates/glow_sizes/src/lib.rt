@@ -12,8 +12,12 @@ use glow_member_sizes::member_size;
 use glow_member_sizes::plus;
 use glow_member_sizes::wide;
 use glow_rows::Cell;
+use glow_rows::cell_at;
+use glow_rows::KIND;
 use glow_rows::kinds;
+use glow_rows::PARENT;
 use glow_rows::tags::ABSENT;
+use glow_rows::word_at;
 ghost use mathlib.Core.Path.{_≡_};
 ghost use mathlib.Core.Bool.{true, false};
 ghost use mathlib.Core.List.{[], _∷_};
@@ -22,7 +26,6 @@ ghost use Prim.Native.Nat.{_+_, _-_, _≤_, _<_};
 ghost use lib.ListN.{length, getD};
 ghost use lib.Dec.{leb, eqb};
 ghost use Rattle.ber_integers.specs.Digits.{pick};
-ghost use Rattle.glow_rows.specs.Cell.{absent};
 ghost use Rattle.glow_trees.specs.Content.{contentOf, contentsOf};
 ghost use Rattle.glow_trees.specs.Rows.{cellsFrom, itemsIn};
 ghost use Rattle.glow_trees.specs.Trees.{standsIn};
@@ -31,7 +34,7 @@ ghost use Rattle.glow_trees.specs.Legal.{ruleAt, suits, pathOf};
 ghost use Rattle.glow_member_sizes.specs.Spelling.{leastReal, spelling};
 ghost use Rattle.glow_member_sizes.specs.Sizes.{cap, taggedSize};
 ghost use Rattle.glow_sizes.specs.Accepted.{fits, lengthOf};
-ghost use Rattle.glow_sizes.specs.Sizes.{rowCell, rowWord, cellsSize, wrappedSize, pathCap, split, contentsSize, keyed, enteredAt, Gives};
+ghost use Rattle.glow_sizes.specs.Sizes.{cellsSize, wrappedSize, pathCap, split, contentsSize, keyed, enteredAt, Gives};
 
 // The containers that are left in Root's collection.
 pub const LEFT: u64 = collections::IN_COLLECTION as u64;
@@ -54,34 +57,6 @@ fn rule_at(kind: u64, c: u64) -> u64
         return glow_grammar::rule_of(kind, 0);
     }
     glow_grammar::rule_of(row, c - 1)
-}
-
-fn no_cell() -> Cell
-    ensures { λ r. ⌜ r ≡ absent ⌝ }
-{
-    Cell {
-        kind: ABSENT,
-        first: 0,
-        second: 0,
-    }
-}
-
-// The cell c of a row; an absent one past the rows' end, or past the sixteen cells.
-pub fn cell_at(rows: &[[u64; 50]], i: usize, c: usize) -> Cell
-    ensures { λ r. ⌜ r ≡ rowCell (now (rows .entry)) i c ⌝ }
-{
-    if rows.len() <= i {
-        return no_cell();
-    }
-    if 16 <= c {
-        return no_cell();
-    }
-    let j = 2 + c * 3;
-    Cell {
-        kind: rows[i][j],
-        first: rows[i][j + 1],
-        second: rows[i][j + 2],
-    }
 }
 
 // The members of an entry from one cell up to another.
@@ -135,19 +110,6 @@ pub fn contents_size(rows: &[[u64; 50]], i: usize, s: &[u8], kind: u64, least: b
     ensures { λ r. ⌜ contentsSize (spelling least) (now (s .entry)) (getD (now (rows .entry)) i []) kind ≡ r ⌝ }
 {
     cells_size(rows, i, s, kind, split_of(kind), 16, least)
-}
-
-// The word j of a row; 0 past the rows' end, or past the fifty words.
-pub fn word_at(rows: &[[u64; 50]], i: usize, j: usize) -> u64
-    ensures { λ r. ⌜ r ≡ rowWord (now (rows .entry)) i j ⌝ }
-{
-    if rows.len() <= i {
-        return 0;
-    }
-    if 50 <= j {
-        return 0;
-    }
-    rows[i][j]
 }
 
 // Whether the members that an entry must have are there.
@@ -236,7 +198,7 @@ pub fn entry_size(
 ) -> Entered
     ensures { λ r. ⌜ enteredAt (spelling least) (now (s .entry)) (getD (now (rows .entry)) i []) k above ≡ r ⌝ }
 {
-    let kind = word_at(rows, i, 0);
+    let kind = word_at(rows, i, KIND);
     let split = split_of(kind);
     let own = cells_size(rows, i, s, kind, 0, split, least);
     let inside = cells_size(rows, i, s, kind, split, 16, least);
@@ -323,10 +285,10 @@ fn refused() -> Measured
 fn is_next(rows: &[[u64; 50]], i: usize, which: u64, parent: u64) -> bool
     ensures { λ r. ⌜ pick (eqb (getD (getD (now (rows .entry)) i []) 1 0) parent) (standsIn which (getD (getD (now (rows .entry)) i []) 0 0)) false ≡ r ⌝ }
 {
-    if word_at(rows, i, 1) != parent {
+    if word_at(rows, i, PARENT) != parent {
         return false;
     }
-    stands_in(which, word_at(rows, i, 0))
+    stands_in(which, word_at(rows, i, KIND))
 }
 
 // Whether a kind may hold a collection, by the rule of its member c, or the collection is empty.
@@ -380,7 +342,7 @@ fn items(
         if MESSAGE_LIMIT < e.size {
             return refused();
         }
-        let kind = word_at(rows, i, 0);
+        let kind = word_at(rows, i, KIND);
         let below = i + 1;
         let me = wide(below);
         let left = inside_of(k);

@@ -1,13 +1,14 @@
 -- A member of an entry by content: "Trees compare texts, octets and sources by content."
-use Prim.Native.Nat.{ℕ, _+_, _-_}
+use Prim.Native.Nat.{ℕ, _+_}
 use mathlib.Core.List.{List, [], _∷_}
 use mathlib.Core.Bool.{Bool, true, false}
 use lib.ListN.{length, take, drop}
 use lib.Dec.{leb, ltb, eqb}
-use lib.IntN.{ℤ, pos, negsuc}
 use Rattle.ber_integers.specs.Digits.{pick}
 use Rattle.glow_rows.specs.declared.Cell.{Cell}
-use Rattle.glow_rows.specs.Cell.{boolean, integer, real, octets, text, numbers}
+use Rattle.glow_rows.specs.Cell.{boolean, integer, octets, real, text, numbers}
+-- the integer that 64 bits stand for, in two's complement
+unfoldable pub use Rattle.glow_rows.specs.Cell.{intOf}
 use Rattle.glow_rows.specs.Entry.{Entry, Entries}
 
 -- the universal tag number of a value, and what it holds
@@ -49,7 +50,3 @@ itemOf s e = item (e .kind) (e .parent) (contentsOf s (e .cells))
 unfoldable pub itemsOf : List ℕ → Entries → List Item
 itemsOf s [] = []
 itemsOf s (e ∷ es) = itemOf s e ∷ itemsOf s es
-
--- the integer that 64 bits stand for, in two's complement
-unfoldable pub intOf : ℕ → ℤ
-intOf w = pick (ltb w 9223372036854775808) (pos w) (negsuc (18446744073709551615 - w))

@@ -17,7 +17,10 @@ use glow_rows::tags::ABSENT;
 use glow_rows::tags::BOOLEAN;
 use glow_rows::tags::INTEGER;
 use glow_sizes::LEFT;
-use glow_sizes::cell_at;
+use glow_rows::KIND;
+use glow_rows::PARENT;
+use glow_rows::cell_at;
+use glow_rows::word_at;
 use glow_sizes::contents_size;
 use glow_sizes::entry_size;
 use glow_sizes::inside_of;
@@ -25,7 +28,6 @@ use glow_sizes::measure;
 use glow_sizes::split_of;
 use glow_sizes::stands_in;
 use glow_sizes::trees_size;
-use glow_sizes::word_at;
 use glow_sizes::wrapped_size;
 ghost use mathlib.Core.Path.{_≡_};
 ghost use mathlib.Core.List.{[], _∷_};
@@ -240,7 +242,7 @@ fn put_item(
     ensures { λ r. ⌜ ItemBy (now (s .entry)) (now (rows .entry)) count k above i (now (out .entry)) at r (now (out .exit)) ⌝ }
     ensures { λ r. ⌜ (i < r .next) × (r .next ≤ count) ⌝ }
 {
-    let kind = word_at(rows, i, 0);
+    let kind = word_at(rows, i, KIND);
     let e = entry_size(rows, i, s, k, above, false);
     let me = wide(i) + 1;
     let deep = inside_of(k);
@@ -324,10 +326,10 @@ fn put_items(
     let mut i = start;
     let mut p = at;
     while i < count {
-        if word_at(rows, i, 1) != parent {
+        if word_at(rows, i, PARENT) != parent {
             return Placed { next: i, place: p };
         }
-        if !stands_in(which, word_at(rows, i, 0)) {
+        if !stands_in(which, word_at(rows, i, KIND)) {
             return Placed { next: i, place: p };
         }
         let r = put_item(rows, s, count, i, k, above, out, p);

@@ -24,10 +24,10 @@ use Rattle.desk_crosspoints.proofs.Under.{size-small}
 use Rattle.desk_crosspoints.proofs.Paths.{path-short}
 use Rattle.desk_crosspoints.proofs.Opened.{open-legal}
 use Rattle.desk_calls.specs.declared.Called.{Called}
-use Rattle.glow_sizes.specs.Sizes.{rowCell}
-use Rattle.desk_connections.specs.Connections.{octetsOf, numbersIn, nobody}
+use Rattle.glow_rows.specs.Row.{rowCell}
+use Rattle.glow_paths.specs.Paths.{octetsOf, numbersIn, nobody}
 use Rattle.desk_calls.specs.Calls.{Served, handled, Outcome, filled, laid, called, told as answered}
-use Rattle.desk_connections.proofs.Items.{in-at}
+use Rattle.glow_paths.proofs.Items.{in-at}
 use Rattle.desk_calls.proofs.Setup.{ready-from, called-ready}
 use Rattle.sheet_rules.specs.Reading as reading
 use Rattle.sheet_rules.specs.Reading.{refused, firstRefused, applied, begun, emptyDesk, opens, figuresIn, modeIn, pathIn, ofEntries}

@@ -1,84 +1,96 @@
 -- What the rows say: limits, figures, and which entries they are.
-use Prim.Native.Nat.{ℕ, suc, _+_, _≤_, _<_}
-use mathlib.Core.Path.{_≡_, refl, sym, ap, _∙_}
+use Prim.Native.Nat.{ℕ, suc, _+_, _≤_, _<_, _^_}
+use mathlib.Core.Path.{_≡_, refl, sym, ap, subst, _∙_}
 use mathlib.Core.List.{List, [], _∷_}
 use mathlib.Core.Bool.{Bool, true, false, true≢false}
 use native.Mathlib.Omega.{arith}
 use borrow.Author.Tests.{eq-eqb, ne-eqb, eqb-true, lt-ltb}
-use lib.ListN.{length, take, drop, getD, drop-of-length-le}
+use lib.ListN.{length, drop, getD, drop-of-length-le}
 use lib.Seq.{drop-cons}
-use lib.Dec.{leb, eqb}
+use lib.Dec.{eqb}
+use lib.IntN.{ℤ}
 use Rattle.ber_integers.specs.Digits.{pick}
 use Rattle.glow_rows.specs.Entry.{Rows}
 use Rattle.glow_rows.specs.declared.Cell.{Cell}
-use Rattle.glow_trees.specs.Content.{nothing, bytes, wrong, Item, contentOf, contentsOf, itemsOf, isPart, isWord}
+use Rattle.glow_rows.specs.Cell.{intOf, numberIn}
+use Rattle.glow_trees.specs.Content.{Content, Item, contentOf, contentsOf, itemsOf}
 use Rattle.glow_trees.specs.Rows.{cellsFrom, entriesOf, itemsIn}
 use Rattle.desk_crosspoints.specs.declared.Limit.{Limit}
 use Rattle.desk_crosspoints.specs.declared.Limit.the-variants.{Absent, Most}
-use Rattle.glow_sizes.specs.Sizes.{rowCell}
-use Rattle.desk_connections.specs.Connections.{numberOf, memberOf, nobody}
-use Rattle.desk_connections.proofs.Items.{in-length, in-kind}
+use Rattle.glow_rows.specs.Row.{cellIn, rowCell}
+use Rattle.glow_entries.specs.declared.Number.{Number}
+use Rattle.glow_entries.specs.declared.Number.the-variants.{Absent as NoNumber, Is as IsNumber}
+use Rattle.glow_entries.specs.declared.Matrix.{Matrix}
+use Rattle.glow_entries.specs.Member as members
+use Rattle.glow_entries.specs.Member.{numberCell}
+use Rattle.glow_entries.specs.Record.{matrixOf, MatrixWords}
+use Rattle.glow_paths.specs.Paths.{numberOf, memberOf, nobody}
+use Rattle.glow_paths.proofs.Items.{in-length, in-kind, content-by}
+use Rattle.desk_connections.proofs.Rows.{number-is}
 use Rattle.sheet_rules.specs.Reading.{limitIn, figuresIn, modeIn, allLinks}
-use Rattle.sheet_reader.specs.Steps.{firstOf, isSheet}
+use Rattle.sheet_reader.specs.Steps.{firstOf, limitFrom, isSheet}
 
 -- ---- a limit
 
-word-not-part : (kind : ℕ) → isWord kind ≡ true → isPart kind ≡ false
-word-not-part kind = go (eqb kind 1) refl (eqb kind 2) refl (eqb kind 9) refl
-  where
-    go : (a : Bool) → eqb kind 1 ≡ a → (b : Bool) → eqb kind 2 ≡ b → (c : Bool) → eqb kind 9 ≡ c → pick a true (pick b true c) ≡ true → isPart kind ≡ false
-    go true e b f c g h = rw (eqb-true kind 1 e)
-    go false e true f c g h = rw (eqb-true kind 2 f)
-    go false e false f true g h = rw (eqb-true kind 9 g)
-    go false e false f false g h = absurd (true≢false (sym h))
-
 module _ (s : List ℕ) (v : Cell) where
-  pub limit-other : isWord (v .kind) ≡ false → limitIn (contentOf s v) ≡ Absent
+  limit-by : (b z : Bool) → eqb (v .kind) 2 ≡ b → eqb (v .second) 0 ≡ z → pick b (pick z (v .first) 0) 0 < 18446744073709551616
+      → limitIn (contentOf s v) ≡ pick b (pick z (Most (v .first)) Absent) Absent
   unfolding contentOf
-  limit-other h =
-      rw h (go (isPart (v .kind)) (leb (v .first + v .second) (length s)) (eqb (v .kind) 0) (eqb (v .first) 0) (eqb (v .second) 0))
-    where
-      go : (p l k x z : Bool)
-          → limitIn (pick p (pick l (bytes (v .kind) (take (v .second) (drop (v .first) s))) wrong) (pick k (pick x (pick z nothing wrong) wrong) wrong)) ≡ Absent
-      go true true k x z = refl
-      go true false k x z = refl
-      go false l true true true = refl
-      go false l true true false = refl
-      go false l true false z = refl
-      go false l false x z = refl
+  limit-by true true e d l = rw (eqb-true (v .kind) 2 e, d, lt-ltb (v .first) 18446744073709551616 l)
+  limit-by true false e d l = rw (eqb-true (v .kind) 2 e, d)
+  limit-by false z e d l =
+      content-by s v (λ (x : Content). limitIn x ≡ Absent) refl refl (λ n. ap (λ (b : Bool). pick b (Most n) Absent) e) (λ bs. refl)
 
-  module _ (h : isWord (v .kind) ≡ true) where
-    pub limit-long : (v .second ≡ 0 → ⊥) → limitIn (contentOf s v) ≡ Absent
-    unfolding contentOf
-    limit-long k = rw (word-not-part (v .kind) h, h, ne-eqb _ _ k)
+  limit-from : (b z : Bool) (n : Number) → n ≡ pick b (pick z (IsNumber (intOf (v .first))) NoNumber) NoNumber
+      → numberIn (numberCell n) ≡ pick b (pick z (v .first) 0) 0 → limitFrom n ≡ pick b (pick z (Most (v .first)) Absent) Absent
+  unfolding numberIn
+  limit-from true true n e q = ap limitFrom e ∙ ap Most (sym (ap (λ (m : Number). numberIn (numberCell m)) e) ∙ q)
+  limit-from true false n e q = ap limitFrom e
+  limit-from false z n e q = ap limitFrom e
 
-    pub limit-is : v .second ≡ 0 → v .first < 18446744073709551616 → limitIn (contentOf s v) ≡ Most (v .first)
-    unfolding contentOf
-    limit-is k l = rw (word-not-part (v .kind) h, h, eq-eqb _ _ k, lt-ltb _ _ l)
+  -- the limit of a cell, by the number that it stands for
+  pub limit-is : (n : Number) (l : Limit) → n ≡ members.numberOf v → numberIn (numberCell n) ≡ numberIn v → numberIn (numberCell n) < 18446744073709551616
+      → limitFrom n ≡ l → limitIn (contentOf s v) ≡ l
+  unfolding members.numberOf numberIn
+  limit-is n l e q h k =
+      let b : Bool = eqb (v .kind) 2 in
+      let z : Bool = eqb (v .second) 0 in
+      limit-by b z refl refl (subst (λ (m : ℕ). m < 18446744073709551616) q h) ∙ sym (limit-from b z n e q) ∙ k
+
+-- a limit that is given, as it is answered
+pub limit-some : (n : Number) (z : ℤ) (w : ℕ) → n ≡ IsNumber z → numberIn (numberCell n) ≡ w → w < 2 ^ 64
+    → (limitFrom n ≡ Most w) × (numberIn (numberCell n) < 18446744073709551616)
+unfolding numberIn
+limit-some n z w e q h =
+    (ap limitFrom e ∙ ap Most (sym (ap (λ (m : Number). numberIn (numberCell m)) e) ∙ q), subst (λ (m : ℕ). m < 18446744073709551616) (sym q) h)
 
 -- ---- the figures
 
-pub figures-is : (rows : Rows) (v3 v5 v6 v7 v8 : Cell) (kind targets sources : ℕ) (total each : Limit)
-    → v3 ≡ rowCell rows 0 3 → v5 ≡ rowCell rows 0 5 → v6 ≡ rowCell rows 0 6
-    → v7 ≡ rowCell rows 0 7 → v8 ≡ rowCell rows 0 8
-    → ((s : List ℕ) → numberOf (contentOf s v3) ≡ kind) → ((s : List ℕ) → numberOf (contentOf s v5) ≡ targets)
-    → ((s : List ℕ) → numberOf (contentOf s v6) ≡ sources)
-    → ((s : List ℕ) → limitIn (contentOf s v7) ≡ total) → ((s : List ℕ) → limitIn (contentOf s v8) ≡ each)
-    → (s : List ℕ) → figuresIn (firstOf s rows) ≡ record { kind = kind; targets = targets; sources = sources; total = total; each = each }
-unfolding contentsOf cellsFrom rowCell
-figures-is rows v3 v5 v6 v7 v8 kind targets sources total each e3 e5 e6 e7 e8 a b c d e s =
-    rw (
-      ap (λ (v : Cell). numberOf (contentOf s v)) (sym e3) ∙ a s,
-      ap (λ (v : Cell). numberOf (contentOf s v)) (sym e5) ∙ b s,
-      ap (λ (v : Cell). numberOf (contentOf s v)) (sym e6) ∙ c s,
-      ap (λ (v : Cell). limitIn (contentOf s v)) (sym e7) ∙ d s,
-      ap (λ (v : Cell). limitIn (contentOf s v)) (sym e8) ∙ e s,
-    )
+module _ (rows : Rows) where
+  abbrev row : List ℕ
+  row = getD rows 0 []
 
-pub mode-is : (rows : Rows) (v : Cell) (mode : ℕ) → v ≡ rowCell rows 0 4 → ((s : List ℕ) → numberOf (contentOf s v) ≡ mode)
-    → (s : List ℕ) → modeIn (firstOf s rows) ≡ mode
+  pub figures-is : (x : Matrix) → x ≡ matrixOf row → MatrixWords row x
+      → (kind targets sources : ℕ) (total each : Limit)
+      → numberIn (numberCell (x .«matrix_type»)) ≡ kind → kind < 2 ^ 64
+      → numberIn (numberCell (x .targets)) ≡ targets → targets < 2 ^ 64
+      → numberIn (numberCell (x .sources)) ≡ sources → sources < 2 ^ 64
+      → limitFrom (x .«total_limit») ≡ total → numberIn (numberCell (x .«total_limit»)) < 18446744073709551616
+      → limitFrom (x .«target_limit») ≡ each → numberIn (numberCell (x .«target_limit»)) < 18446744073709551616
+      → (s : List ℕ) → figuresIn (firstOf s rows) ≡ record { kind = kind; targets = targets; sources = sources; total = total; each = each }
+  unfolding contentsOf cellsFrom cellIn matrixOf
+  figures-is x e w kind targets sources total each a a′ b b′ c c′ d d′ f f′ s =
+      rw (
+        number-is s (cellIn row 3) _ kind (w .«matrix_type») a a′,
+        number-is s (cellIn row 5) _ targets (w .targets) b b′,
+        number-is s (cellIn row 6) _ sources (w .sources) c c′,
+        limit-is s (cellIn row 7) (x .«total_limit») total (ap (λ (y : Matrix). y .«total_limit») e) (w .«total_limit») d′ d,
+        limit-is s (cellIn row 8) (x .«target_limit») each (ap (λ (y : Matrix). y .«target_limit») e) (w .«target_limit») f′ f,
+      )
+
+pub mode-is : (rows : Rows) (v : Cell) (mode : ℕ) → v ≡ rowCell rows 0 4 → numberIn v ≡ mode → mode < 2 ^ 64 → (s : List ℕ) → modeIn (firstOf s rows) ≡ mode
 unfolding contentsOf cellsFrom rowCell
-mode-is rows v mode e a s = ap (λ (x : Cell). numberOf (contentOf s x)) (sym e) ∙ a s
+mode-is rows v mode e a h s = ap (λ (x : Cell). numberOf (contentOf s x)) (sym e) ∙ number-is s v _ mode refl a h
 
 -- the path's member
 pub first-member : (s : List ℕ) (rows : Rows) → memberOf (firstOf s rows) 0 ≡ contentOf s (rowCell rows 0 0)

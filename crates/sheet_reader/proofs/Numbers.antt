@@ -7,10 +7,10 @@ use borrow.Author.Tests.{eq-eqb, ne-eqb}
 use lib.ListN.{length, take, drop, getD, set, drop-of-length-le, length-append, length-drop}
 use lib.Seq.{drop-cons, take-suc, take-suc-set, append-snoc, set-at, length-take-le, take-length}
 use Rattle.glow_rows.specs.declared.Cell.{Cell}
+use Rattle.glow_rows.specs.Cell.{octetsIn}
 use Rattle.glow_trees.specs.Content.{contentOf}
-use Rattle.ber_identifiers.specs.Identifier.{arcsFrom}
-use Rattle.desk_connections.specs.Connections.{octetsOf, numbersIn}
-use Rattle.desk_connections.proofs.Items.{part-is}
+use Rattle.glow_paths.specs.Paths.{octetsOf, numbersIn}
+use Rattle.glow_paths.proofs.Items.{octets-content}
 use Rattle.sheet_rules.specs.Reading.{firstRefused}
 use Rattle.sheet_reader.specs.Steps.{Taken}
 
@@ -40,13 +40,9 @@ module _ (ns list xs : List ℕ) (k : ℕ) (room : length list ≡ 16) (so : tak
         record { all = λ z. absurd (omega arith); more = λ z. omega arith }
 
 -- the numbers of a member
-pub path-none : (bs list : List ℕ) → bs ≡ [] → Taken (numbersIn bs) 0 list
-unfolding numbersIn arcsFrom
-path-none bs list e = record { all = λ h. rw e; more = λ h. absurd (omega arith) }
-
-pub path-is : (s : List ℕ) (v : Cell) (start len r : ℕ) (list : List ℕ) → v .kind ≡ 13 → v .first + v .second ≤ length s → start ≡ v .first → len ≡ v .second
-    → Taken (numbersIn (take (start + len - start) (drop start s))) r list → Taken (numbersIn (octetsOf (contentOf s v))) r list
-path-is s v start len r list h k a b t = subst (λ (bs : List ℕ). Taken (numbersIn bs) r list) (part-is s v start len h k a b) t
+pub path-is : (s : List ℕ) (v : Cell) (bs : List ℕ) (r : ℕ) (list : List ℕ) → bs ≡ octetsIn s v → Taken (numbersIn bs) r list
+    → Taken (numbersIn (octetsOf (contentOf s v))) r list
+path-is s v bs r list e t = subst (λ (l : List ℕ). Taken (numbersIn l) r list) (e ∙ sym (octets-content s v)) t
 
 -- ---- the first refusal
 

@@ -10,6 +10,11 @@ use Rattle.glow_rows.specs.Entry.{Rows}
 use Rattle.glow_grammar.specs.Grammar.{qualifiedMatrix}
 use Rattle.glow_trees.specs.Content.{Item, itemOf}
 use Rattle.glow_trees.specs.Rows.{entryOf}
+use Rattle.glow_rows.specs.Cell.{wordOf}
+use Rattle.glow_entries.specs.declared.Number.{Number}
+use Rattle.glow_entries.specs.declared.Number.the-variants.{Absent as NoNumber, Is as IsNumber}
+use Rattle.desk_crosspoints.specs.declared.Limit.{Limit}
+use Rattle.desk_crosspoints.specs.declared.Limit.the-variants.{Absent, Most}
 use Rattle.desk_crosspoints.specs.declared.Figures.{Figures}
 use Rattle.desk_crosspoints.specs.Figures.{both}
 use Rattle.desk_crosspoints.specs.Crosspoints.{Cells}
@@ -22,6 +27,11 @@ use Rattle.sheet_reader.specs.Calls.{leaves, told}
 -- the entry in the first row
 abbrev pub firstOf : List ℕ → Rows → Item
 firstOf s rows = itemOf s (entryOf (getD rows 0 []))
+
+-- the limit that a number gives
+abbrev pub limitFrom : Number → Limit
+limitFrom NoNumber = Absent
+limitFrom (IsNumber z) = Most (wordOf z)
 
 -- one qualified matrix, and connections alone
 abbrev pub isSheet : List Item → Bool

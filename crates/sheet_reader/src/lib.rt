@@ -2,22 +2,28 @@
 use desk_crosspoints::Figures;
 use desk_crosspoints::Limit;
 use desk_crosspoints::SIDE;
+use glow_entries::Number;
 use glow_reader::Answer;
 use glow_rows::Cell;
+use glow_rows::KIND;
+use glow_rows::kinds;
+use glow_rows::places;
 use sheet_stream::Found;
 ghost use mathlib.Core.Path.{_≡_};
 ghost use mathlib.Core.Bool.{true};
 ghost use mathlib.Core.List.{List, _++_};
-ghost use Prim.Native.Nat.{ℕ, _≤_};
+ghost use Prim.Native.Nat.{ℕ, _≤_, _<_};
 ghost use lib.ListN.{length, drop};
-ghost use Rattle.glow_trees.specs.Content.{contentOf, isWord};
+ghost use Rattle.glow_rows.specs.Cell.{numberIn};
+ghost use Rattle.glow_trees.specs.Content.{contentOf};
+ghost use Rattle.glow_entries.specs.Member.{numberCell};
 ghost use Rattle.glow_trees.specs.Rows.{itemsIn};
 ghost use Rattle.glow_sizes.specs.Accepted.{accepted};
 ghost use Rattle.desk_crosspoints.specs.Figures.{mostCells, sizeOf};
-ghost use Rattle.desk_connections.specs.Connections.{octetsOf, numbersIn};
-ghost use Rattle.sheet_rules.specs.Reading.{firstRefused, limitIn, figuresIn, opens, ofEntries, ofMessage};
+ghost use Rattle.glow_paths.specs.Paths.{octetsOf, numbersIn};
+ghost use Rattle.sheet_rules.specs.Reading.{firstRefused, figuresIn, opens, ofEntries, ofMessage};
 ghost use Rattle.sheet_reader.specs.Calls.{sheetRead, told};
-ghost use Rattle.sheet_reader.specs.Steps.{firstOf, isSheet, Taken, sheetBy, Tells};
+ghost use Rattle.sheet_reader.specs.Steps.{firstOf, limitFrom, isSheet, Taken, sheetBy, Tells};
 
 // As many cells as the largest desk has.
 pub const MOST: usize = SIDE * SIDE;
@@ -29,56 +35,35 @@ pub enum Sheet {
     Read { figures: Figures, length: usize },
 }
 
-fn wide(x: usize) -> u64
-    ensures { λ r. ⌜ r ≡ x ⌝ }
+// The limit that a number gives.
+fn limit_of(n: Number) -> Limit
+    ensures { λ r. ⌜ limitFrom n ≡ r ⌝ }
+    ensures { λ _. ⌜ numberIn (numberCell n) < 18446744073709551616 ⌝ }
 {
-    x as u64
+    let w = glow_entries::number_word(n);
+    match n {
+        Number::Absent => Limit::Absent,
+        Number::Is(_) => Limit::Most(w),
+    }
 }
 
-fn index(x: u64) -> usize
-    ensures { λ r. ⌜ r ≡ x ⌝ }
-{
-    x as usize
-}
-
-fn is_word(kind: u64) -> bool
-    ensures { λ r. ⌜ isWord kind ≡ r ⌝ }
-{
-    if kind == 1 {
-        return true;
-    }
-    if kind == 2 {
-        return true;
-    }
-    kind == 9
-}
-
-// The limit that a member gives.
-fn limit_of(v: Cell) -> Limit
-    ensures { λ r. ⌜ ((s : List ℕ) → limitIn (contentOf s v) ≡ r) ⌝ }
-{
-    if !is_word(v.kind) {
-        return Limit::Absent;
-    }
-    if v.second != 0 {
-        return Limit::Absent;
-    }
-    Limit::Most(v.first)
-}
-
-// The figures of the entry in the first row: "type 2, .. targets 4, sources 5, total limit 6, limit per target 7".
+// The figures of the matrix in the first row: type, targets, sources, and limits where given.
 fn figures_of(rows: &[[u64; 50]]) -> Figures
+    requires { ⌜ 0 < length (now rows) ⌝ }
     ensures { λ r. ⌜ ((s : List ℕ) → figuresIn (firstOf s (now (rows .entry))) ≡ r) ⌝ }
 {
-    let kind = desk_connections::number_of(glow_sizes::cell_at(rows, 0, 3));
-    let targets = desk_connections::number_of(glow_sizes::cell_at(rows, 0, 5));
-    let sources = desk_connections::number_of(glow_sizes::cell_at(rows, 0, 6));
-    let total = limit_of(glow_sizes::cell_at(rows, 0, 7));
-    let each = limit_of(glow_sizes::cell_at(rows, 0, 8));
+    let e = glow_entries::matrix_at(&rows[0]);
+    let matrix_type = e.matrix_type;
+    let targets = e.targets;
+    let sources = e.sources;
+    let total_limit = e.total_limit;
+    let target_limit = e.target_limit;
+    let total = limit_of(total_limit);
+    let each = limit_of(target_limit);
     Figures {
-        kind,
-        targets,
-        sources,
+        kind: glow_entries::number_word(matrix_type),
+        targets: glow_entries::number_word(targets),
+        sources: glow_entries::number_word(sources),
         total,
         each,
     }
@@ -92,12 +77,12 @@ fn is_sheet(rows: &[[u64; 50]], count: usize) -> bool
     if count == 0 {
         return false;
     }
-    if rows[0][0] != 7 {
+    if rows[0][KIND] != kinds::QUALIFIED_MATRIX {
         return false;
     }
     let mut i: usize = 1;
     while i < count {
-        if rows[i][0] != 8 {
+        if rows[i][KIND] != kinds::CONNECTION {
             return false;
         }
         i += 1;
@@ -110,11 +95,11 @@ fn numbers_of(octets: &[u8], list: &mut [u64]) -> usize
     requires { ⌜ length (now list) ≡ 16 ⌝ }
     ensures { λ r. ⌜ Taken (numbersIn (now (octets .entry))) r (now (list .exit)) ⌝ }
 {
-    let end = desk_connections::list_end(octets);
+    let end = glow_paths::list_end(octets);
     let mut p: usize = 0;
     let mut k: usize = 0;
     while p < end {
-        let x = desk_connections::next_number(octets, p, end);
+        let x = glow_paths::next_number(octets, p, end);
         if 16 <= k {
             return 17;
         }
@@ -130,18 +115,9 @@ fn path_of(s: &[u8], v: Cell, list: &mut [u64]) -> usize
     requires { ⌜ length (now list) ≡ 16 ⌝ }
     ensures { λ r. ⌜ Taken (numbersIn (octetsOf (contentOf (now (s .entry)) v))) r (now (list .exit)) ⌝ }
 {
-    if v.kind != 13 {
-        return 0;
-    }
-    let total = wide(s.len());
-    if total < v.second {
-        return 0;
-    }
-    if total - v.second < v.first {
-        return 0;
-    }
-    let start = index(v.first);
-    let end = start + index(v.second);
+    let span = glow_rows::span_of(s, v);
+    let start = span.start;
+    let end = span.end;
     numbers_of(&s[start..end], list)
 }
 
@@ -282,12 +258,12 @@ fn of_entries(
         return Sheet::Refused { number: 33 };
     }
     let mut numbers = [0u64; 16];
-    let n = path_of(s, glow_sizes::cell_at(rows, 0, 0), &mut numbers);
+    let n = path_of(s, glow_rows::cell_at(rows, 0, places::KEY), &mut numbers);
     if 16 < n {
         return Sheet::Refused { number: 45 };
     }
     let f = figures_of(rows);
-    let mode = desk_connections::number_of(glow_sizes::cell_at(rows, 0, 4));
+    let mode = glow_rows::number_of(glow_rows::cell_at(rows, 0, places::MODE));
     let size = desk_crosspoints::size(f);
     let mut cells = [0u8; MOST];
     of_desk(

@@ -24,7 +24,8 @@ use Rattle.desk_crosspoints.proofs.Laws.{both-left, both-right, fit-targets-le,
 use Rattle.desk_crosspoints.proofs.Legal.{legal-fit}
 use Rattle.desk_crosspoints.proofs.Counts.{clear-length}
 use Rattle.desk_crosspoints.proofs.Under.{take-short}
-use Rattle.desk_connections.specs.Connections.{listOf, numbersIn, octetsOf, isQualified, memberOf, pathUp, fullPath, Ask, ask, askOf, asksIn, asksOf, same}
+use Rattle.glow_paths.specs.Paths.{listOf, numbersIn, octetsOf, isQualified, memberOf, pathUp, fullPath, same}
+use Rattle.desk_connections.specs.Connections.{Ask, ask, askOf, asksIn, asksOf}
 use Rattle.desk_calls.specs.Calls.{answered, Served, served, handled}
 use Rattle.sheet_rules.specs.Sheet.{sourcesFrom, sourcesAt, list, limit, leftOut, matrixMembers, links, sheetTree}
 use Rattle.sheet_rules.specs.Reading.{read, firstRefused, applied, begun, emptyDesk, opens, limitIn, figuresIn, pathIn, allLinks, ofEntries}

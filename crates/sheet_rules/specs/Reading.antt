@@ -21,7 +21,9 @@ use Rattle.desk_crosspoints.specs.declared.Figures.{Figures}
 use Rattle.desk_crosspoints.specs.Figures.{both, cellsOf}
 use Rattle.desk_crosspoints.specs.Crosspoints.{clear}
 use Rattle.desk_crosspoints.specs.Desk.{Desk, deskAt, withCells, Answer, deskOpened}
-use Rattle.desk_connections.specs.Connections.{numberOf, octetsOf, numbersIn, memberOf}
+use Rattle.glow_rows.specs.Cell.{integer}
+use Rattle.glow_rows.specs.Place as place
+use Rattle.glow_paths.specs.Paths.{numberOf, octetsOf, numbersIn, memberOf}
 use Rattle.desk_calls.specs.Calls.{Served, handled}
 use Rattle.sheet_rules.specs.Lines.{Stream, bad, stream, linesIn}
 
@@ -57,25 +59,25 @@ opens f path mode es = begun (emptyDesk f path) es (deskOpened (emptyDesk f path
 -- Limits "kept as given"; "(a missing count: 45)", since 0 is no count; no type is 1:N, 0 (001).
 abbrev pub limitIn : Content → Limit
 limitIn nothing = Absent
-limitIn (word kind n) = Most n
+limitIn (word kind n) = pick (eqb kind integer) (Most n) Absent
 limitIn (bytes kind bs) = Absent
 limitIn wrong = Absent
 
--- "Matrix: type 2, mode 3, targets 4, sources 5, total limit 6, limit per target 7": cell 0 is the path, and the contents' member n is cell n + 1
+-- the matrix's members, each in its cell
 abbrev pub figuresIn : Item → Figures
 figuresIn e = record {
-  kind = numberOf (memberOf e 3);
-  targets = numberOf (memberOf e 5);
-  sources = numberOf (memberOf e 6);
-  total = limitIn (memberOf e 7);
-  each = limitIn (memberOf e 8);
+  kind = numberOf (memberOf e place.matrixType);
+  targets = numberOf (memberOf e place.targets);
+  sources = numberOf (memberOf e place.sources);
+  total = limitIn (memberOf e place.totalLimit);
+  each = limitIn (memberOf e place.targetLimit);
 }
 
 abbrev pub modeIn : Item → ℕ
-modeIn e = numberOf (memberOf e 4)
+modeIn e = numberOf (memberOf e place.mode)
 
 abbrev pub pathIn : Item → List ℕ
-pathIn e = numbersIn (octetsOf (memberOf e 0))
+pathIn e = numbersIn (octetsOf (memberOf e place.key))
 
 -- ---- "33 unless it is one qualified matrix and its connections alone"
 

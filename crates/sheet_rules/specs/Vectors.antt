@@ -26,7 +26,8 @@ use Rattle.desk_crosspoints.specs.Crosspoints.{bit, allBits, clear, rowAt, with
 use Rattle.desk_crosspoints.specs.Desk.{Desk, deskAt, pathFits, allNumbers, deskOpened}
 use Rattle.desk_requests.specs.Request.{marked, named, allBelow, replaces, becomes, takes, others, rowAfter, result, many, overTotal}
 use Rattle.desk_requests.specs.Request.{firstOf, checks, judged, asked, requested}
-use Rattle.desk_connections.specs.Connections.{numbersIn, isQualified, pathUp, askOf, asksIn, same}
+use Rattle.glow_paths.specs.Paths.{numbersIn, isQualified, pathUp, same}
+use Rattle.desk_connections.specs.Connections.{askOf, asksIn}
 use Rattle.desk_calls.specs.Calls.{answered, served, handled}
 use Rattle.sheet_rules.specs.Sheet.{sourcesFrom, leftOut, links, sheetTree, sheetMessage, hexText, packetLines}
 use Rattle.sheet_rules.specs.Lines.{digitOf, bad, stream, linesFrom, linesIn}

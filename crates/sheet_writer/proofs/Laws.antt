@@ -12,15 +12,14 @@ use lib.Dec.{eqb}
 use Rattle.ber_integers.specs.Digits.{pick}
 use Rattle.glow_rows.specs.declared.Cell.{Cell}
 use Rattle.glow_rows.specs.Cell.{absent, numbersCell}
-use Rattle.glow_rows.specs.Entry.{blanks, words, row, Rows}
+use Rattle.glow_rows.specs.Entry.{row, Rows}
 use Rattle.framing_packets.specs.Stores.{wrote}
 use Rattle.framing_packets.specs.Stores as stores
 use Rattle.framing_packets.proofs.Laws.{wrote-none}
-use Rattle.desk_crosspoints.specs.declared.Figures.{Figures}
 use Rattle.desk_crosspoints.specs.Crosspoints.{Cells, rowAt}
 use Rattle.desk_crosspoints.proofs.Under.{take-short}
 use Rattle.sheet_rules.specs.Sheet.{sourcesFrom}
-use Rattle.sheet_writer.specs.Steps.{oneSource, numberCell, limitCell, listCell, matrixEntry, linkEntry, Filled, filled, sourcesIn, withLink, withLinks}
+use Rattle.sheet_writer.specs.Steps.{oneSource, listCell, linkEntry, Filled, filled, sourcesIn, withLink, withLinks}
 
 -- ---- sources
 
@@ -59,18 +58,6 @@ module _ (start len : ℕ) where
   pub list-some : (len ≡ 0 → ⊥) → listCell start len ≡ numbersCell start len
   unfolding listCell
   list-some e = simp (ne-eqb _ _ e)
-
--- ---- rows
-
--- the words of the matrix's row, with the cells of its limits as they are given
-abbrev pub matrixWords : Figures → ℕ → Cell → Cell → List ℕ
-matrixWords f n total each =
-    7 ∷ 0 ∷ words
-    (numbersCell 0 n ∷ absent ∷ absent ∷ numberCell (f .kind) ∷ absent ∷ numberCell (f .targets) ∷ numberCell (f .sources) ∷ total ∷ each ∷ blanks 7)
-
-pub matrix-put : (f : Figures) (n : ℕ) (total each : Cell) → limitCell (f .total) ≡ total → limitCell (f .each) ≡ each
-    → matrixWords f n total each ≡ row (matrixEntry f n)
-matrix-put f n total each p q = ap (λ (x : Cell). matrixWords f n x each) (sym p) ∙ ap (matrixWords f n (limitCell (f .total))) (sym q)
 
 -- ---- connections
 

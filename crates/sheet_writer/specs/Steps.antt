@@ -5,15 +5,11 @@ use lib.ListN.{length, set}
 use lib.Seq.{sets}
 use lib.Dec.{eqb}
 use Rattle.ber_integers.specs.Digits.{pick}
-use Rattle.glow_rows.specs.declared.Cell.{Cell}
-use Rattle.glow_rows.specs.Cell.{cell, absent, numbersCell}
-use Rattle.glow_rows.specs.Entry.{Entry, blanks, row, Rows}
-use Rattle.glow_grammar.specs.Grammar.{qualifiedMatrix, connection}
+use Rattle.glow_rows.specs.Entry.{row, Rows}
+pub use Rattle.desk_rows.specs.Rows.{numberCell, limitCell, matrixEntry, linkEntry}
+unfoldable pub use Rattle.desk_rows.specs.Rows.{listCell}
 use Rattle.framing_packets.specs.declared.Written.{Written}
 use Rattle.framing_packets.specs.declared.Written.the-variants as written
-use Rattle.desk_crosspoints.specs.declared.Limit.{Limit}
-use Rattle.desk_crosspoints.specs.declared.Limit.the-variants.{Absent, Most}
-use Rattle.desk_crosspoints.specs.declared.Figures.{Figures}
 use Rattle.desk_crosspoints.specs.Figures.{side}
 use Rattle.desk_crosspoints.specs.Crosspoints.{Cells, rowAt}
 use Rattle.sheet_rules.specs.Sheet.{sourcesFrom}
@@ -33,29 +29,6 @@ mostOctets = mostPath + side * side
 -- a source by its cell: an octet where it is connected
 abbrev pub oneSource : ℕ → ℕ → List ℕ
 oneSource s c = pick (eqb c 0) [] (s ∷ [])
-
--- cells of numbers, of limits where given, of sources where there are any
-abbrev pub numberCell : ℕ → Cell
-numberCell n = cell 2 n 0
-
-abbrev pub limitCell : Limit → Cell
-limitCell Absent = absent
-limitCell (Most n) = numberCell n
-
-unfoldable pub listCell : ℕ → ℕ → Cell
-listCell start len = pick (eqb len 0) absent (numbersCell start len)
-
--- the matrix, with the octets of its path first of all, and a connection
-abbrev pub matrixEntry : Figures → ℕ → Entry
-matrixEntry f n = record {
-  kind = qualifiedMatrix;
-  parent = 0;
-  cells = numbersCell 0 n ∷ absent ∷ absent ∷ numberCell (f .kind) ∷ absent ∷ numberCell (f .targets) ∷ numberCell (f .sources)
-      ∷ limitCell (f .total) ∷ limitCell (f .each) ∷ blanks 7;
-}
-
-abbrev pub linkEntry : ℕ → Cell → Entry
-linkEntry target sources = record { kind = connection; parent = 1; cells = numberCell target ∷ sources ∷ blanks 14 }
 
 -- The rows and the octets so far, and the place of the next octet.
 pub record Filled : Type 0 where

@@ -1,16 +1,13 @@
 // The route sheet writer: a legal desk's sheet, into a lent output.
 use ber_integers::Wrote;
 use desk_crosspoints::Figures;
-use desk_crosspoints::Limit;
 use desk_crosspoints::SIDE;
 use framing_writer::Written;
-use glow_rows::Cell;
 ghost use mathlib.Core.Path.{_≡_};
 ghost use mathlib.Core.Bool.{true};
 ghost use mathlib.Core.List.{[], _∷_};
 ghost use Prim.Native.Nat.{_+_, _*_, _≤_, _<_};
 ghost use lib.ListN.{length, take};
-ghost use Rattle.glow_rows.specs.Entry.{row};
 ghost use Rattle.glow_trees.specs.Rows.{itemsIn};
 ghost use Rattle.glow_trees.specs.Trees.{flat};
 ghost use Rattle.framing_packets.specs.Written.{inPackets};
@@ -20,7 +17,7 @@ ghost use Rattle.desk_crosspoints.specs.Figures.{side};
 ghost use Rattle.desk_crosspoints.specs.Desk.{deskAt, deskLegal};
 ghost use Rattle.sheet_rules.specs.Sheet.{sourcesFrom, sheetTree, sheetMessage};
 ghost use Rattle.sheet_writer.specs.Calls.{told, writesSheet};
-ghost use Rattle.sheet_writer.specs.Steps.{mostRows, mostPath, mostOctets, oneSource, limitCell, listCell, matrixEntry, linkEntry};
+ghost use Rattle.sheet_writer.specs.Steps.{mostRows, mostPath, mostOctets, oneSource};
 ghost use Rattle.sheet_writer.specs.Steps.{filled, withLink, withLinks, said};
 
 // The matrix, and a connection for each target.
@@ -94,84 +91,6 @@ fn put_sources(cells: &[u8], octets: &mut [u8], at: usize) -> usize
     next
 }
 
-// A limit, where given.
-fn limit_cell(l: Limit) -> Cell
-    ensures { λ r. ⌜ limitCell l ≡ r ⌝ }
-{
-    match l {
-        Limit::Absent => Cell {
-            kind: 0,
-            first: 0,
-            second: 0,
-        },
-        Limit::Most(n) => Cell {
-            kind: 2,
-            first: n,
-            second: 0,
-        },
-    }
-}
-
-// Sources by their place among the octets: an empty list is left out.
-fn list_cell(start: u64, len: u64) -> Cell
-    ensures { λ r. ⌜ listCell start len ≡ r ⌝ }
-{
-    if len == 0 {
-        return Cell {
-            kind: 0,
-            first: 0,
-            second: 0,
-        };
-    }
-    Cell {
-        kind: 13,
-        first: start,
-        second: len,
-    }
-}
-
-// The qualified matrix: its path, the first `len` octets; type, targets, sources and limits.
-fn matrix_row(f: Figures, len: u64) -> [u64; 50]
-    ensures { λ r. ⌜ r ≡ row (matrixEntry f len) ⌝ }
-{
-    let most = f.total;
-    let most_each = f.each;
-    let total = limit_cell(most);
-    let each = limit_cell(most_each);
-    let mut row = [0; 50];
-    row[0] = 7;
-    row[2] = 13;
-    row[4] = len;
-    row[11] = 2;
-    row[12] = f.kind;
-    row[17] = 2;
-    row[18] = f.targets;
-    row[20] = 2;
-    row[21] = f.sources;
-    row[23] = total.kind;
-    row[24] = total.first;
-    row[25] = total.second;
-    row[26] = each.kind;
-    row[27] = each.first;
-    row[28] = each.second;
-    row
-}
-
-// A connection: target and sources; no operation.
-fn link_row(target: u64, sources: Cell) -> [u64; 50]
-    ensures { λ r. ⌜ r ≡ row (linkEntry target sources) ⌝ }
-{
-    let mut row = [0; 50];
-    row[0] = 8;
-    row[1] = 1;
-    row[2] = 2;
-    row[3] = target;
-    row[5] = sources.kind;
-    row[6] = sources.first;
-    row[7] = sources.second;
-    row
-}
-
 // The connection of a target in rows of w cells, and the place after its sources.
 fn put_link(
     cells: &[u8],
@@ -190,7 +109,7 @@ fn put_link(
     let from = t * w;
     let to = from + w;
     let next = put_sources(&cells[from..to], octets, at);
-    rows[t + 1] = link_row(wide(t), list_cell(wide(at), wide(next - at)));
+    rows[t + 1] = desk_rows::link_row(wide(t), desk_rows::list_of(wide(at), wide(next - at)));
     next
 }
 
@@ -242,7 +161,7 @@ fn put_entries(
     let targets = index(f.targets);
     let sources = index(f.sources);
     let end = end_of(ber_identifiers::write_oid(path, octets, 0));
-    rows[0] = matrix_row(f, wide(end));
+    rows[0] = desk_rows::matrix_row(f, wide(end));
     put_links(cells, sources, targets, rows, octets, end);
     targets + 1
 }

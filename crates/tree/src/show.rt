@@ -1,7 +1,11 @@
 // Answers: the first line, and a line for each entry.
+use crate::entry;
 use crate::names;
-use crate::value;
 use glow_reader::Answer;
+use glow_rows::KIND;
+use glow_rows::PARENT;
+use glow_rows::kinds;
+use glow_rows::word_at;
 use program_lines::print;
 
 fn word(x: usize) -> u64 {
@@ -10,16 +14,6 @@ fn word(x: usize) -> u64 {
 
 fn space() {
     print::say(b" ");
-}
-
-// The word j of the row i, or 0 where there is none.
-fn at(table: &[[u64; 50]], i: usize, j: usize) -> u64 {
-    if i < table.len() {
-        if j < 50 {
-            return table[i][j];
-        }
-    }
-    0
 }
 
 // The parent's place; a row has it and 1.
@@ -31,43 +25,40 @@ fn parent(x: u64) {
     print::decimal(x - 1);
 }
 
-// The member that cell c of the row i keeps, if it is present.
-fn member(s: &[u8], table: &[[u64; 50]], i: usize, c: usize) {
-    if 16 <= c {
-        return;
+// The entry of a row, by the struct of its kind.
+fn of_kind(s: &[u8], row: &[u64; 50]) {
+    match row[KIND] {
+        kinds::PARAMETER => entry::parameter(s, row),
+        kinds::QUALIFIED_PARAMETER => entry::parameter(s, row),
+        kinds::NODE => entry::node(s, row),
+        kinds::QUALIFIED_NODE => entry::node(s, row),
+        kinds::MATRIX => entry::matrix(s, row),
+        kinds::QUALIFIED_MATRIX => entry::matrix(s, row),
+        kinds::COMMAND => entry::command(row),
+        kinds::CONNECTION => entry::connection(s, row),
+        kinds::STREAM_ENTRY => entry::stream(s, row),
+        _ => print::say(b" ?"),
     }
-    let j = 2 + c * 3;
-    let tag = at(table, i, j);
-    if tag == 0 {
-        return;
-    }
-    let kind = at(table, i, 0);
-    names::member(kind, word(c));
-    if names::is_any(kind, word(c)) {
-        names::tag(tag);
-    }
-    value::show(s, tag, at(table, i, j + 1), at(table, i, j + 2));
 }
 
 // The line of the entry i.
-fn entry(s: &[u8], table: &[[u64; 50]], i: usize) {
+fn line(s: &[u8], table: &[[u64; 50]], i: usize) {
+    if table.len() <= i {
+        return;
+    }
     print::decimal(word(i));
     space();
-    parent(at(table, i, 1));
+    parent(word_at(table, i, PARENT));
     space();
-    names::kind(at(table, i, 0));
-    let mut c: usize = 0;
-    while c < 16 {
-        member(s, table, i, c);
-        c = c + 1;
-    }
+    names::kind(word_at(table, i, KIND));
+    of_kind(s, &table[i]);
     print::end();
 }
 
 fn entries(s: &[u8], table: &[[u64; 50]], count: usize) {
     let mut i: usize = 0;
     while i < count {
-        entry(s, table, i);
+        line(s, table, i);
         i = i + 1;
     }
 }

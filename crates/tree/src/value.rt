@@ -1,22 +1,20 @@
-// What a cell keeps, as text.
+// What a member holds, as text.
 use ber_identifiers::Arc;
+use ber_values::Value;
+use glow_rows::tags;
 use program_lines::print;
 ghost use Prim.Native.Nat.{_≤_};
 
-fn place(x: u64) -> usize {
-    x as usize
-}
-
-fn flag(x: u64) {
-    if x == 0 {
-        print::say(b"false");
-    } else {
+pub(crate) fn flag(x: bool) {
+    if x {
         print::say(b"true");
+    } else {
+        print::say(b"false");
     }
 }
 
-// 64 bits in two's complement.
-fn integer(x: u64) {
+pub(crate) fn integer(z: i64) {
+    let x = glow_entries::int_word(z);
     if x < 0x8000_0000_0000_0000 {
         print::decimal(x);
         return;
@@ -26,7 +24,9 @@ fn integer(x: u64) {
 }
 
 // A double's 64 bits.
-fn real(bits: u64) {
+fn real(x: f64) {
+    let cell = glow_rows::cell_of(Value::Real(x));
+    let bits = cell.first;
     let mut room = [0u8; 8];
     let out: &mut [u8] = &mut room;
     ber_integers::write_octets(bits, 8, out, 0);
@@ -132,8 +132,8 @@ fn numbers(octets: &[u8]) {
 
 fn part(tag: u64, octets: &[u8]) {
     match tag {
-        4 => print::hex(octets),
-        12 => quoted(octets),
+        tags::OCTETS => print::hex(octets),
+        tags::TEXT => quoted(octets),
         _ => numbers(octets),
     }
 }
@@ -150,12 +150,37 @@ fn part_of(s: &[u8], tag: u64, start: usize, len: usize) {
     part(tag, &s[start..end]);
 }
 
-// A cell's value by its universal tag number.
-pub(crate) fn show(s: &[u8], tag: u64, first: u64, second: u64) {
-    match tag {
-        1 => flag(first),
-        2 => integer(first),
-        9 => real(first),
-        _ => part_of(s, tag, place(first), place(second)),
+pub(crate) fn text(s: &[u8], start: usize, len: usize) {
+    part_of(s, tags::TEXT, start, len);
+}
+
+pub(crate) fn list(s: &[u8], start: usize, len: usize) {
+    part_of(s, tags::NUMBERS, start, len);
+}
+
+// A value with its kind before it.
+pub(crate) fn any(s: &[u8], v: Value) {
+    match v {
+        Value::Absent => {}
+        Value::Int(z) => {
+            print::say(b"int:");
+            integer(z);
+        }
+        Value::Real(x) => {
+            print::say(b"real:");
+            real(x);
+        }
+        Value::Text { start, len } => {
+            print::say(b"text:");
+            text(s, start, len);
+        }
+        Value::Bool(b) => {
+            print::say(b"bool:");
+            flag(b);
+        }
+        Value::Octets { start, len } => {
+            print::say(b"octets:");
+            part_of(s, tags::OCTETS, start, len);
+        }
     }
 }

@@ -28,7 +28,8 @@ use Rattle.glow_trees.specs.Content.{Content, nothing as absent, word, bytes, I
 use Rattle.desk_crosspoints.specs.declared.Figures.{Figures}
 use Rattle.desk_crosspoints.specs.Crosspoints.{Cells}
 use Rattle.desk_crosspoints.specs.Desk.{Desk}
-use Rattle.desk_connections.specs.Connections.{numbersIn, isQualified, pathUp, askOf, asksIn, same}
+use Rattle.glow_paths.specs.Paths.{numbersIn, isQualified, pathUp, same}
+use Rattle.desk_connections.specs.Connections.{askOf, asksIn}
 use Rattle.desk_calls.specs.Calls.{answered, Served, served as servedIn, handled}
 use Rattle.turns.specs.Rules.{keep, treeOf, Then, nothing, refused, served, follows, Told, tells, after}
 

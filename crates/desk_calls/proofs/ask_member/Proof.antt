@@ -17,7 +17,7 @@ array-share-prefix-list c = search needs
 slice-aggregate-request-legal : tie.Need-slice-aggregate-request-legal
 slice-aggregate-request-legal c =
     let the-sources-of = c .before .before .sources-of in
-    sym (length-take-le _ (the-sources-of .last .1 .1 .1 .0) (omega (arith, the-sources-of .ensures .1, the-sources-of .kept .1 .1 .1 .0)))
+    sym (length-take-le _ (the-sources-of .last .1 .1 .0) (omega (arith, the-sources-of .ensures .1, the-sources-of .kept .1 .1 .0)))
 
 request-legal-requires : tie.Need-request-legal-requires
 request-legal-requires c κs = search needs

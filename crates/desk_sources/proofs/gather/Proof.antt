@@ -6,8 +6,8 @@ use Prim.Native.Nat.{ℕ, _-_}
 use lib.ListN.{length-set}
 use lib.ListN.{length, take}
 use Rattle.desk_sources.specs.Gathered.{Kept}
-use Rattle.desk_connections.specs.Connections.{numbersIn, Left}
-use Rattle.desk_connections.proofs.Numbers.{left-none}
+use Rattle.glow_paths.specs.Paths.{numbersIn, Left}
+use Rattle.glow_paths.proofs.Numbers.{left-none}
 use Rattle.desk_sources.proofs.Sources.{Alike, kept-none, kept-le, gather-more, gather-end, gather-out}
 use Rattle.desk_sources.proofs.gather.Statement.{statement}
 use Rattle.desk_sources.proofs.gather.Tie as tie

@@ -1,4 +1,4 @@
-use Rattle.desk_sources.proofs.Sources.{gather-none, handed-part}
+use Rattle.desk_sources.proofs.Sources.{gather-none}
 use Rattle.desk_crosspoints.specs.Crosspoints.{clear}
 use mathlib.Core.Path.{refl}
 use native.Mathlib.Omega.{arith}
@@ -17,25 +17,13 @@ returns-2 c =
     let the-index = c .before .index in
     (λ h. gather-none _ _ _ (omega (arith, the-index .ensures)), omega arith)
 
-part-of-requires : tie.Need-part-of-requires
-part-of-requires c κs = search needs
-
-sub-gather : tie.Need-sub-gather
-sub-gather c = search needs
-
-part-gather-start : tie.Need-part-gather-start
-part-gather-start c = search needs
-
-part-gather-end : tie.Need-part-gather-end
-part-gather-end c = search needs
-
 slice-aggregate-gather : tie.Need-slice-aggregate-gather
 slice-aggregate-gather c = search needs
 
 gather-requires : tie.Need-gather-requires
 unfolding clear
 gather-requires c κs =
-    let the-index = c .before .before .before .before .before .index in
+    let the-index = c .before .before .before .index in
     (omega (arith, the-index .ensures), (omega arith, refl))
 
 same-length : tie.Need-same-length
@@ -43,9 +31,8 @@ same-length c = search needs
 
 returns-3 : tie.Need-returns-3
 returns-3 c =
-    let the-part-of = c .before .before .before .before .before .before .before .part-of in
     let the-gather = c .before .before .before .gather in
-    (λ h. handed-part _ _ _ _ (the-part-of .ensures .0) (the-gather .ensures .0), omega (arith, the-gather .ensures .1))
+    (λ h. the-gather .ensures .0, omega (arith, the-gather .ensures .1))
 
 pub sources-of-spec : {M : Type 1} → statement M
 sources-of-spec =
@@ -54,10 +41,6 @@ sources-of-spec =
     returns
     index-requires
     returns-2
-    part-of-requires
-    sub-gather
-    part-gather-start
-    part-gather-end
     slice-aggregate-gather
     gather-requires
     same-length

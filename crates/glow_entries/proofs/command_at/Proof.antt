@@ -21,8 +21,8 @@ returns c =
     let int-at : toZ w64 (ofZ w64 (c .before .int-at .result)) ≡ c .before .int-at .result = search needs in
     rw (
       int-at,
-      c .number-at .ensures,
-      c .before .int-at .ensures,
+      c .number-at .ensures .0,
+      c .before .int-at .ensures .0,
       c .before .before .parent-at .ensures,
     )
 

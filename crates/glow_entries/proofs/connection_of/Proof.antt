@@ -16,13 +16,13 @@ is-same-requires c κs = search needs
 returns : tie.Need-returns
 unfolding connectionRead
 returns c =
-    told-is _ _ _ _ _ (c .before .before .before .before .connection-at .ensures) (c .before .before .before .connection-row .ensures)
+    told-is _ _ _ _ _ (c .before .before .before .before .connection-at .ensures .0) (c .before .before .before .connection-row .ensures)
     (c .before .is-same .ensures) (c .if1 .taken)
 
 returns-2 : tie.Need-returns-2
 unfolding connectionRead
 returns-2 c =
-    told-other _ _ _ _ _ (c .before .before .before .before .connection-at .ensures) (c .before .before .before .connection-row .ensures)
+    told-other _ _ _ _ _ (c .before .before .before .before .connection-at .ensures .0) (c .before .before .before .connection-row .ensures)
     (c .before .is-same .ensures) (c .if1 .left)
 
 pub connection-of-spec : {M : Type 1} → statement M

@@ -4,8 +4,9 @@ use mir.Val.{toZ, ofZ}
 use mir.Syntax.{w64}
 use Rattle.glow_rows.specs.Cell.{cell, wordOf}
 use Rattle.glow_rows.specs.Entry.{blanks}
-use Rattle.glow_entries.specs.Record.{connectionRow}
-use Rattle.glow_entries.proofs.Answers.{begun-is, put-cell}
+use Rattle.glow_rows.specs.Entry.{withCell}
+use Rattle.glow_entries.specs.Record.{filled, connectionRow}
+use Rattle.glow_entries.proofs.Answers.{begun-is, put-member}
 use borrow.Author.Needs.{needs}
 use Rattle.glow_entries.proofs.connection_row.Statement.{statement}
 use Rattle.glow_entries.proofs.connection_row.Tie as tie
@@ -19,26 +20,26 @@ begun-requires c κs = search needs
 cell-of-requires : tie.Need-cell-of-requires
 cell-of-requires c κs = search needs
 
-put-requires : tie.Need-put-requires
-put-requires c κs = search needs
+put-in-requires : tie.Need-put-in-requires
+put-in-requires c κs = search needs
 
 part-cell-requires : tie.Need-part-cell-requires
 part-cell-requires c κs = search needs
 
-put-requires-2 : tie.Need-put-requires-2
-put-requires-2 c κs = search needs
+put-in-requires-2 : tie.Need-put-in-requires-2
+put-in-requires-2 c κs = search needs
 
 number-cell-requires : tie.Need-number-cell-requires
 number-cell-requires c κs = search needs
 
-put-requires-3 : tie.Need-put-requires-3
-put-requires-3 c κs = search needs
+put-in-requires-3 : tie.Need-put-in-requires-3
+put-in-requires-3 c κs = search needs
 
 held : (s : tie.Start) → toZ w64 (ofZ w64 (s .args .e .target)) ≡ s .args .e .target
 held s = search needs
 
 returns : tie.Need-returns
-unfolding connectionRow blanks
+unfolding connectionRow filled withCell blanks
 returns c =
     let p2 = c .before .before .before in
     let p1 = p2 .before .before .before in
@@ -46,9 +47,9 @@ returns c =
     let r =
     begun-is refl
     (p1 .before .before .before .before .parent-word .ensures) (p1 .before .before .before .begun .ensures) in
-    let r = put-cell 0 tt r (p1 .before .cell-of .ensures ∙ i) (p1 .put .ensures) in
-    let r = put-cell 1 tt r (p2 .before .part-cell .ensures) (p2 .put2 .ensures) in
-    put-cell 2 tt r (c .before .number-cell .ensures) (c .put3 .ensures) .is
+    let r = put-member 0 tt r (p1 .before .cell-of .ensures ∙ i) (p1 .put-in .ensures) in
+    let r = put-member 1 tt r (p2 .before .part-cell .ensures) (p2 .put-in2 .ensures) in
+    put-member 2 tt r (c .before .number-cell .ensures) (c .put-in3 .ensures) .is
 
 pub connection-row-spec : {M : Type 1} → statement M
 connection-row-spec =
@@ -57,9 +58,9 @@ connection-row-spec =
     parent-word-requires
     begun-requires
     cell-of-requires
-    put-requires
+    put-in-requires
     part-cell-requires
-    put-requires-2
+    put-in-requires-2
     number-cell-requires
-    put-requires-3
+    put-in-requires-3
     returns)

@@ -7,8 +7,8 @@ use Rattle.glow_entries.proofs.flag_cell.Tie as tie
 enum-told : tie.Need-enum-told
 enum-told c = search needs
 
-none-requires : tie.Need-none-requires
-none-requires c κs = search needs
+absent-requires : tie.Need-absent-requires
+absent-requires c κs = search needs
 
 enum-known-f : tie.Need-enum-known-f
 enum-known-f c = search needs
@@ -24,4 +24,4 @@ returns-2 c = c .cell-of .ensures ∙ sym (ap flagCell (c .before .before .f .gi
 
 pub flag-cell-spec : {M : Type 1} → statement M
 flag-cell-spec =
-    tie.close (tie.spec enum-told none-requires enum-known-f cell-of-requires returns returns-2)
+    tie.close (tie.spec enum-told absent-requires enum-known-f cell-of-requires returns returns-2)

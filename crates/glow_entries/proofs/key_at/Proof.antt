@@ -1,14 +1,15 @@
-use mathlib.Core.Path.{_≡_, ap, _∙_}
+use mathlib.Core.Path.{_≡_, sym, ap, _∙_}
 use mir.Val.{toZ, ofZ}
 use mir.Syntax.{w64}
+use Rattle.glow_rows.specs.Cell.{intOf}
 use Rattle.glow_entries.specs.declared.Key.the-variants.{Number}
 use Rattle.glow_entries.proofs.Answers.{key-path, key-number}
 use borrow.Author.Needs.{needs}
 use Rattle.glow_entries.proofs.key_at.Statement.{statement}
 use Rattle.glow_entries.proofs.key_at.Tie as tie
 
-cell-at-requires : tie.Need-cell-at-requires
-cell-at-requires c κs = search needs
+cell-in-requires : tie.Need-cell-in-requires
+cell-in-requires c κs = search needs
 
 element-copy-out-if1 : tie.Need-element-copy-out-if1
 element-copy-out-if1 c = search needs
@@ -22,7 +23,10 @@ count-requires-2 c κs = search needs
 returns : tie.Need-returns
 returns c =
     rw (c .before .count .ensures, c .count2 .ensures)
-    (key-path _ _ _ (c .before .before .before .before .cell-at .ensures) (c .before .before .if1 .taken))
+    (key-path _ _ _ (c .before .before .before .before .cell-in .ensures) (c .before .before .if1 .taken))
+
+number-of-requires : tie.Need-number-of-requires
+number-of-requires c κs = search needs
 
 int-of-requires : tie.Need-int-of-requires
 int-of-requires c κs = search needs
@@ -30,16 +34,18 @@ int-of-requires c κs = search needs
 returns-2 : tie.Need-returns-2
 returns-2 c =
     let k : toZ w64 (ofZ w64 (c .int-of .result)) ≡ c .int-of .result = search needs in
-    ap Number (k ∙ c .int-of .ensures) ∙ key-number _ _ _ (c .before .before .before .cell-at .ensures) (c .before .if1 .left)
+    ap Number (k ∙ c .int-of .ensures ∙ ap intOf (sym (c .before .number-of .ensures)))
+    ∙ key-number _ _ _ (c .before .before .before .before .cell-in .ensures) (c .before .before .if1 .left)
 
 pub key-at-spec : {M : Type 1} → statement M
 key-at-spec =
     tie.close
     (tie.spec
-    cell-at-requires
+    cell-in-requires
     element-copy-out-if1
     count-requires
     count-requires-2
     returns
+    number-of-requires
     int-of-requires
     returns-2)

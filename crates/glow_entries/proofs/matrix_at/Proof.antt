@@ -35,19 +35,28 @@ number-at-requires-6 c κs = search needs
 
 returns : tie.Need-returns
 unfolding matrixOf
-returns c =
-    rw (
-      c .number-at6 .ensures,
-      c .before .number-at5 .ensures,
-      c .before .before .number-at4 .ensures,
-      c .before .before .before .number-at3 .ensures,
-      c .before .before .before .before .number-at2 .ensures,
-      c .before .before .before .before .before .number-at .ensures,
-      c .before .before .before .before .before .before .part-at2 .ensures,
-      c .before .before .before .before .before .before .before .part-at .ensures,
-      c .before .before .before .before .before .before .before .before .key-at .ensures,
-      c .before .before .before .before .before .before .before .before .before .parent-at .ensures,
-    )
+returns c = (
+  rw (
+    c .number-at6 .ensures .0,
+    c .before .number-at5 .ensures .0,
+    c .before .before .number-at4 .ensures .0,
+    c .before .before .before .number-at3 .ensures .0,
+    c .before .before .before .before .number-at2 .ensures .0,
+    c .before .before .before .before .before .number-at .ensures .0,
+    c .before .before .before .before .before .before .part-at2 .ensures,
+    c .before .before .before .before .before .before .before .part-at .ensures,
+    c .before .before .before .before .before .before .before .before .key-at .ensures,
+    c .before .before .before .before .before .before .before .before .before .parent-at .ensures,
+  ),
+  record {
+    «matrix_type» = c .before .before .before .before .before .number-at .ensures .1;
+    mode = c .before .before .before .before .number-at2 .ensures .1;
+    targets = c .before .before .before .number-at3 .ensures .1;
+    sources = c .before .before .number-at4 .ensures .1;
+    «total_limit» = c .before .number-at5 .ensures .1;
+    «target_limit» = c .number-at6 .ensures .1;
+  },
+)
 
 pub matrix-at-spec : {M : Type 1} → statement M
 matrix-at-spec =

@@ -16,13 +16,13 @@ is-same-requires c κs = search needs
 returns : tie.Need-returns
 unfolding matrixRead
 returns c =
-    told-is _ _ _ _ _ (c .before .before .before .before .matrix-at .ensures) (c .before .before .before .matrix-row .ensures)
+    told-is _ _ _ _ _ (c .before .before .before .before .matrix-at .ensures .0) (c .before .before .before .matrix-row .ensures)
     (c .before .is-same .ensures) (c .if1 .taken)
 
 returns-2 : tie.Need-returns-2
 unfolding matrixRead
 returns-2 c =
-    told-other _ _ _ _ _ (c .before .before .before .before .matrix-at .ensures) (c .before .before .before .matrix-row .ensures)
+    told-other _ _ _ _ _ (c .before .before .before .before .matrix-at .ensures .0) (c .before .before .before .matrix-row .ensures)
     (c .before .is-same .ensures) (c .if1 .left)
 
 pub matrix-of-spec : {M : Type 1} → statement M

@@ -1,6 +1,7 @@
 use Rattle.glow_rows.specs.Entry.{blanks}
-use Rattle.glow_entries.specs.Record.{nodeRow}
-use Rattle.glow_entries.proofs.Answers.{begun-is, put-cell}
+use Rattle.glow_rows.specs.Entry.{withCell}
+use Rattle.glow_entries.specs.Record.{filled, nodeRow}
+use Rattle.glow_entries.proofs.Answers.{begun-is, put-member}
 use borrow.Author.Needs.{needs}
 use Rattle.glow_entries.proofs.node_row.Statement.{statement}
 use Rattle.glow_entries.proofs.node_row.Tie as tie
@@ -17,35 +18,35 @@ begun-requires c κs = search needs
 key-cell-requires : tie.Need-key-cell-requires
 key-cell-requires c κs = search needs
 
-put-requires : tie.Need-put-requires
-put-requires c κs = search needs
+put-in-requires : tie.Need-put-in-requires
+put-in-requires c κs = search needs
 
 part-cell-requires : tie.Need-part-cell-requires
 part-cell-requires c κs = search needs
 
-put-requires-2 : tie.Need-put-requires-2
-put-requires-2 c κs = search needs
+put-in-requires-2 : tie.Need-put-in-requires-2
+put-in-requires-2 c κs = search needs
 
 part-cell-requires-2 : tie.Need-part-cell-requires-2
 part-cell-requires-2 c κs = search needs
 
-put-requires-3 : tie.Need-put-requires-3
-put-requires-3 c κs = search needs
+put-in-requires-3 : tie.Need-put-in-requires-3
+put-in-requires-3 c κs = search needs
 
 flag-cell-requires : tie.Need-flag-cell-requires
 flag-cell-requires c κs = search needs
 
-put-requires-4 : tie.Need-put-requires-4
-put-requires-4 c κs = search needs
+put-in-requires-4 : tie.Need-put-in-requires-4
+put-in-requires-4 c κs = search needs
 
 flag-cell-requires-2 : tie.Need-flag-cell-requires-2
 flag-cell-requires-2 c κs = search needs
 
-put-requires-5 : tie.Need-put-requires-5
-put-requires-5 c κs = search needs
+put-in-requires-5 : tie.Need-put-in-requires-5
+put-in-requires-5 c κs = search needs
 
 returns : tie.Need-returns
-unfolding nodeRow blanks
+unfolding nodeRow filled withCell blanks
 returns c =
     let p4 = c .before .before .before in
     let p3 = p4 .before .before .before in
@@ -54,11 +55,11 @@ returns c =
     let r =
     begun-is (p1 .before .before .before .before .before .key-kind .ensures)
     (p1 .before .before .before .before .parent-word .ensures) (p1 .before .before .before .begun .ensures) in
-    let r = put-cell 0 tt r (p1 .before .key-cell .ensures) (p1 .put .ensures) in
-    let r = put-cell 1 tt r (p2 .before .part-cell .ensures) (p2 .put2 .ensures) in
-    let r = put-cell 2 tt r (p3 .before .part-cell2 .ensures) (p3 .put3 .ensures) in
-    let r = put-cell 3 tt r (p4 .before .flag-cell .ensures) (p4 .put4 .ensures) in
-    put-cell 4 tt r (c .before .flag-cell2 .ensures) (c .put5 .ensures) .is
+    let r = put-member 0 tt r (p1 .before .key-cell .ensures) (p1 .put-in .ensures) in
+    let r = put-member 1 tt r (p2 .before .part-cell .ensures) (p2 .put-in2 .ensures) in
+    let r = put-member 2 tt r (p3 .before .part-cell2 .ensures) (p3 .put-in3 .ensures) in
+    let r = put-member 3 tt r (p4 .before .flag-cell .ensures) (p4 .put-in4 .ensures) in
+    put-member 4 tt r (c .before .flag-cell2 .ensures) (c .put-in5 .ensures) .is
 
 pub node-row-spec : {M : Type 1} → statement M
 node-row-spec =
@@ -68,13 +69,13 @@ node-row-spec =
     parent-word-requires
     begun-requires
     key-cell-requires
-    put-requires
+    put-in-requires
     part-cell-requires
-    put-requires-2
+    put-in-requires-2
     part-cell-requires-2
-    put-requires-3
+    put-in-requires-3
     flag-cell-requires
-    put-requires-4
+    put-in-requires-4
     flag-cell-requires-2
-    put-requires-5
+    put-in-requires-5
     returns)

@@ -11,8 +11,8 @@ use Rattle.glow_entries.proofs.number_cell.Tie as tie
 enum-told : tie.Need-enum-told
 enum-told c = search needs
 
-none-requires : tie.Need-none-requires
-none-requires c κs = search needs
+absent-requires : tie.Need-absent-requires
+absent-requires c κs = search needs
 
 enum-known-n : tie.Need-enum-known-n
 enum-known-n c = search needs
@@ -30,4 +30,4 @@ returns-2 c =
 
 pub number-cell-spec : {M : Type 1} → statement M
 number-cell-spec =
-    tie.close (tie.spec enum-told none-requires enum-known-n cell-of-requires returns returns-2)
+    tie.close (tie.spec enum-told absent-requires enum-known-n cell-of-requires returns returns-2)

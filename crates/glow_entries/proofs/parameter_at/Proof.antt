@@ -43,11 +43,11 @@ returns : tie.Need-returns
 unfolding parameterOf
 returns c =
     rw (
-      c .number-at4 .ensures,
-      c .before .number-at3 .ensures,
+      c .number-at4 .ensures .0,
+      c .before .number-at3 .ensures .0,
       c .before .before .flag-at .ensures,
-      c .before .before .before .number-at2 .ensures,
-      c .before .before .before .before .number-at .ensures,
+      c .before .before .before .number-at2 .ensures .0,
+      c .before .before .before .before .number-at .ensures .0,
       c .before .before .before .before .before .value-at3 .ensures,
       c .before .before .before .before .before .before .value-at2 .ensures,
       c .before .before .before .before .before .before .before .value-at .ensures,

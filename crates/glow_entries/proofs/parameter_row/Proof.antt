@@ -1,6 +1,7 @@
 use Rattle.glow_rows.specs.Entry.{blanks}
-use Rattle.glow_entries.specs.Record.{parameterRow}
-use Rattle.glow_entries.proofs.Answers.{begun-is, put-cell}
+use Rattle.glow_rows.specs.Entry.{withCell}
+use Rattle.glow_entries.specs.Record.{filled, parameterRow}
+use Rattle.glow_entries.proofs.Answers.{begun-is, put-member}
 use borrow.Author.Needs.{needs}
 use Rattle.glow_entries.proofs.parameter_row.Statement.{statement}
 use Rattle.glow_entries.proofs.parameter_row.Tie as tie
@@ -17,71 +18,71 @@ begun-requires c κs = search needs
 key-cell-requires : tie.Need-key-cell-requires
 key-cell-requires c κs = search needs
 
-put-requires : tie.Need-put-requires
-put-requires c κs = search needs
+put-in-requires : tie.Need-put-in-requires
+put-in-requires c κs = search needs
 
 part-cell-requires : tie.Need-part-cell-requires
 part-cell-requires c κs = search needs
 
-put-requires-2 : tie.Need-put-requires-2
-put-requires-2 c κs = search needs
+put-in-requires-2 : tie.Need-put-in-requires-2
+put-in-requires-2 c κs = search needs
 
 part-cell-requires-2 : tie.Need-part-cell-requires-2
 part-cell-requires-2 c κs = search needs
 
-put-requires-3 : tie.Need-put-requires-3
-put-requires-3 c κs = search needs
+put-in-requires-3 : tie.Need-put-in-requires-3
+put-in-requires-3 c κs = search needs
 
 cell-of-requires : tie.Need-cell-of-requires
 cell-of-requires c κs = search needs
 
-put-requires-4 : tie.Need-put-requires-4
-put-requires-4 c κs = search needs
+put-in-requires-4 : tie.Need-put-in-requires-4
+put-in-requires-4 c κs = search needs
 
 cell-of-requires-2 : tie.Need-cell-of-requires-2
 cell-of-requires-2 c κs = search needs
 
-put-requires-5 : tie.Need-put-requires-5
-put-requires-5 c κs = search needs
+put-in-requires-5 : tie.Need-put-in-requires-5
+put-in-requires-5 c κs = search needs
 
 cell-of-requires-3 : tie.Need-cell-of-requires-3
 cell-of-requires-3 c κs = search needs
 
-put-requires-6 : tie.Need-put-requires-6
-put-requires-6 c κs = search needs
+put-in-requires-6 : tie.Need-put-in-requires-6
+put-in-requires-6 c κs = search needs
 
 number-cell-requires : tie.Need-number-cell-requires
 number-cell-requires c κs = search needs
 
-put-requires-7 : tie.Need-put-requires-7
-put-requires-7 c κs = search needs
+put-in-requires-7 : tie.Need-put-in-requires-7
+put-in-requires-7 c κs = search needs
 
 number-cell-requires-2 : tie.Need-number-cell-requires-2
 number-cell-requires-2 c κs = search needs
 
-put-requires-8 : tie.Need-put-requires-8
-put-requires-8 c κs = search needs
+put-in-requires-8 : tie.Need-put-in-requires-8
+put-in-requires-8 c κs = search needs
 
 flag-cell-requires : tie.Need-flag-cell-requires
 flag-cell-requires c κs = search needs
 
-put-requires-9 : tie.Need-put-requires-9
-put-requires-9 c κs = search needs
+put-in-requires-9 : tie.Need-put-in-requires-9
+put-in-requires-9 c κs = search needs
 
 number-cell-requires-3 : tie.Need-number-cell-requires-3
 number-cell-requires-3 c κs = search needs
 
-put-requires-10 : tie.Need-put-requires-10
-put-requires-10 c κs = search needs
+put-in-requires-10 : tie.Need-put-in-requires-10
+put-in-requires-10 c κs = search needs
 
 number-cell-requires-4 : tie.Need-number-cell-requires-4
 number-cell-requires-4 c κs = search needs
 
-put-requires-11 : tie.Need-put-requires-11
-put-requires-11 c κs = search needs
+put-in-requires-11 : tie.Need-put-in-requires-11
+put-in-requires-11 c κs = search needs
 
 returns : tie.Need-returns
-unfolding parameterRow blanks
+unfolding parameterRow filled withCell blanks
 returns c =
     let p10 = c .before .before .before in
     let p9 = p10 .before .before .before in
@@ -96,17 +97,17 @@ returns c =
     let r =
     begun-is (p1 .before .before .before .before .before .key-kind .ensures)
     (p1 .before .before .before .before .parent-word .ensures) (p1 .before .before .before .begun .ensures) in
-    let r = put-cell 0 tt r (p1 .before .key-cell .ensures) (p1 .put .ensures) in
-    let r = put-cell 1 tt r (p2 .before .part-cell .ensures) (p2 .put2 .ensures) in
-    let r = put-cell 2 tt r (p3 .before .part-cell2 .ensures) (p3 .put3 .ensures) in
-    let r = put-cell 3 tt r (p4 .before .cell-of .ensures) (p4 .put4 .ensures) in
-    let r = put-cell 4 tt r (p5 .before .cell-of2 .ensures) (p5 .put5 .ensures) in
-    let r = put-cell 5 tt r (p6 .before .cell-of3 .ensures) (p6 .put6 .ensures) in
-    let r = put-cell 6 tt r (p7 .before .number-cell .ensures) (p7 .put7 .ensures) in
-    let r = put-cell 9 tt r (p8 .before .number-cell2 .ensures) (p8 .put8 .ensures) in
-    let r = put-cell 10 tt r (p9 .before .flag-cell .ensures) (p9 .put9 .ensures) in
-    let r = put-cell 12 tt r (p10 .before .number-cell3 .ensures) (p10 .put10 .ensures) in
-    put-cell 15 tt r (c .before .number-cell4 .ensures) (c .put11 .ensures) .is
+    let r = put-member 0 tt r (p1 .before .key-cell .ensures) (p1 .put-in .ensures) in
+    let r = put-member 1 tt r (p2 .before .part-cell .ensures) (p2 .put-in2 .ensures) in
+    let r = put-member 2 tt r (p3 .before .part-cell2 .ensures) (p3 .put-in3 .ensures) in
+    let r = put-member 3 tt r (p4 .before .cell-of .ensures) (p4 .put-in4 .ensures) in
+    let r = put-member 4 tt r (p5 .before .cell-of2 .ensures) (p5 .put-in5 .ensures) in
+    let r = put-member 5 tt r (p6 .before .cell-of3 .ensures) (p6 .put-in6 .ensures) in
+    let r = put-member 6 tt r (p7 .before .number-cell .ensures) (p7 .put-in7 .ensures) in
+    let r = put-member 9 tt r (p8 .before .number-cell2 .ensures) (p8 .put-in8 .ensures) in
+    let r = put-member 10 tt r (p9 .before .flag-cell .ensures) (p9 .put-in9 .ensures) in
+    let r = put-member 12 tt r (p10 .before .number-cell3 .ensures) (p10 .put-in10 .ensures) in
+    put-member 15 tt r (c .before .number-cell4 .ensures) (c .put-in11 .ensures) .is
 
 pub parameter-row-spec : {M : Type 1} → statement M
 parameter-row-spec =
@@ -116,25 +117,25 @@ parameter-row-spec =
     parent-word-requires
     begun-requires
     key-cell-requires
-    put-requires
+    put-in-requires
     part-cell-requires
-    put-requires-2
+    put-in-requires-2
     part-cell-requires-2
-    put-requires-3
+    put-in-requires-3
     cell-of-requires
-    put-requires-4
+    put-in-requires-4
     cell-of-requires-2
-    put-requires-5
+    put-in-requires-5
     cell-of-requires-3
-    put-requires-6
+    put-in-requires-6
     number-cell-requires
-    put-requires-7
+    put-in-requires-7
     number-cell-requires-2
-    put-requires-8
+    put-in-requires-8
     flag-cell-requires
-    put-requires-9
+    put-in-requires-9
     number-cell-requires-3
-    put-requires-10
+    put-in-requires-10
     number-cell-requires-4
-    put-requires-11
+    put-in-requires-11
     returns)

@@ -5,8 +5,8 @@ use borrow.Author.Needs.{needs}
 use Rattle.glow_entries.proofs.part_at.Statement.{statement}
 use Rattle.glow_entries.proofs.part_at.Tie as tie
 
-cell-at-requires : tie.Need-cell-at-requires
-cell-at-requires c κs = search needs
+cell-in-requires : tie.Need-cell-in-requires
+cell-in-requires c κs = search needs
 
 count-requires : tie.Need-count-requires
 count-requires c κs = search needs
@@ -18,13 +18,13 @@ returns : tie.Need-returns
 returns c =
     rw (c .before .count .ensures, c .count2 .ensures)
     (part-is _ _ (c .before .before .if1 .taken)
-    ∙ ap (partOf (c .before .before .before .before .before .args .tag)) (c .before .before .before .before .cell-at .ensures))
+    ∙ ap (partOf (c .before .before .before .before .before .args .tag)) (c .before .before .before .before .cell-in .ensures))
 
 returns-2 : tie.Need-returns-2
 returns-2 c =
     part-none _ _ (c .if1 .left)
-    ∙ ap (partOf (c .before .before .before .args .tag)) (c .before .before .cell-at .ensures)
+    ∙ ap (partOf (c .before .before .before .args .tag)) (c .before .before .cell-in .ensures)
 
 pub part-at-spec : {M : Type 1} → statement M
 part-at-spec =
-    tie.close (tie.spec cell-at-requires count-requires count-requires-2 returns returns-2)
+    tie.close (tie.spec cell-in-requires count-requires count-requires-2 returns returns-2)

@@ -7,8 +7,8 @@ use Rattle.glow_entries.proofs.part_cell.Tie as tie
 enum-told : tie.Need-enum-told
 enum-told c = search needs
 
-none-requires : tie.Need-none-requires
-none-requires c κs = search needs
+absent-requires : tie.Need-absent-requires
+absent-requires c κs = search needs
 
 enum-known-p : tie.Need-enum-known-p
 enum-known-p c = search needs
@@ -30,4 +30,4 @@ returns-2 c =
 pub part-cell-spec : {M : Type 1} → statement M
 part-cell-spec =
     tie.close
-    (tie.spec enum-told none-requires enum-known-p word-requires word-requires-2 returns returns-2)
+    (tie.spec enum-told absent-requires enum-known-p word-requires word-requires-2 returns returns-2)

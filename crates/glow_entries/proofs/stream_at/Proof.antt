@@ -22,7 +22,7 @@ returns c =
     rw (
       int-at,
       c .value-at .ensures,
-      c .before .int-at .ensures,
+      c .before .int-at .ensures .0,
       c .before .before .parent-at .ensures,
     )
 

@@ -18,7 +18,7 @@ use Rattle.glow_sizes.proofs.may_hold.Reads as may-hold-reads
 use Rattle.glow_sizes.proofs.refused.Reads as refused-reads
 use Rattle.glow_sizes.proofs.tree_size.Reads as tree-size-reads
 use Rattle.glow_member_sizes.proofs.wide.Reads as wide-reads
-use Rattle.glow_sizes.proofs.word_at.Reads as word-at-reads
+use Rattle.glow_rows.proofs.word_at.Reads as word-at-reads
 use Rattle.glow_sizes.proofs.+items.{statement}
 use Rattle.glow_sizes.proofs.+items.Tie.{close}
 

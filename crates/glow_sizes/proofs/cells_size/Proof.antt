@@ -1,4 +1,5 @@
-use Rattle.glow_sizes.proofs.Cells.{cell-in, Sum, sum-none, sum-more, sum-is-at}
+use Rattle.glow_rows.proofs.Words.{cell-in}
+use Rattle.glow_sizes.proofs.Cells.{Sum, sum-none, sum-more, sum-is-at}
 use Rattle.glow_member_sizes.specs.Spelling.{spelling}
 use Rattle.glow_trees.specs.Legal.{ruleAt}
 use mathlib.Core.Path.{_∙_, ap, sym}
@@ -11,7 +12,7 @@ use Rattle.glow_sizes.proofs.cells_size.Statement.{statement}
 use Rattle.glow_sizes.proofs.cells_size.Tie as tie
 use Rattle.glow_sizes.proofs.cells_size.Reads as reads
 use Rattle.glow_sizes.proofs.cells_size.Lts as lts
-use Rattle.glow_sizes.proofs.cell_at.Reads as cell-at-reads
+use Rattle.glow_rows.proofs.cell_at.Reads as cell-at-reads
 use Rattle.glow_member_sizes.proofs.member_size.Reads as member-size-reads
 use Rattle.glow_member_sizes.proofs.plus.Reads as plus-reads
 use Rattle.glow_sizes.proofs.rule_at.Reads as rule-at-reads

@@ -1,5 +1,5 @@
 use Rattle.glow_sizes.proofs.Sums.{Summed, Sized, own-over, inner-over, size-over, deep-over, incomplete, path-fits, path-judged}
-use Rattle.glow_sizes.proofs.Cells.{cell-in}
+use Rattle.glow_rows.proofs.Words.{cell-in}
 use Rattle.glow_member_sizes.specs.Spelling.{spelling}
 use borrow.Author.Tests.{not-true, not-false}
 use Prim.Native.Nat.{ℕ, _≤_, _<_}
@@ -18,7 +18,7 @@ use Rattle.glow_sizes.proofs.entry_size.Statement.{statement}
 use Rattle.glow_sizes.proofs.entry_size.Tie as tie
 use Rattle.glow_sizes.proofs.entry_size.Reads as reads
 use Rattle.glow_sizes.proofs.entry_size.Lts as lts
-use Rattle.glow_sizes.proofs.cell_at.Reads as cell-at-reads
+use Rattle.glow_rows.proofs.cell_at.Reads as cell-at-reads
 use Rattle.glow_sizes.proofs.cells_size.Reads as cells-size-reads
 use Rattle.glow_sizes.proofs.is_complete.Reads as is-complete-reads
 use Rattle.glow_sizes.proofs.is_shallow.Reads as is-shallow-reads
@@ -27,7 +27,7 @@ use Rattle.glow_sizes.proofs.path_after.Reads as path-after-reads
 use Rattle.glow_member_sizes.proofs.plus.Reads as plus-reads
 use Rattle.glow_sizes.proofs.rule_at.Reads as rule-at-reads
 use Rattle.glow_sizes.proofs.split_of.Reads as split-of-reads
-use Rattle.glow_sizes.proofs.word_at.Reads as word-at-reads
+use Rattle.glow_rows.proofs.word_at.Reads as word-at-reads
 use Rattle.glow_sizes.proofs.wrapped_size.Reads as wrapped-size-reads
 
 -- the row that is measured

@@ -8,7 +8,7 @@ use Rattle.glow_sizes.proofs.is_complete.Statement.{statement}
 use Rattle.glow_sizes.proofs.is_complete.Tie as tie
 use Rattle.glow_sizes.proofs.is_complete.Reads as reads
 use Rattle.glow_sizes.proofs.is_complete.Lts as lts
-use Rattle.glow_sizes.proofs.word_at.Reads as word-at-reads
+use Rattle.glow_rows.proofs.word_at.Reads as word-at-reads
 use Rattle.glow_grammar.proofs.required_of.Reads as required-of-reads
 
 required-of-requires : tie.Need-required-of-requires

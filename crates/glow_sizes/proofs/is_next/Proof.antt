@@ -5,7 +5,7 @@ use Rattle.glow_sizes.proofs.is_next.Tie as tie
 use Rattle.glow_sizes.proofs.is_next.Reads as reads
 use Rattle.glow_sizes.proofs.is_next.Lts as lts
 use Rattle.glow_sizes.proofs.stands_in.Reads as stands-in-reads
-use Rattle.glow_sizes.proofs.word_at.Reads as word-at-reads
+use Rattle.glow_rows.proofs.word_at.Reads as word-at-reads
 
 word-at-requires : tie.Need-word-at-requires
 word-at-requires c κs = search needs

@@ -1,67 +1,55 @@
+use Prim.Native.Nat.{_<_, _^_}
 use Rattle.sheet_reader.proofs.Members.{figures-is}
 use borrow.Author.Needs.{needs}
 use Rattle.sheet_reader.proofs.figures_of.Statement.{statement}
 use Rattle.sheet_reader.proofs.figures_of.Tie as tie
 
-cell-at-requires : tie.Need-cell-at-requires
-cell-at-requires c κs = search needs
+shared-slice-element-matrix-at : tie.Need-shared-slice-element-matrix-at
+shared-slice-element-matrix-at c = search needs
 
-number-of-requires : tie.Need-number-of-requires
-number-of-requires c κs = search needs
-
-cell-at-requires-2 : tie.Need-cell-at-requires-2
-cell-at-requires-2 c κs = search needs
-
-number-of-requires-2 : tie.Need-number-of-requires-2
-number-of-requires-2 c κs = search needs
-
-cell-at-requires-3 : tie.Need-cell-at-requires-3
-cell-at-requires-3 c κs = search needs
-
-number-of-requires-3 : tie.Need-number-of-requires-3
-number-of-requires-3 c κs = search needs
-
-cell-at-requires-4 : tie.Need-cell-at-requires-4
-cell-at-requires-4 c κs = search needs
+matrix-at-requires : tie.Need-matrix-at-requires
+matrix-at-requires c κs = search needs
 
 limit-of-requires : tie.Need-limit-of-requires
 limit-of-requires c κs = search needs
 
-cell-at-requires-5 : tie.Need-cell-at-requires-5
-cell-at-requires-5 c κs = search needs
-
 limit-of-requires-2 : tie.Need-limit-of-requires-2
 limit-of-requires-2 c κs = search needs
 
+number-word-requires : tie.Need-number-word-requires
+number-word-requires c κs = search needs
+
+number-word-requires-2 : tie.Need-number-word-requires-2
+number-word-requires-2 c κs = search needs
+
+number-word-requires-3 : tie.Need-number-word-requires-3
+number-word-requires-3 c κs = search needs
+
 returns : tie.Need-returns
 returns c =
-    let the-Start = c .before .before .before .before .before .before .before .before .before .before in
-    let the-cell-at = c .before .before .before .before .before .before .before .before .before .cell-at in
-    let the-number-of = c .before .before .before .before .before .before .before .before .number-of in
-    let the-cell-at2 = c .before .before .before .before .before .before .before .cell-at2 in
-    let the-number-of2 = c .before .before .before .before .before .before .number-of2 in
-    let the-cell-at3 = c .before .before .before .before .before .cell-at3 in
-    let the-number-of3 = c .before .before .before .before .number-of3 in
-    let the-cell-at4 = c .before .before .before .cell-at4 in
-    let the-limit-of = c .before .before .limit-of in
-    let the-cell-at5 = c .before .cell-at5 in
-    let the-limit-of2 = c .limit-of2 in
-    figures-is (the-Start .args .rows .now) _ _ _ _ _ _ _ _ _ _
-    (the-cell-at .ensures) (the-cell-at2 .ensures) (the-cell-at3 .ensures) (the-cell-at4 .ensures) (the-cell-at5 .ensures)
-    (the-number-of .ensures) (the-number-of2 .ensures) (the-number-of3 .ensures) (the-limit-of .ensures) (the-limit-of2 .ensures)
+    let the-Start = c .before .before .before .before .before .before .before in
+    let the-matrix-at = c .before .before .before .before .before .matrix-at in
+    let the-limit-of = c .before .before .before .before .limit-of in
+    let the-limit-of2 = c .before .before .before .limit-of2 in
+    let the-number-word = c .before .before .number-word in
+    let the-number-word2 = c .before .number-word2 in
+    let the-number-word3 = c .number-word3 in
+    let a : the-number-word .result < 2 ^ 64 = search needs in
+    let b : the-number-word2 .result < 2 ^ 64 = search needs in
+    let d : the-number-word3 .result < 2 ^ 64 = search needs in
+    figures-is (the-Start .args .rows .now) _ (the-matrix-at .ensures .0) (the-matrix-at .ensures .1) _ _ _ _ _
+    (the-number-word .ensures) a (the-number-word2 .ensures) b (the-number-word3 .ensures) d
+    (the-limit-of .ensures .0) (the-limit-of .ensures .1) (the-limit-of2 .ensures .0) (the-limit-of2 .ensures .1)
 
 pub figures-of-spec : {M : Type 1} → statement M
 figures-of-spec =
     tie.close
     (tie.spec
-    cell-at-requires
-    number-of-requires
-    cell-at-requires-2
-    number-of-requires-2
-    cell-at-requires-3
-    number-of-requires-3
-    cell-at-requires-4
+    shared-slice-element-matrix-at
+    matrix-at-requires
     limit-of-requires
-    cell-at-requires-5
     limit-of-requires-2
+    number-word-requires
+    number-word-requires-2
+    number-word-requires-3
     returns)

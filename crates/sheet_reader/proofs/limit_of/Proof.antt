@@ -1,35 +1,26 @@
-use Rattle.sheet_reader.proofs.Members.{limit-other, limit-long, limit-is}
-use mathlib.Core.Path.{_∙_}
-use borrow.Author.Tests.{not-true, not-false}
+use Prim.Native.Nat.{_<_, _^_}
+use Rattle.sheet_reader.proofs.Members.{limit-some}
 use borrow.Author.Needs.{needs}
 use Rattle.sheet_reader.proofs.limit_of.Statement.{statement}
 use Rattle.sheet_reader.proofs.limit_of.Tie as tie
 
-is-word-requires : tie.Need-is-word-requires
-is-word-requires c κs = search needs
+number-word-requires : tie.Need-number-word-requires
+number-word-requires c κs = search needs
+
+enum-told : tie.Need-enum-told
+enum-told c = search needs
+
+enum-told-2 : tie.Need-enum-told-2
+enum-told-2 c = search needs
 
 returns : tie.Need-returns
-returns c =
-    let the-Start = c .before .before in
-    let the-is-word = c .before .is-word in
-    let the-if1 = c .if1 in
-    λ s. limit-other s (the-Start .args .v) (the-is-word .ensures ∙ not-true _ (the-if1 .taken))
+returns c = search needs
 
 returns-2 : tie.Need-returns-2
 returns-2 c =
-    let the-Start = c .before .before .before .before in
-    let the-is-word = c .before .before .before .is-word in
-    let the-if1 = c .before .before .if1 in
-    let the-if2 = c .if2 in
-    λ s. limit-long s (the-Start .args .v) (the-is-word .ensures ∙ not-false _ (the-if1 .left)) (the-if2 .taken)
-
-returns-3 : tie.Need-returns-3
-returns-3 c =
-    let the-Start = c .before .before .before .before in
-    let the-is-word = c .before .before .before .is-word in
-    let the-if1 = c .before .before .if1 in
-    let the-if2 = c .if2 in
-    λ s. limit-is s (the-Start .args .v) (the-is-word .ensures ∙ not-false _ (the-if1 .left)) (the-if2 .left) (search needs)
+    let the-number-word = c .before .before .number-word in
+    let h : the-number-word .result < 2 ^ 64 = search needs in
+    limit-some _ _ _ (c .enum-told2 .given .1) (the-number-word .ensures) h
 
 pub limit-of-spec : {M : Type 1} → statement M
-limit-of-spec = tie.close (tie.spec is-word-requires returns returns-2 returns-3)
+limit-of-spec = tie.close (tie.spec number-word-requires enum-told enum-told-2 returns returns-2)

@@ -1,7 +1,7 @@
 use borrow.Author.Needs.{needs}
 use Rattle.sheet_reader.proofs.Numbers.{taken-end, taken-more, taken-over}
-use Rattle.desk_connections.proofs.Numbers.{left-none}
-use Rattle.desk_connections.specs.Connections.{numbersIn, Left}
+use Rattle.glow_paths.proofs.Numbers.{left-none}
+use Rattle.glow_paths.specs.Paths.{numbersIn, Left}
 use lib.ListN.{length, take, length-set}
 use Prim.Native.Nat.{ℕ, _-_, _≤_}
 use mathlib.Core.List.{List, _++_}

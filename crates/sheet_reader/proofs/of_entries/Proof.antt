@@ -1,5 +1,6 @@
+use Prim.Native.Nat.{_<_, _^_}
 use Rattle.sheet_reader.proofs.Desks.{size-most, tells-not, tells-long, tells-opened}
-use Rattle.sheet_reader.proofs.Members.{mode-is}
+use Rattle.sheet_reader.proofs.Members.{mode-is, sheet-some}
 use lib.Seq.{length-take-le}
 use lib.ListN.{length}
 use mathlib.Core.Path.{_≡_, refl, sym, _∙_}
@@ -10,9 +11,9 @@ use Rattle.sheet_reader.proofs.of_entries.Statement.{statement}
 use Rattle.sheet_reader.proofs.of_entries.Tie as tie
 use Rattle.sheet_reader.proofs.of_entries.Reads as reads
 use Rattle.sheet_reader.proofs.of_entries.Lts as lts
-use Rattle.desk_connections.proofs.number_of.Reads as number-of-reads
+use Rattle.glow_rows.proofs.number_of.Reads as number-of-reads
 use Rattle.desk_crosspoints.proofs.size.Reads as size-reads
-use Rattle.glow_sizes.proofs.cell_at.Reads as cell-at-reads
+use Rattle.glow_rows.proofs.cell_at.Reads as cell-at-reads
 use Rattle.sheet_reader.proofs.figures_of.Reads as figures-of-reads
 use Rattle.sheet_reader.proofs.is_sheet.Reads as is-sheet-reads
 use Rattle.sheet_reader.proofs.of_desk.Reads as of-desk-reads
@@ -51,7 +52,13 @@ returns-2 c =
     tells-long _ _ _ w (the-is-sheet .ensures (the-Start .args .s .now) ∙ not-false _ (the-if1 .left)) _ (the-cell-at .ensures) _ _ (the-path-of .ensures) (the-if2 .taken) _ _
 
 figures-of-requires : tie.Need-figures-of-requires
-figures-of-requires c κs = search needs
+figures-of-requires c κs =
+    let the-Start = c .before .before .before .before .before .before .before .before .before .before in
+    let the-is-sheet = c .before .before .before .before .before .before .is-sheet in
+    let the-if1 = c .before .before .before .before .before .if1 in
+    let w = the-Start .pre .0 .1 .1 .1 .1 in
+    let k = sheet-some _ _ _ w (the-is-sheet .ensures (the-Start .args .s .now) ∙ not-false _ (the-if1 .left)) in
+    omega (arith, k, w)
 
 cell-at-requires-2 : tie.Need-cell-at-requires-2
 cell-at-requires-2 c κs = search needs
@@ -119,10 +126,11 @@ returns-3 c =
     let the-figures-of = c .before .before .before .before .before .before .before .before .before .before .before .before .before .figures-of in
     let the-cell-at2 = c .before .before .before .before .before .before .before .before .before .before .before .before .cell-at2 in
     let the-number-of = c .before .before .before .before .before .before .before .before .before .before .before .number-of in
+    let mode-fits : the-number-of .result < 2 ^ 64 = search needs in
     let the-of-desk = c .before .before .before .before .before .of-desk in
     let w = the-Start .pre .0 .1 .1 .1 .1 in
     tells-opened _ _ _ w (the-is-sheet .ensures (the-Start .args .s .now) ∙ not-false _ (the-if1 .left)) _ (the-cell-at .ensures) _ _ (the-path-of .ensures) (the-if2 .left)
-    _ _ (the-figures-of .ensures) (mode-is (the-Start .args .rows .now) _ _ (the-cell-at2 .ensures) (the-number-of .ensures)) _ _
+    _ _ (the-figures-of .ensures) (mode-is (the-Start .args .rows .now) _ _ (the-cell-at2 .ensures) (the-number-of .ensures) mode-fits) _ _
     (the-of-desk .result) (the-of-desk .last .1 .1 .1 .1 .1 .1 .1 .1 .0) (the-of-desk .last .1 .1 .1 .1 .1 .1 .1 .1 .1 .0) (the-of-desk .ensures)
 
 pub of-entries-spec : {M : Type 1} → statement M

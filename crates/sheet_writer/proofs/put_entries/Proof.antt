@@ -11,7 +11,7 @@ use Rattle.sheet_writer.proofs.put_entries.Lts as lts
 use Rattle.ber_identifiers.proofs.write_oid.Reads as write-oid-reads
 use Rattle.sheet_writer.proofs.end_of.Reads as end-of-reads
 use Rattle.sheet_writer.proofs.index.Reads as index-reads
-use Rattle.sheet_writer.proofs.matrix_row.Reads as matrix-row-reads
+use Rattle.desk_rows.proofs.matrix_row.Reads as matrix-row-reads
 use Rattle.sheet_writer.proofs.put_links.Reads as put-links-reads
 use Rattle.sheet_writer.proofs.wide.Reads as wide-reads
 

@@ -5,8 +5,8 @@ use Rattle.sheet_writer.proofs.put_link.Statement.{statement}
 use Rattle.sheet_writer.proofs.put_link.Tie as tie
 use Rattle.sheet_writer.proofs.put_link.Reads as reads
 use Rattle.sheet_writer.proofs.put_link.Lts as lts
-use Rattle.sheet_writer.proofs.link_row.Reads as link-row-reads
-use Rattle.sheet_writer.proofs.list_cell.Reads as list-cell-reads
+use Rattle.desk_rows.proofs.link_row.Reads as link-row-reads
+use Rattle.desk_rows.proofs.list_of.Reads as list-of-reads
 use Rattle.sheet_writer.proofs.put_sources.Reads as put-sources-reads
 use Rattle.sheet_writer.proofs.wide.Reads as wide-reads
 
@@ -44,8 +44,8 @@ sub-wide c =
 wide-requires-3 : tie.Need-wide-requires-3
 wide-requires-3 c κs = search needs
 
-list-cell-requires : tie.Need-list-cell-requires
-list-cell-requires c κs = search needs
+list-of-requires : tie.Need-list-of-requires
+list-of-requires c κs = search needs
 
 link-row-requires : tie.Need-link-row-requires
 link-row-requires c κs = search needs
@@ -72,10 +72,10 @@ returns c =
     let the-wide = c .before .before .before .before .wide in
     let the-wide2 = c .before .before .before .wide2 in
     let the-wide3 = c .before .before .wide3 in
-    let the-list-cell = c .before .list-cell in
+    let the-list-of = c .before .list-of in
     let the-link-row = c .link-row in (
       link-put (the-Start .args .w) (the-Start .args .cells .now) (the-Start .args .t) _ _ _ (the-put-sources .ensures .0)
-          (the-wide .ensures) (the-wide2 .ensures) (the-wide3 .ensures) (the-list-cell .ensures) (the-link-row .ensures),
+          (the-wide .ensures) (the-wide2 .ensures) (the-wide3 .ensures) (the-list-of .ensures) (the-link-row .ensures),
       omega (arith, the-put-sources .ensures .1, part-short (the-Start .args .w) (the-Start .args .cells .now) (the-Start .args .t), the-Start .pre .0 .1),
     )
 
@@ -93,7 +93,7 @@ put-link-spec =
     wide-requires-2
     sub-wide
     wide-requires-3
-    list-cell-requires
+    list-of-requires
     link-row-requires
     add-t21
     mul-t22

@@ -27,7 +27,7 @@ use Rattle.glow_sizes.proofs.trees_size.Reads as trees-size-reads
 use Rattle.glow_member_sizes.proofs.plus.Reads as plus-reads
 use Rattle.glow_sizes.proofs.stands_in.Reads as stands-in-reads
 use Rattle.glow_member_sizes.proofs.wide.Reads as wide-reads
-use Rattle.glow_sizes.proofs.word_at.Reads as word-at-reads
+use Rattle.glow_rows.proofs.word_at.Reads as word-at-reads
 use Rattle.glow_sizes.proofs.wrapped_size.Reads as wrapped-size-reads
 use Rattle.glow_writer.proofs.write.put_entry.Reads as put-entry-reads
 use Rattle.glow_writer.proofs.write.put_outer.Reads as put-outer-reads

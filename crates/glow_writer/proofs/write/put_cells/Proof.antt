@@ -1,5 +1,5 @@
 use borrow.Author.Needs.{needs}
-use Rattle.glow_sizes.proofs.Cells.{cell-in}
+use Rattle.glow_rows.proofs.Words.{cell-in}
 use Rattle.glow_writer.proofs.Putting.{Onward, onward-start, onward-more, onward-end}
 use native.Mathlib.Omega.{arith}
 use mathlib.Core.Path.{_≡_, refl, _∙_}
@@ -10,7 +10,7 @@ use Rattle.glow_writer.proofs.write.put_cells.Statement.{statement}
 use Rattle.glow_writer.proofs.write.put_cells.Tie as tie
 use Rattle.glow_writer.proofs.write.put_cells.Reads as reads
 use Rattle.glow_writer.proofs.write.put_cells.Lts as lts
-use Rattle.glow_sizes.proofs.cell_at.Reads as cell-at-reads
+use Rattle.glow_rows.proofs.cell_at.Reads as cell-at-reads
 use Rattle.glow_writer.proofs.write.byte.Reads as byte-reads
 use Rattle.glow_writer.proofs.write.put_member.Reads as put-member-reads
 
