@@ -1,9 +1,7 @@
 -- The numbers that each call answers (document 01, "Numbers answered").
 use Prim.Native.Nat.{ℕ}
 use mathlib.Core.List.{List, [], _∷_}
-use mathlib.Core.Bool.{Bool, true, false}
-use Rattle.ber_integers.specs.Digits.{pick}
-use Rattle.desk_requests.specs.Lists.{has}
+use types.Run.{OneOf}
 
 -- opening: done, "1 SETUP", "45 DESK"
 abbrev pub openNumbers : List ℕ
@@ -22,8 +20,6 @@ abbrev pub answerNumbers : List ℕ
 answerNumbers = 0 ∷ 40 ∷ 41 ∷ 42 ∷ 43 ∷ 44 ∷ []
 
 -- each of some numbers is one of these
-unfoldable pub allHas : List ℕ → List ℕ → Bool
-allHas these [] = true
-allHas these (n ∷ ns) =
-    let rest : Bool = allHas these ns in
-    pick (has these n) rest false
+abbrev pub AllOneOf : List ℕ → List ℕ → Type 0
+AllOneOf these [] = Unit {0}
+AllOneOf these (n ∷ ns) = OneOf these n × AllOneOf these ns

@@ -5,7 +5,7 @@ use mathlib.Core.Path.{_≡_, refl, sym, subst}
 use mathlib.Core.List.{List, [], _∷_}
 use mathlib.Core.Bool.{Bool, true, false}
 use types.Run.{OneOf, hit}
-use lib.Dec.{leb, eqb}
+use lib.Dec.{eqb}
 use lib.ListN.{length, getD, take}
 use Rattle.ber_integers.specs.Digits.{pick}
 use Rattle.ber_containers.proofs.Heads.{pick-by}
@@ -15,18 +15,15 @@ use Rattle.framing_c.specs.Calls.{Called, calls}
 use Rattle.framing_c.proofs.Calls.{feed-numbers}
 use Rattle.desk_crosspoints.specs.Figures.{both, sizeOf}
 use Rattle.desk_crosspoints.specs.Crosspoints.{Cells}
-use Rattle.desk_crosspoints.specs.Desk.{Desk, deskLegal, Answer}
-use Rattle.desk_requests.specs.Lists.{has}
+use Rattle.desk_crosspoints.specs.Desk.{Desk, Answer}
 use Rattle.desk_requests.specs.Request.{request}
 use Rattle.desk_calls.specs.Calls.{Outcome, called}
 use Rattle.desk_calls.specs.Numbers.{openNumbers, requestNumbers, callNumbers}
 use Rattle.desk_calls.proofs.Numbers.{open-numbers, request-numbers, call-numbers}
 use Rattle.turns.specs.Turns.{none}
 use Rattle.turns.specs.Whole.{left}
-use Rattle.framing_packets.specs.Written.{into}
-use Rattle.framing_packets.specs.Written.{Outcome as Wrote}
-use Rattle.sheet_rules.specs.Sheet.{sheetOf}
-use Rattle.sheet_writer.specs.Calls.{writesSheet}
+use Rattle.sheet_writer.specs.Numbers.{sheetPutNumbers}
+use Rattle.sheet_writer.proofs.Numbers.{sheet-put-numbers}
 use Rattle.sheet_reader.specs.Calls.{sheetNumbers}
 use Rattle.sheet_reader.proofs.Numbered.{sheet-numbers}
 use Rattle.ember.specs.Words.{figuresAt, deskIn, isFigures}
@@ -34,32 +31,32 @@ use Rattle.ember.specs.Calls.{opens, requests, DeskCall, deskCall, count
 use Rattle.ember.specs.Calls.{SheetPut, measured, sheetWrites, SheetCall, given, sheetReads}
 
 -- `ember_desk_open`: 0, 1, 45
-pub desk-open-numbers : (fs path : List ℕ) (mode : ℕ) (cells : Cells) → has openNumbers (opens fs path mode cells .number) ≡ true
-unfolding opens has
+pub desk-open-numbers : (fs path : List ℕ) (mode : ℕ) (cells : Cells) → OneOf openNumbers (opens fs path mode cells .number)
+unfolding opens
 desk-open-numbers fs path mode cells =
-    pick-by (λ (x : Answer). has openNumbers (x .number) ≡ true) (isFigures fs) (λ e. open-numbers (deskIn fs path cells) mode) (λ e. refl)
+    pick-by (λ (x : Answer). OneOf openNumbers (x .number)) (isFigures fs) (λ e. open-numbers (deskIn fs path cells) mode) (λ e. hit openNumbers 1 tt)
 
 -- `ember_desk_request`: 0, 1, 41 to 44
 pub desk-request-numbers : (fs : List ℕ) (target : ℕ) (sources : List ℕ) (operation : ℕ) (cells : Cells)
-    → has requestNumbers (requests fs target sources operation cells .number) ≡ true
-unfolding requests has
+    → OneOf requestNumbers (requests fs target sources operation cells .number)
+unfolding requests
 desk-request-numbers fs target sources operation cells =
-    pick-by (λ (x : Answer). has requestNumbers (x .number) ≡ true) (isFigures fs)
-    (λ e. request-numbers (deskIn fs [] cells) (request target sources operation)) (λ e. refl)
+    pick-by (λ (x : Answer). OneOf requestNumbers (x .number)) (isFigures fs)
+    (λ e. request-numbers (deskIn fs [] cells) (request target sources operation)) (λ e. hit requestNumbers 1 tt)
 
 -- `ember_desk_call`: 0 or 1
-counted-numbers : (o : Outcome) (lent words : List ℕ) → has callNumbers (o .number) ≡ true → has callNumbers (counted o lent words .number) ≡ true
-unfolding counted has
-counted-numbers o lent words h = pick-by (λ (x : DeskCall). has callNumbers (x .number) ≡ true) (eqb (o .number) 0) (λ e. refl) (λ e. h)
+counted-numbers : (o : Outcome) (lent words : List ℕ) → OneOf callNumbers (o .number) → OneOf callNumbers (counted o lent words .number)
+unfolding counted
+counted-numbers o lent words h = pick-by (λ (x : DeskCall). OneOf callNumbers (x .number)) (eqb (o .number) 0) (λ e. hit callNumbers 0 tt) (λ e. h)
 
 pub desk-call-numbers : (fs path : List ℕ) (root : ℕ) (rows : Rows) (n : ℕ) (s lent : List ℕ) (cells : Cells) (words : List ℕ)
-    → has callNumbers (deskCalls fs path root rows n s lent cells words .number) ≡ true
-unfolding deskCalls has
+    → OneOf callNumbers (deskCalls fs path root rows n s lent cells words .number)
+unfolding deskCalls
 desk-call-numbers fs path root rows n s lent cells words =
-    pick-by (λ (x : DeskCall). has callNumbers (x .number) ≡ true) (both (isFigures fs) (eqb (length words) 1))
+    pick-by (λ (x : DeskCall). OneOf callNumbers (x .number)) (both (isFigures fs) (eqb (length words) 1))
     (λ e.
     counted-numbers (called (deskIn fs path cells) root rows n s) lent words (call-numbers (deskIn fs path cells) root rows n s))
-    (λ e. refl)
+    (λ e. hit callNumbers 1 tt)
 
 -- `ember_turn`: the numbers of a session's call
 after-number : (r : Called) (d : Desk) (table : Rows) (lent a : List ℕ) → turnAfter r d table lent a .number ≡ r .number
@@ -90,20 +87,8 @@ sheet-read-numbers text store fs path cells words =
     (λ e. sheet-numbers text store path cells) (λ e. hit sheetNumbers 1 tt)
 
 -- `ember_sheet_write`: 0, 1, 46
-abbrev pub sheetPutNumbers : List ℕ
-sheetPutNumbers = 0 ∷ 1 ∷ 46 ∷ []
-
-written-numbers : (fs path : List ℕ) (cells : Cells) (out : List ℕ) → OneOf sheetPutNumbers (writesSheet (deskIn fs path cells) out .number)
-unfolding writesSheet into
-written-numbers fs path cells out =
-    pick-by (λ (x : Wrote). OneOf sheetPutNumbers (x .number)) (deskLegal (deskIn fs path cells))
-    (λ e.
-    pick-by (λ (x : Wrote). OneOf sheetPutNumbers (x .number))
-    (leb (length (sheetOf (deskIn fs path cells))) (length out)) (λ k. hit sheetPutNumbers 0 tt) (λ k. hit sheetPutNumbers 46 tt))
-    (λ e. hit sheetPutNumbers 1 tt)
-
 pub sheet-write-numbers : (fs path : List ℕ) (cells : Cells) (out words : List ℕ) → OneOf sheetPutNumbers (sheetWrites fs path cells out words .number)
 unfolding sheetWrites measured
 sheet-write-numbers fs path cells out words =
     pick-by (λ (x : SheetPut). OneOf sheetPutNumbers (x .number)) (both (isFigures fs) (eqb (length words) 1))
-    (λ e. written-numbers fs path cells out) (λ e. hit sheetPutNumbers 1 tt)
+    (λ e. sheet-put-numbers (deskIn fs path cells) out) (λ e. hit sheetPutNumbers 1 tt)

@@ -1,8 +1,8 @@
--- With which numbers a sheet is read: 0, 1, the events' from 10 up, 30 to 38, and 40 to 45.
+-- With which numbers a sheet is read: 0, 1, the events' from 10 up, 30 to 38, and 41 to 45. 40 cannot come (Alone.antt).
 use Prim.Native.Nat.{ℕ, _≤_}
 use mathlib.Core.Path.{_≡_, refl, sym, ap, subst, _∙_}
 use mathlib.Core.List.{List, [], _∷_}
-use mathlib.Core.Bool.{Bool, true, false, true≢false}
+use mathlib.Core.Bool.{Bool, true, false}
 use mathlib.Core.Logic.{_⊎_, inl, inr, ⊎-elim}
 use native.Mathlib.Omega.{arith}
 use borrow.Author.Tests.{eqb-true, eqb-false, eq-eqb}
@@ -11,6 +11,7 @@ use lib.Dec.{ltb, eqb}
 use lib.ListN.{length}
 use Rattle.ber_integers.specs.Digits.{pick}
 use Rattle.ber_integers.proofs.Radix.{Below}
+use Rattle.ber_integers.proofs.Numbers.{widen}
 use Rattle.ber_containers.specs.declared.Onto.{Onto}
 use Rattle.ber_containers.specs.declared.Onto.the-variants.{Next, Refused as Stopped}
 use Rattle.ber_containers.proofs.Heads.{pick-by}
@@ -20,20 +21,22 @@ use Rattle.glow_reader.specs.Message.{refusals}
 use Rattle.glow_reader.proofs.Places.{OntoIn}
 use Rattle.glow_reader.proofs.Within.{walk-in}
 use Rattle.glow_trees.specs.Content.{Item, itemsOf}
+use Rattle.glow_trees.specs.Trees.{Trees, flat}
+use Rattle.glow_trees.specs.Legal.{legalRoot}
 use Rattle.trees_accepted.proofs.Message.{is-legal}
 use Rattle.desk_crosspoints.specs.declared.Figures.{Figures}
 use Rattle.desk_crosspoints.specs.Figures.{both, figuresFit, cellsOf}
 use Rattle.desk_crosspoints.specs.Crosspoints.{Cells, clear}
 use Rattle.desk_crosspoints.specs.Desk.{Desk, withCells, pathFits, deskLegal, answer, deskOpened}
+use Rattle.desk_crosspoints.proofs.Laws.{both-left, both-right}
 use Rattle.desk_crosspoints.proofs.Counts.{clear-length}
 use Rattle.desk_crosspoints.proofs.Paths.{desk-legal}
 use Rattle.desk_crosspoints.proofs.Opened.{open-legal}
 use Rattle.desk_connections.specs.Connections.{asksOf}
 use Rattle.desk_connections.proofs.Paths.{asks-down}
 use Rattle.desk_connections.proofs.Operations.{Operations, legal-operations}
-use Rattle.desk_requests.specs.Lists.{has}
 use Rattle.desk_calls.specs.Calls.{handled}
-use Rattle.desk_calls.specs.Numbers.{answerNumbers, allHas}
+use Rattle.desk_calls.specs.Numbers.{answerNumbers, AllOneOf}
 use Rattle.desk_calls.proofs.Numbers.{served-numbers}
 use Rattle.sheet_rules.specs.Lines.{linesIn}
 use Rattle.sheet_rules.specs.Reading as reading
@@ -44,42 +47,8 @@ use Rattle.sheet_stream.specs.Finding.{heldNumbers, storeAfter}
 use Rattle.sheet_stream.proofs.Messages.{held-short, held-octets}
 use Rattle.sheet_stream.proofs.Numbers.{held-numbers}
 use Rattle.sheet_stream.proofs.Numbers as stream
+use Rattle.sheet_reader.proofs.Alone.{Of, Not40, alone-asks, served-not-40}
 use Rattle.sheet_reader.specs.Calls.{Outcome, outcome, setup, leaves, isReady, sheetRead, refusedNumbers, sheetNumbers}
-
--- ---- lists of numbers
-
--- each of some numbers is one of others
-allIn : List ℕ → List ℕ → Bool
-allIn [] js = true
-allIn (k ∷ ks) js = pick (has js k) (allIn ks js) false
-
-one-has : (ks : List ℕ) (n : ℕ) → has ks n ≡ true → OneOf ks n
-unfolding has
-one-has [] n h = absurd (true≢false (sym h))
-one-has (k ∷ []) n h = go (eqb k n) refl h
-  where
-    go : (u : Bool) → eqb k n ≡ u → pick u true false ≡ true → n ≡ k
-    go true q z = sym (eqb-true k n q)
-    go false q z = absurd (true≢false (sym z))
-one-has (k ∷ j ∷ ks) n h = go (eqb k n) refl h (one-has (j ∷ ks) n)
-  where
-    go : (u : Bool) → eqb k n ≡ u → pick u true (has (j ∷ ks) n) ≡ true → (has (j ∷ ks) n ≡ true → OneOf (j ∷ ks) n) → (n ≡ k) ⊎ OneOf (j ∷ ks) n
-    go true q z f = inl (sym (eqb-true k n q))
-    go false q z f = inr (f z)
-
-widen : (ks js : List ℕ) (n : ℕ) → allIn ks js ≡ true → OneOf ks n → OneOf js n
-unfolding allIn
-widen [] js n h o = absurd o
-widen (k ∷ []) js n h e = go (has js k) refl h
-  where
-    go : (u : Bool) → has js k ≡ u → pick u true false ≡ true → OneOf js n
-    go true q z = subst (OneOf js) (sym e) (one-has js k q)
-    go false q z = absurd (true≢false (sym z))
-widen (k ∷ j ∷ ks) js n h o = go (has js k) refl h (widen (j ∷ ks) js n)
-  where
-    go : (u : Bool) → has js k ≡ u → pick u (allIn (j ∷ ks) js) false ≡ true → (allIn (j ∷ ks) js ≡ true → OneOf (j ∷ ks) n → OneOf js n) → OneOf js n
-    go true q z f = ⊎-elim (λ (e : n ≡ k). subst (OneOf js) (sym e) (one-has js k q)) (λ (r : OneOf (j ∷ ks) n). f z r) o
-    go false q z f = absurd (true≢false (sym z))
 
 -- ---- what reading gives
 
@@ -87,20 +56,20 @@ abbrev pub Numbered : reading.Sheet → Type 0
 Numbered (refused n) = OneOf refusedNumbers n
 Numbered (reading.read d) = Unit {0}
 
--- the desk's answers: the first that is not 0
-first-refused : (ns : List ℕ) → allHas answerNumbers ns ≡ true → (firstRefused ns ≡ 0 → ⊥) → OneOf (40 ∷ 41 ∷ 42 ∷ 43 ∷ 44 ∷ []) (firstRefused ns)
-unfolding firstRefused allHas
-first-refused [] h z = absurd (z refl)
-first-refused (n ∷ ns) h z = go (eqb n 0) refl (has answerNumbers n) refl h z (first-refused ns)
+-- the desk's answers, with no 40 among them: the first that is not 0
+first-refused : (ns : List ℕ) → AllOneOf answerNumbers ns → Not40 ns → (firstRefused ns ≡ 0 → ⊥) → OneOf (41 ∷ 42 ∷ 43 ∷ 44 ∷ []) (firstRefused ns)
+unfolding firstRefused
+first-refused [] h m z = absurd (z refl)
+first-refused (n ∷ ns) h m z = go (eqb n 0) z (first-refused ns (h .1) (m .1))
   where
-    go : (u : Bool) → eqb n 0 ≡ u → (v : Bool) → has answerNumbers n ≡ v → pick v (allHas answerNumbers ns) false ≡ true
-        → (pick u (firstRefused ns) n ≡ 0 → ⊥)
-        → (allHas answerNumbers ns ≡ true → (firstRefused ns ≡ 0 → ⊥) → OneOf (40 ∷ 41 ∷ 42 ∷ 43 ∷ 44 ∷ []) (firstRefused ns))
-        → OneOf (40 ∷ 41 ∷ 42 ∷ 43 ∷ 44 ∷ []) (pick u (firstRefused ns) n)
-    go u e false q k g f = absurd (true≢false (sym k))
-    go true e true q k g f = f k g
-    go false e true q k g f =
-        ⊎-elim (λ (d : n ≡ 0). absurd (g d)) (λ (r : OneOf (40 ∷ 41 ∷ 42 ∷ 43 ∷ 44 ∷ []) n). r) (one-has answerNumbers n q)
+    go : (u : Bool) → (pick u (firstRefused ns) n ≡ 0 → ⊥) → ((firstRefused ns ≡ 0 → ⊥) → OneOf (41 ∷ 42 ∷ 43 ∷ 44 ∷ []) (firstRefused ns))
+        → OneOf (41 ∷ 42 ∷ 43 ∷ 44 ∷ []) (pick u (firstRefused ns) n)
+    go true g f = f g
+    go false g f =
+        ⊎-elim (λ (d : n ≡ 0). absurd (g d))
+        (λ (r : OneOf (40 ∷ 41 ∷ 42 ∷ 43 ∷ 44 ∷ []) n).
+        ⊎-elim (λ (d : n ≡ 40). absurd (m .0 d)) (λ (q : OneOf (41 ∷ 42 ∷ 43 ∷ 44 ∷ []) n). q) r)
+        (h .0)
 
 -- opening an empty desk: 0 or 45
 open-number : (f : Figures) (path : List ℕ) (mode : ℕ) → (deskOpened (emptyDesk f path) mode .number ≡ 0 → ⊥)
@@ -118,42 +87,50 @@ open-number f path mode = rw (eq-eqb _ _ (clear-length (cellsOf f))) (go (figure
     go false v z = refl
 
 module _ (es : List Item) (operations : Operations (asksOf es)) where
-  applied-numbers : (d : Desk) → deskLegal d ≡ true → (e : Desk) → Numbered (applied e (handled d es))
-  unfolding applied handled allIn has
-  applied-numbers d h e =
+  applied-numbers : (d : Desk) → deskLegal d ≡ true → Of (d .path) (asksOf es) → (e : Desk) → Numbered (applied e (handled d es))
+  unfolding applied handled
+  applied-numbers d h one e =
       let ns = handled d es .answers in
       let k = served-numbers d (asksOf es) (desk-legal d h) operations in
+      let m = served-not-40 d (asksOf es) one in
       pick-by Numbered (eqb (firstRefused ns) 0) (λ e. tt)
-      (λ e. widen (40 ∷ 41 ∷ 42 ∷ 43 ∷ 44 ∷ []) refusedNumbers _ refl (first-refused ns k (eqb-false (firstRefused ns) 0 e)))
+      (λ e. widen (41 ∷ 42 ∷ 43 ∷ 44 ∷ []) refusedNumbers _ refl (first-refused ns k m (eqb-false (firstRefused ns) 0 e)))
 
-  opens-numbers : (f : Figures) (path : List ℕ) (mode : ℕ) → Numbered (opens f path mode es)
+  opens-numbers : (f : Figures) (path : List ℕ) (mode : ℕ) → Of path (asksOf es) → Numbered (opens f path mode es)
   unfolding opens begun
-  opens-numbers f path mode =
+  opens-numbers f path mode one =
       let d = emptyDesk f path in
       let a = deskOpened d mode in
       pick-by Numbered (eqb (a .number) 0)
-      (λ e. applied-numbers (withCells d (a .cells)) (open-legal d mode (eqb-true (a .number) 0 e)) d)
+      (λ e. applied-numbers (withCells d (a .cells)) (open-legal d mode (eqb-true (a .number) 0 e)) one d)
       (λ e. subst (OneOf refusedNumbers) (sym (open-number f path mode (eqb-false (a .number) 0 e))) (hit refusedNumbers 45 tt))
 
-entries-numbers : (es : List Item) → Operations (asksOf es) → Numbered (ofEntries es)
+-- the entries of a legal tree
+entries-numbers : (root : ℕ) (t : Trees) → legalRoot root t ≡ true → (es : List Item) → flat 0 0 t ≡ es → Operations (asksOf es)
+    → Numbered (ofEntries es)
 unfolding ofEntries
-entries-numbers [] o = hit refusedNumbers 33 tt
-entries-numbers (e ∷ es) o =
-    pick-by Numbered (both (eqb (e .kind) 7) (allLinks es)) (λ h. opens-numbers (e ∷ es) o (figuresIn e) (pathIn e) (modeIn e)) (λ h. hit refusedNumbers 33 tt)
+entries-numbers root t l [] q o = hit refusedNumbers 33 tt
+entries-numbers root t l (e ∷ es) q o =
+    pick-by Numbered (both (eqb (e .kind) 7) (allLinks es))
+    (λ h.
+    let k = eqb-true (e .kind) 7 (both-left (eqb (e .kind) 7) (allLinks es) h) in
+    let m = alone-asks root t l e es q k (both-right (eqb (e .kind) 7) (allLinks es) h) in
+    opens-numbers (e ∷ es) o (figuresIn e) (pathIn e) (modeIn e) m)
+    (λ h. hit refusedNumbers 33 tt)
 
 -- "Type and operation are 0 to 2": so are those of a message that is read
 answer-numbers : (m : List ℕ) → Below 256 m → length m ≤ 16384 → (a : Onto) → walk m .out .answer ≡ a → OntoIn m 0 a
     → Numbered (ofAnswer m (walk m .out .entries) a)
-unfolding allIn has
 answer-numbers m octets short (Next next) e w =
     let l = is-legal m octets short e in
     let k : asksOf (itemsOf m (walk m .out .entries)) ≡ _ = ap asksOf (l .1 .1) ∙ asks-down (walk m .which) (l .0) (l .1 .0) in
     let o = subst Operations (sym k) (legal-operations (walk m .which) (l .0) (l .1 .0)) in
-    pick-by Numbered (ltb 256 (length (walk m .out .entries))) (λ h. hit refusedNumbers 38 tt) (λ h. entries-numbers (itemsOf m (walk m .out .entries)) o)
+    pick-by Numbered (ltb 256 (length (walk m .out .entries))) (λ h. hit refusedNumbers 38 tt)
+    (λ h. entries-numbers (walk m .which) (l .0) (l .1 .0) (itemsOf m (walk m .out .entries)) (sym (l .1 .1)) o)
 answer-numbers m octets short (Stopped x) e w = widen refusals refusedNumbers _ refl (w .1)
 
 read-numbers : (text : List ℕ) → Numbered (readSheet text)
-unfolding readSheet ofMessage allIn has
+unfolding readSheet ofMessage
 read-numbers text = go (heldIn (linesIn text)) refl (held-numbers (linesIn text))
   where
     go : (h : Held) → heldIn (linesIn text) ≡ h → stream.Numbered h → Numbered (ofHeld h)

@@ -57,12 +57,13 @@ told Setup store path cells = outcome 1 setup store path cells
 told (Refused n) store path cells = outcome n none store path cells
 told (Read f n) store path cells = outcome 0 (desk f n) store path cells
 
--- The rows of "Numbers answered" that refuse a sheet: the events from 10 up, 12 for a bad line among them; the tree's, 38 ROOM, and 33 once more; the desk's.
+-- The rows of "Numbers answered" that refuse a sheet: the events from 10 up, 12 for a bad line among them; the tree's, 38 ROOM, and 33 once more; the desk's but 40 MATRIX,
+-- since all the connections name the one matrix.
 abbrev pub refusedNumbers : List ℕ
 refusedNumbers =
     10 ∷ 11 ∷ 12 ∷ 13 ∷ 14 ∷ 15 ∷ 16 ∷ 20 ∷ 21 ∷ 22 ∷ 23 ∷ 24
     ∷ 30 ∷ 31 ∷ 32 ∷ 33 ∷ 34 ∷ 35 ∷ 36 ∷ 37 ∷ 38
-    ∷ 40 ∷ 41 ∷ 42 ∷ 43 ∷ 44 ∷ 45 ∷ []
+    ∷ 41 ∷ 42 ∷ 43 ∷ 44 ∷ 45 ∷ []
 
 -- .. and that the call may answer: 0 done, 1 SETUP
 abbrev pub sheetNumbers : List ℕ

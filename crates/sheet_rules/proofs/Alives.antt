@@ -79,7 +79,7 @@ framed-once {f} r m =
 
 -- ---- what counts of the events: the first fault, the messages finished, and the state at the end
 
-record Same (hs : List Happening) (s : State) (ks : List Happening) (t : State) : Type 0 where
+pub record Same (hs : List Happening) (s : State) (ks : List Happening) (t : State) : Type 0 where
   pub faults : firstFault hs ≡ firstFault ks
   pub messages : finished hs ≡ finished ks
   pub states : s ≡ t
@@ -117,12 +117,12 @@ same-by a b c d r =
       states = b ∙ r .states ∙ sym d;
     }
 
-abbrev Alike : Message → ℕ → ℕ → List (List ℕ) → List (List ℕ) → Type 0
+abbrev pub Alike : Message → ℕ → ℕ → List (List ℕ) → List (List ℕ) → Type 0
 Alike m n k fs gs =
     Same (happens (state outside m) n (joined fs)) (after (state outside m) (joined fs)) (happens (state outside m) k (joined gs))
     (after (state outside m) (joined gs))
 
-alike : {fs gs : List (List ℕ)} → AllFramed fs → WithAlives fs gs → (m : Message) (n k : ℕ) → Alike m n k fs gs
+pub alike : {fs gs : List (List ℕ)} → AllFramed fs → WithAlives fs gs → (m : Message) (n k : ℕ) → Alike m n k fs gs
 unfolding happens after firstFault finished
 alike r end m n k = record { faults = refl; messages = refl; states = refl }
 alike r (own {fs} {gs} f w) m n k =
@@ -147,7 +147,7 @@ framed-some : {f : List ℕ} → Framed f → Some f
 unfolding frame
 framed-some r = subst Some (sym (r .is)) tt
 
-framed-all : (fs : List (List ℕ)) → AllFramed fs → AllSome fs
+pub framed-all : (fs : List (List ℕ)) → AllFramed fs → AllSome fs
 framed-all [] r = tt
 framed-all (f ∷ fs) r = (framed-some (r .0), framed-all fs (r .1))
 

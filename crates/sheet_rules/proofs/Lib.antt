@@ -8,5 +8,6 @@ pub mod Suited
 pub mod Sizes
 pub mod Reals
 pub mod Theorems
+pub mod Anywhere
 pub mod Breaks
 pub mod Table

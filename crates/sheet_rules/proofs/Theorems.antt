@@ -33,7 +33,7 @@ module _ (d : Desk) (ok : deskLegal d ≡ true) where
   short : length (sheetMessage d) ≤ 16384
   short = let s = sheet-size d ok in omega (arith, s)
 
-  bytes : Bytes (sheetMessage d)
+  pub bytes : Bytes (sheetMessage d)
   bytes = bytes-of (sheetMessage d) (sheet-below d (sheet-legal d ok) (sheet-octets d ok) short)
 
   tree-read : ofMessage (sheetMessage d) ≡ read d

@@ -3,3 +3,4 @@ pub mod Entries
 pub mod Packets
 pub mod Answers
 pub mod Theorems
+pub mod Numbers

@@ -1,5 +1,5 @@
--- The words of the theorems (proofs/Theorems.antt): a message read as entries, and what the writer answers for rows. `readAt` is what glow_reader::read answers and
--- leaves, `writes` what glow_writer::write does; `itemsIn s rows count` are the entries of the first `count` rows, with the message s beside them.
+-- The words of the theorems (proofs/Theorems.antt): a message read as entries, and what the writer answers for rows. `readAt` is what glow_reader::read
+-- answers and leaves, `writes` what glow_writer::write does; `itemsIn s rows count` are the entries of the first `count` rows, with the message s beside them.
 use Prim.Native.Nat.{ℕ, _≤_}
 use mathlib.Core.Path.{_≡_}
 use mathlib.Core.List.{List}
