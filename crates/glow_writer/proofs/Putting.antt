@@ -344,11 +344,11 @@ module _ (kind : ℕ) (s row : List ℕ) where
       w u .1 p o (subst (λ (n : ℕ). Puts o p (membersOctets writtenReal (c - from) (cells n c)) p o) (sym z) (puts-none o p))
 
 -- ---- Root's collection
-pub root-first : (root : ℕ) → root ≡ 0 → 107 ≡ 96 + rootNumber root
+pub root-first : (root : ℕ) → root ≡ 0 → 96 + grammar.rootElementCollection ≡ 96 + rootNumber root
 unfolding rootNumber
 root-first root h = simp (eq-eqb _ _ h)
 
-pub root-other : (root : ℕ) → (root ≡ 0 → ⊥) → 101 ≡ 96 + rootNumber root
+pub root-other : (root : ℕ) → (root ≡ 0 → ⊥) → 96 + grammar.streamCollection ≡ 96 + rootNumber root
 unfolding rootNumber
 root-other root h = simp (ne-eqb _ _ h)
 
