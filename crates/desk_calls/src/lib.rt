@@ -11,11 +11,12 @@ use glow_rows::word_at;
 ghost use mathlib.Core.Path.{_≡_};
 ghost use mathlib.Core.List.{List, []};
 ghost use mathlib.Core.Bool.{true};
-ghost use Prim.Native.Nat.{ℕ, _+_, _≤_, _<_};
+ghost use Prim.Native.Nat.{ℕ, _+_, _*_, _≤_, _<_};
 ghost use lib.ListN.{length, getD};
-ghost use Rattle.desk_crosspoints.specs.Crosspoints.{clear, legal};
+ghost use Rattle.desk_crosspoints.specs.Figures.{cellsOf};
+ghost use Rattle.desk_crosspoints.specs.Crosspoints.{clear, count, takenFrom, withRow, legal};
 ghost use Rattle.desk_crosspoints.specs.Desk.{deskAt, answer};
-ghost use Rattle.desk_requests.specs.Request.{request, requested};
+ghost use Rattle.desk_requests.specs.Request.{request, named, others, requested};
 ghost use Rattle.desk_calls.specs.Calls.{outcome, called, told};
 ghost use Rattle.desk_calls.specs.Steps.{askedOf, answeredAt, servedIn, Takes};
 
@@ -30,6 +31,71 @@ fn index(x: u64) -> usize
     ensures { λ r. ⌜ r ≡ x ⌝ }
 {
     x as usize
+}
+
+// The first source named, 0 if there is none.
+fn first(sources: &[u64]) -> u64
+    ensures { λ r. ⌜ getD (now (sources .entry)) 0 0 ≡ r ⌝ }
+{
+    if 0 < sources.len() {
+        return sources[0];
+    }
+    0
+}
+
+// A source taken from every one of n targets, rows of w cells.
+fn take_from(cells: &mut [u8], n: u64, w: u64, s: u64)
+    requires { ⌜ (length (now cells) ≡ n * w) × (s + 1 ≤ w) ⌝ }
+    ensures { λ _. ⌜ now (cells .exit) ≡ takenFrom w (now (cells .entry)) s n ⌝ }
+{
+    let mut t = n;
+    while 0 < t {
+        t -= 1;
+        let i = index(t * w + s);
+        cells[i] = 0;
+    }
+}
+
+// In 1:1, absolute or connect with one source takes it from every target; `ones` counts the sources named.
+fn free(f: Figures, sources: &[u64], operation: u64, ones: u64, cells: &mut [u8])
+    requires { ⌜ length (now cells) ≡ cellsOf f ⌝ }
+    requires { ⌜ getD (now sources) 0 0 + 1 ≤ f .sources ⌝ }
+    requires { ⌜ count (named (f .sources) (now sources)) ≡ ones ⌝ }
+    ensures { λ _. ⌜ now (cells .exit) ≡ others f (now (sources .entry)) operation (now (cells .entry)) ⌝ }
+{
+    if f.kind != 1 {
+        return;
+    }
+    if 2 <= operation {
+        return;
+    }
+    if ones != 1 {
+        return;
+    }
+    take_from(cells, f.targets, f.sources, first(sources));
+}
+
+// One list of cells over another of the same length.
+fn copy(to: &mut [u8], from: &[u8])
+    requires { ⌜ length (now to) ≡ length (now from) ⌝ }
+    ensures { λ _. ⌜ now (to .exit) ≡ now (from .entry) ⌝ }
+{
+    let mut i = 0;
+    while i < from.len() {
+        to[i] = from[i];
+        i += 1;
+    }
+}
+
+// Other cells for a target.
+fn put_row(cells: &mut [u8], target: u64, row: &[u8])
+    requires { ⌜ target * length (now row) + length (now row) ≤ length (now cells) ⌝ }
+    ensures { λ _. ⌜ now (cells .exit) ≡ withRow (length (now (row .entry))) (now (cells .entry)) target (now (row .entry)) ⌝ }
+{
+    let t = index(target);
+    let from = t * row.len();
+    let to = from + row.len();
+    copy(&mut cells[from..to], row);
 }
 
 // A request on a legal desk; `row` is scratch, a cell for each source.
@@ -50,7 +116,8 @@ fn ask(
     if told.number != 0 {
         return told.number;
     }
-    desk_requests::carry_out(f, target, sources, operation, told.ones, row, crosspoints);
+    free(f, sources, operation, told.ones, crosspoints);
+    put_row(crosspoints, target, row);
     0
 }
 

@@ -47,12 +47,13 @@ pub taken-more : (w : ℕ) (cells cells′ : Cells) (s t n : ℕ) → t ≡ suc 
 unfolding takenFrom
 taken-more w cells cells′ s t n k e = rw (k, e)
 
-pub copy-more : (to from : Cells) (i : ℕ) → i < length from → length to ≡ length from → take i to ≡ take i from
-    → take (i + 1) (set to i (getD from i 0)) ≡ take (i + 1) from
-copy-more to from i h k e =
+pub copy-more : (to from : Cells) (i v : ℕ) → i < length from → length to ≡ length from → v ≡ getD from i 0 → take i to ≡ take i from
+    → take (i + 1) (set to i v) ≡ take (i + 1) from
+copy-more to from i v h k g e =
     let d : i + 1 ≡ suc i = omega arith in
-    ap (λ (j : ℕ). take j (set to i (getD from i 0))) d ∙ take-suc-set to i (getD from i 0) (omega (arith, h, k))
-    ∙ ap (λ (x : Cells). x ++ (getD from i 0 ∷ [])) e ∙ sym (take-suc from i 0 h) ∙ ap (λ (j : ℕ). take j from) (sym d)
+    ap (λ (j : ℕ). take j (set to i v)) d ∙ take-suc-set to i v (omega (arith, h, k))
+    ∙ ap (λ (x : Cells). x ++ (v ∷ [])) e ∙ ap (λ (x : ℕ). take i from ++ (x ∷ [])) g
+    ∙ sym (take-suc from i 0 h) ∙ ap (λ (j : ℕ). take j from) (sym d)
 
 pub copy-end : (to from : Cells) (i : ℕ) → length from ≤ i → length to ≡ length from → take i to ≡ take i from → to ≡ from
 copy-end to from i h k e = sym (take-all i to (omega (arith, h, k))) ∙ e ∙ take-all i from h

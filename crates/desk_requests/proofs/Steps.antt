@@ -1,24 +1,24 @@
--- Laws of what the functions tell and leave on a desk that is known to be legal.
+-- Laws of what the checks tell on a desk that is known to be legal, and of what is left after them.
 use Prim.Native.Nat.{ℕ, _+_, _*_, _≤_, _<_}
 use mathlib.Core.Path.{_≡_, refl, sym, ap, _∙_}
 use mathlib.Core.List.{List}
 use mathlib.Core.Bool.{Bool, true, false}
 use mathlib.Core.Logic.{⊎-elim}
 use native.Mathlib.Omega.{arith}
-use borrow.Author.Tests.{eqb-true, le-leb, lt-leb, lt-ltb, le-ltb, eq-eqb, ne-eqb}
+use borrow.Author.Tests.{eqb-true, le-leb, lt-leb, eq-eqb, ne-eqb}
 use lib.ListN.{length, getD}
 use lib.Dec.{eqb}
 use Rattle.ber_integers.specs.Digits.{pick}
 use Rattle.ber_integers.proofs.Radix.{lt-or-le}
 use Rattle.desk_crosspoints.specs.declared.Figures.{Figures}
 use Rattle.desk_crosspoints.specs.Figures.{both, isCount, figuresFit, cellsOf, sizeOf}
-use Rattle.desk_crosspoints.specs.Crosspoints.{Cells, count, rowAt, withRow, takenFrom, legal}
+use Rattle.desk_crosspoints.specs.Crosspoints.{Cells, count, rowAt, withRow, legal}
 use Rattle.desk_crosspoints.specs.Desk.{Desk, deskAt, answer}
 use Rattle.desk_crosspoints.proofs.Laws.{both-left, both-right, count-some, fit-counts, fit-sources-some}
 use Rattle.desk_crosspoints.proofs.Under.{rows-apart, rows-le}
 use Rattle.desk_crosspoints.proofs.Legal.{legal-fit, legal-length}
-use Rattle.desk_requests.specs.Request.{Request, named, takes, others, rowAfter, result, many, overTotal, checks, judged, asked, requested}
-use Rattle.desk_requests.specs.Steps.{fits, told, freed, carried}
+use Rattle.desk_requests.specs.Request.{Request, named, others, rowAfter, result, many, overTotal, checks, judged, asked, requested}
+use Rattle.desk_requests.specs.Steps.{fits, told}
 use Rattle.desk_requests.proofs.Parts.{first-below}
 use Rattle.desk_requests.proofs.Answers.{request-asked, request-none, asked-no, asked-yes}
 use Rattle.desk_requests.proofs.Claims.{Granted, granted}
@@ -37,28 +37,6 @@ list-size n m l r e h = h ∙ ap (λ (x : ℕ). named x l) e
 
 pub list-count : (n m : ℕ) (l : List ℕ) (r : Cells) (x : ℕ) → n ≡ m → r ≡ named n l → count r ≡ x → count (named m l) ≡ x
 list-count n m l r x e h k = ap count (sym (list-size n m l r e h)) ∙ k
-
-module _ (f : Figures) (l : List ℕ) (operation ones : ℕ) (cells : Cells) where
-  pub freed-kind : (f .kind ≡ 1 → ⊥) → freed f l operation ones cells ≡ cells
-  unfolding freed
-  freed-kind h = simp (ne-eqb _ _ h)
-
-  pub freed-less : f .kind ≡ 1 → 2 ≤ operation → freed f l operation ones cells ≡ cells
-  unfolding freed
-  freed-less h k = rw (h, le-ltb _ _ k)
-
-  pub freed-none : f .kind ≡ 1 → operation < 2 → (ones ≡ 1 → ⊥) → freed f l operation ones cells ≡ cells
-  unfolding freed
-  freed-none h k d = rw (h, lt-ltb _ _ k, ne-eqb _ _ d)
-
-  pub freed-take : (s : ℕ) → f .kind ≡ 1 → operation < 2 → ones ≡ 1 → getD l 0 0 ≡ s
-      → freed f l operation ones cells ≡ takenFrom (f .sources) cells s (f .targets)
-  unfolding freed
-  freed-take s h k d g = rw (h, lt-ltb _ _ k, d, g)
-
-  pub freed-others : count (named (f .sources) l) ≡ ones → freed f l operation ones cells ≡ others f l operation cells
-  unfolding freed others takes
-  freed-others e = rw e
 
 -- figures out of range have no size, and others have one
 module _ (f : Figures) (n : ℕ) (e : sizeOf f ≡ n) where
@@ -124,32 +102,6 @@ module _ (d : Desk) (req : Request) (row : Cells) where
   unfolding told
   told-judged h o n j = rw (h, le-leb _ _ o) j
 
-  pub carried-unfit : (ones : ℕ) → fits (d .figures) (length (d .crosspoints)) (length row) ≡ false → carried d req ones row ≡ d .crosspoints
-  unfolding carried
-  carried-unfit ones h = rw h
-
-  module _ (ones : ℕ) (h : fit) where
-    pub carried-target : d .figures .targets ≤ req .target → carried d req ones row ≡ d .crosspoints
-    unfolding carried
-    carried-target k = rw (h, le-ltb _ _ k)
-
-    pub carried-source : req .target < d .figures .targets → d .figures .sources ≤ getD (req .sources) 0 0 → carried d req ones row ≡ d .crosspoints
-    unfolding carried
-    carried-source t k = rw (h, lt-ltb _ _ t, le-ltb _ _ k)
-
-    pub carried-rest : req .target < d .figures .targets → getD (req .sources) 0 0 < d .figures .sources
-        → carried d req ones row
-        ≡ withRow (d .figures .sources) (freed (d .figures) (req .sources) (req .operation) ones (d .crosspoints)) (req .target) row
-    unfolding carried
-    carried-rest t k = rw (h, lt-ltb _ _ t, lt-ltb _ _ k)
-
-    pub carried-done : req .target < d .figures .targets → getD (req .sources) 0 0 < d .figures .sources
-        → (w : ℕ) (some after : Cells) → w ≡ d .figures .sources
-        → some ≡ freed (d .figures) (req .sources) (req .operation) ones (d .crosspoints) → after ≡ withRow w some (req .target) row → after ≡ carried d req ones row
-    carried-done t k w some after e g a =
-        a ∙ ap (λ (x : ℕ). withRow x some (req .target) row) e ∙ ap (λ (x : Cells). withRow (d .figures .sources) x (req .target) row) g
-        ∙ sym (carried-rest t k)
-
 -- on a legal desk they are the request
 module _ (d : Desk) (req : Request) (h : legal (d .figures) (d .crosspoints) ≡ true) where
   pub legal-fits : (w : ℕ) → w ≡ d .figures .sources → fits (d .figures) (length (d .crosspoints)) w ≡ true
@@ -169,7 +121,7 @@ module _ (d : Desk) (req : Request) (h : legal (d .figures) (d .crosspoints) ≡
         ⊎-elim (λ (o : 2 < req .operation). request-none d req o ∙ ap (λ (x : ℕ). answer x (d .crosspoints)) (sym (none o) ∙ t))
         (λ (o : req .operation ≤ 2). request-asked d req h o ∙ asked-no d req n (sym (same o) ∙ t) z) (lt-or-le 2 (req .operation))
 
-    module _ (n ones : ℕ) (t : told d req row ≡ n) (z : n ≡ 0) where
+    module _ (n : ℕ) (t : told d req row ≡ n) (z : n ≡ 0) where
       known : req .operation ≤ 2
       known =
           ⊎-elim (λ (o : 2 < req .operation). absurd (omega (arith, sym (none o) ∙ t, z))) (λ (o : req .operation ≤ 2). o) (lt-or-le 2 (req .operation))
@@ -177,18 +129,23 @@ module _ (d : Desk) (req : Request) (h : legal (d .figures) (d .crosspoints) ≡
       passed : judged d req ≡ 0
       passed = sym (same known) ∙ t ∙ z
 
-      -- .. with the target's cells, and the sources named counted
-      pub told-done : (new after : Cells) → length new ≡ d .figures .sources → new ≡ rowAfter d req → count (named (d .figures .sources) (req .sources)) ≡ ones
-          → after ≡ carried d req ones new → requested d req ≡ answer 0 after
-      unfolding result
-      told-done new after l r c a =
+      -- target and first source are the desk's
+      pub told-there : req .target + 1 ≤ d .figures .targets
+      told-there = let g : Granted d req = granted d req passed in omega (arith, g .there)
+
+      pub told-first : getD (req .sources) 0 0 + 1 ≤ d .figures .sources
+      told-first =
           let g : Granted d req = granted d req passed in
-          let s = first-below (d .figures .sources) (d .figures .sources) (req .sources) (getD (req .sources) 0 0) (omega arith)
-          (fit-sources-some (d .figures) (legal-fit (d .figures) (d .crosspoints) h)) (g .below) refl in
+          first-below (d .figures .sources) (d .figures .sources) (req .sources) (getD (req .sources) 0 0) (omega arith)
+          (fit-sources-some (d .figures) (legal-fit (d .figures) (d .crosspoints) h)) (g .below) refl
+
+      -- .. with the target's cells
+      pub told-done : (w : ℕ) (some new after : Cells) → w ≡ d .figures .sources
+          → some ≡ others (d .figures) (req .sources) (req .operation) (d .crosspoints) → new ≡ rowAfter d req
+          → after ≡ withRow w some (req .target) new → requested d req ≡ answer 0 after
+      told-done w some new after l o r a =
           request-asked d req h known
-          ∙ asked-yes d req (freed (d .figures) (req .sources) (req .operation) ones (d .crosspoints)) new after passed
-          (freed-others (d .figures) (req .sources) (req .operation) ones (d .crosspoints) c) r
-          (a ∙ carried-rest d req new ones (legal-fits (length new) l) (g .there) (omega (arith, s)))
+          ∙ asked-yes d req some new after passed o r (a ∙ ap (λ (x : ℕ). withRow x some (req .target) new) l)
 
 -- a request does not look at the path
 pub request-path : (d : Desk) (path : List ℕ) (req : Request) → requested d req ≡ requested (deskAt (d .figures) path (d .crosspoints)) req

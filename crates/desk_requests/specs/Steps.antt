@@ -1,13 +1,12 @@
 -- For the functions of this crate: parts of a request for a caller that knows the desk to be legal.
 use Prim.Native.Nat.{ℕ}
 use mathlib.Core.Bool.{Bool}
-use mathlib.Core.List.{List}
-use lib.ListN.{length, getD}
-use lib.Dec.{leb, ltb, eqb}
+use lib.ListN.{length}
+use lib.Dec.{leb, eqb}
 use Rattle.ber_integers.specs.Digits.{pick}
 use Rattle.desk_crosspoints.specs.declared.Figures.{Figures}
-use Rattle.desk_crosspoints.specs.Figures.{oneToOne, both, figuresFit, cellsOf}
-use Rattle.desk_crosspoints.specs.Crosspoints.{Cells, withRow, takenFrom}
+use Rattle.desk_crosspoints.specs.Figures.{both, figuresFit, cellsOf}
+use Rattle.desk_crosspoints.specs.Crosspoints.{Cells}
 use Rattle.desk_crosspoints.specs.Desk.{Desk}
 use Rattle.desk_requests.specs.Request.{Request, disconnect, judged}
 
@@ -20,17 +19,3 @@ fits f n w = both (figuresFit f) (both (eqb n (cellsOf f)) (eqb w (f .sources)))
 unfoldable pub told : Desk → Request → Cells → ℕ
 told d r row =
     pick (both (fits (d .figures) (length (d .crosspoints)) (length row)) (leb (r .operation) disconnect)) (judged d r) 1
-
--- for 1:1, absolute or connect with `ones` = 1 takes the first source from every target
-unfoldable pub freed : Figures → List ℕ → ℕ → ℕ → Cells → Cells
-freed f sources operation ones cells =
-    pick (both (eqb (f .kind) oneToOne) (both (ltb operation disconnect) (eqb ones 1)))
-    (takenFrom (f .sources) cells (getD sources 0 0) (f .targets)) cells
-
--- other cells for a target, and its source taken from the others; nothing where lengths, target or first source are not the desk's
-unfoldable pub carried : Desk → Request → ℕ → Cells → Cells
-carried d r ones row =
-    pick (both (fits (d .figures) (length (d .crosspoints)) (length row))
-    (both (ltb (r .target) (d .figures .targets)) (ltb (getD (r .sources) 0 0) (d .figures .sources))))
-    (withRow (d .figures .sources) (freed (d .figures) (r .sources) (r .operation) ones (d .crosspoints)) (r .target) row)
-    (d .crosspoints)

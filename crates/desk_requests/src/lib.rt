@@ -1,18 +1,18 @@
-// What a request does, for a desk that is known to be legal: the checks in their order, and the crosspoints that it asks for. The request itself, which judges
-// the desk first, is in desk_calls.
+// The checks of a request in their order, for a desk that is known to be legal. Nothing here changes a crosspoint: the request itself, which judges the desk
+// first, is in desk_calls.
 use desk_crosspoints::Figures;
 ghost use mathlib.Core.Path.{_≡_};
 ghost use mathlib.Core.List.{[]};
 ghost use mathlib.Core.Bool.{true};
 ghost use Prim.Native.Nat.{_+_, _-_, _*_, _≤_};
 ghost use lib.Dec.{ltb, eqb};
-ghost use lib.ListN.{length, getD, set};
+ghost use lib.ListN.{length, set};
 ghost use Rattle.ber_integers.specs.Digits.{pick};
 ghost use Rattle.desk_crosspoints.specs.Figures.{side, mostCells, both, cellsOf, mostEach, mostTotal};
-ghost use Rattle.desk_crosspoints.specs.Crosspoints.{count, takenFrom, rowAt, withRow};
+ghost use Rattle.desk_crosspoints.specs.Crosspoints.{count, rowAt};
 ghost use Rattle.desk_crosspoints.specs.Desk.{deskAt};
 ghost use Rattle.desk_requests.specs.Request.{request, marked, named, becomes, allBelow, rowAfter, judged};
-ghost use Rattle.desk_requests.specs.Steps.{fits, told, freed, carried};
+ghost use Rattle.desk_requests.specs.Steps.{fits, told};
 
 // The number of the first check that fails, 0 where none does, and how many sources are named.
 pub struct Judged {
@@ -51,30 +51,6 @@ fn put(cells: &mut [u8], at: u64, v: u8)
     let i = at as usize;
     if i < cells.len() {
         cells[i] = v;
-    }
-}
-
-// A source taken from every one of n targets, rows of w cells.
-fn take_from(cells: &mut [u8], n: u64, w: u64, s: u64)
-    requires { ⌜ (length (now cells) ≡ n * w) × (s + 1 ≤ w) ⌝ }
-    ensures { λ _. ⌜ now (cells .exit) ≡ takenFrom w (now (cells .entry)) s n ⌝ }
-{
-    let mut t = n;
-    while 0 < t {
-        t -= 1;
-        put(cells, t * w + s, 0);
-    }
-}
-
-// One list of cells over another of the same length.
-fn copy(to: &mut [u8], from: &[u8])
-    requires { ⌜ length (now to) ≡ length (now from) ⌝ }
-    ensures { λ _. ⌜ now (to .exit) ≡ now (from .entry) ⌝ }
-{
-    let mut i = 0;
-    while i < from.len() {
-        to[i] = from[i];
-        i += 1;
     }
 }
 
@@ -117,49 +93,10 @@ fn become_row(f: Figures, sources: &[u64], operation: u64, ones: u64, row: &mut 
     mark(row, sources, 1);
 }
 
-// The first source named, 0 if there is none.
-fn first(sources: &[u64]) -> u64
-    ensures { λ r. ⌜ getD (now (sources .entry)) 0 0 ≡ r ⌝ }
-{
-    if 0 < sources.len() {
-        return sources[0];
-    }
-    0
-}
-
-// In 1:1, absolute or connect with one source takes it from every target; `ones` counts the sources named.
-fn free(f: Figures, sources: &[u64], operation: u64, ones: u64, cells: &mut [u8])
-    requires { ⌜ length (now cells) ≡ cellsOf f ⌝ }
-    requires { ⌜ getD (now sources) 0 0 + 1 ≤ f .sources ⌝ }
-    ensures { λ _. ⌜ now (cells .exit) ≡ freed f (now (sources .entry)) operation ones (now (cells .entry)) ⌝ }
-{
-    if f.kind != 1 {
-        return;
-    }
-    if 2 <= operation {
-        return;
-    }
-    if ones != 1 {
-        return;
-    }
-    take_from(cells, f.targets, f.sources, first(sources));
-}
-
 fn index(x: u64) -> usize
     ensures { λ r. ⌜ r ≡ x ⌝ }
 {
     x as usize
-}
-
-// Other cells for a target.
-fn put_row(cells: &mut [u8], target: u64, row: &[u8])
-    requires { ⌜ target * length (now row) + length (now row) ≤ length (now cells) ⌝ }
-    ensures { λ _. ⌜ now (cells .exit) ≡ withRow (length (now (row .entry))) (now (cells .entry)) target (now (row .entry)) ⌝ }
-{
-    let t = index(target);
-    let from = t * row.len();
-    let to = from + row.len();
-    copy(&mut cells[from..to], row);
 }
 
 // Whether a target has too many: for N:N its cells are over its limit, else the list is over one.
@@ -193,10 +130,12 @@ fn get_row(row: &mut [u8], cells: &[u8], target: u64)
     requires { ⌜ target * length (now row) + length (now row) ≤ length (now cells) ⌝ }
     ensures { λ _. ⌜ now (row .exit) ≡ rowAt (length (now (row .entry))) (now (cells .entry)) target ⌝ }
 {
-    let t = index(target);
-    let from = t * row.len();
-    let to = from + row.len();
-    copy(row, &cells[from..to]);
+    let from = index(target) * row.len();
+    let mut i = 0;
+    while i < row.len() {
+        row[i] = cells[from + i];
+        i += 1;
+    }
 }
 
 // 0, 43 or 44 for a target's cells after the request, which `row` then holds; `ones` counts the sources named.
@@ -281,31 +220,4 @@ pub fn judge(
     let ones = desk_crosspoints::count(row);
     let number = judge_limits(f, target, sources, operation, ones, cells, row);
     Judged { number, ones }
-}
-
-// The crosspoints that a request asks for: `row` for its target, and in 1:1 its one source taken from every other; `ones` counts the sources named. Nothing
-// where lengths, target or first source are not the desk's.
-pub fn carry_out(
-    f: Figures,
-    target: u64,
-    sources: &[u64],
-    operation: u64,
-    ones: u64,
-    row: &[u8],
-    cells: &mut [u8],
-)
-    ensures { λ _. ⌜ now (cells .exit)
-        ≡ carried (deskAt f [] (now (cells .entry))) (request target (now (sources .entry)) operation) ones (now (row .entry)) ⌝ }
-{
-    if !is_fit(f, cells.len(), row.len()) {
-        return;
-    }
-    if f.targets <= target {
-        return;
-    }
-    if f.sources <= first(sources) {
-        return;
-    }
-    free(f, sources, operation, ones, cells);
-    put_row(cells, target, row);
 }

@@ -1,8 +1,8 @@
 use native.Mathlib.Omega.{arith}
 use lib.ListN.{List·getD-eq-default}
 use borrow.Author.Needs.{needs}
-use Rattle.desk_requests.proofs.first.Statement.{statement}
-use Rattle.desk_requests.proofs.first.Tie as tie
+use Rattle.desk_calls.proofs.first.Statement.{statement}
+use Rattle.desk_calls.proofs.first.Tie as tie
 
 shared-slice-read-result : tie.Need-shared-slice-read-result
 shared-slice-read-result c = search needs

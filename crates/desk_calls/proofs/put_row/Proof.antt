@@ -1,11 +1,11 @@
 use Prim.Native.Nat.{ℕ, _*_, _+_}
 use Rattle.desk_requests.proofs.Parts.{row-put}
 use lib.ListN.{length}
 use mathlib.Core.Path.{_≡_, refl, sym, ap, _∙_}
 use native.Mathlib.Omega.{arith}
 use borrow.Author.Needs.{needs}
-use Rattle.desk_requests.proofs.put_row.Statement.{statement}
-use Rattle.desk_requests.proofs.put_row.Tie as tie
+use Rattle.desk_calls.proofs.put_row.Statement.{statement}
+use Rattle.desk_calls.proofs.put_row.Tie as tie
 
 index-requires : tie.Need-index-requires
 index-requires c κs = search needs

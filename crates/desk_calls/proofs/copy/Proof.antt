@@ -3,9 +3,9 @@ use borrow.Author.Needs.{needs}
 use native.Mathlib.Omega.{arith}
 use Prim.Native.Nat.{_-_, _+_, _≤_}
 use mathlib.Core.Path.{_≡_, refl, sym, _∙_}
 use Rattle.desk_requests.proofs.Laws.{copy-more, copy-end}
-use Rattle.desk_requests.proofs.copy.Statement.{statement}
-use Rattle.desk_requests.proofs.copy.Tie as tie
+use Rattle.desk_calls.proofs.copy.Statement.{statement}
+use Rattle.desk_calls.proofs.copy.Tie as tie
 
 abbrev Inv-loop : tie.InvT-loop
 Inv-loop to₀ from i₀ to i = (take i to ≡ take i from) × (length to ≡ length to₀)
@@ -35,7 +35,7 @@ loop-again c =
     let the-loop = c .before .before .loop in
     let the-loop-test = c .before .loop-test in
     let the-pre = c .before .before .before .pre in
-    (copy-more _ _ (the-loop .i) (the-loop-test .taken) (the-loop .inv .1 ∙ the-pre) (the-loop .inv .0), simp length-set (the-loop .inv .1))
+    (copy-more _ _ (the-loop .i) _ (the-loop-test .taken) (the-loop .inv .1 ∙ the-pre) refl (the-loop .inv .0), simp length-set (the-loop .inv .1))
 
 same-length : tie.Need-same-length Inv-loop μ-loop
 same-length c =
