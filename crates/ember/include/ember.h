@@ -44,9 +44,9 @@ extern "C" {
 
 /* ---- The version of this header; that of the installed library is ember_version's, and the same */
 
-#define EMBER_VERSION_MAJOR 2
+#define EMBER_VERSION_MAJOR 3
 #define EMBER_VERSION_MINOR 0
-#define EMBER_VERSION "2.0"
+#define EMBER_VERSION "3.0"
 
 /* ---- The numbers answered, as document 01 has them; ember_say(number) says each in words. A refusal is EMBER_BAD_ or EMBER_NO_
  * and document 01's word, and no kind, member or type is named so */
