@@ -65,6 +65,13 @@ module _ (s : List ℕ) (end acc i : ℕ) (within : end ≤ length s) where
   unfolding arcFrom
   from-end h = let e : end - i ≡ 0 = omega arith in rw e
 
+-- a number of one octet
+pub arc-short : (s : List ℕ) (end p : ℕ) → p < end → getD s p 0 < 128 → end ≤ length s → arcAt s p end ≡ Number (getD s p 0) (p + 1)
+arc-short s end p k l h =
+    let z : getD s p 0 ≡ 128 → ⊥ = λ e. omega arith in
+    let e : 0 * 128 + getD s p 0 ≡ getD s p 0 = omega arith in
+    sym (arc-from s p end h k z) ∙ sym (from-last s end 0 p h k l) ∙ ap (λ (n : ℕ). arcIs n (p + 1)) e ∙ sym (arc-is (getD s p 0) (p + 1) (omega arith))
+
 -- past the range, it does not matter how far
 pub from-big : (acc other p : ℕ) (bs : List ℕ) → 2147483647 < acc → 2147483647 < other → arcFrom acc p bs ≡ arcFrom other p bs
 unfolding arcFrom

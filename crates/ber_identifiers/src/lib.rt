@@ -84,17 +84,22 @@ pub fn read_oid(s: &[u8], at: usize, n: usize) -> Oid
     let mut count: usize = 0;
     let mut over = false;
     while p < end {
-        match read_number(s, p, end) {
-            Arc::Number { number: _, next } => {
-                p = next;
-                count = count + 1;
-            }
-            Arc::Range { next } => {
-                p = next;
-                over = true;
-            }
-            Arc::Refused => {
-                return Oid::Refused;
+        if s[p] < 128 {
+            p = p + 1;
+            count = count + 1;
+        } else {
+            match read_number(s, p, end) {
+                Arc::Number { number: _, next } => {
+                    p = next;
+                    count = count + 1;
+                }
+                Arc::Range { next } => {
+                    p = next;
+                    over = true;
+                }
+                Arc::Refused => {
+                    return Oid::Refused;
+                }
             }
         }
     }

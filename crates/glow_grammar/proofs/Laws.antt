@@ -6,8 +6,8 @@ use mathlib.Core.Bool.{Bool, true, false}
 use mathlib.Core.Logic.{⊎-elim}
 use native.Mathlib.Omega.{arith}
 use borrow.Author.Tests.{eqb-true, leb-true, le-leb, lt-leb, lt-ltb, eq-eqb, ne-eqb}
-use lib.ListN.{length, take, drop, getD, drop-of-length-le}
-use lib.Seq.{drop-cons}
+use lib.ListN.{length, take, drop, getD, drop-of-length-le, length-drop}
+use lib.Seq.{drop-cons, take-all}
 use lib.Dec.{leb, ltb, eqb}
 use lib.IntN.{ℤ, pos, negsuc}
 use mir.Syntax.{w64}
@@ -177,6 +177,12 @@ module _ (b : ℕ) where
   unfolding isLetter
   letter-none h k = simp (lt-leb _ _ h, lt-leb _ _ k)
 
+pub seen-here : (b x : ℕ) → b ≡ 47 → eqb 1 0 ≡ pick (eqb b 47) false (eqb x 0)
+seen-here b x h = simp (eq-eqb _ _ h)
+
+pub seen-not : (b x : ℕ) → (b ≡ 47 → ⊥) → eqb x 0 ≡ pick (eqb b 47) false (eqb x 0)
+seen-not b x h = simp (ne-eqb _ _ h)
+
 module _ (s : List ℕ) where
   part-one : (i n : ℕ) → i < length s → take (suc n) (drop i s) ≡ getD s i 0 ∷ take n (drop (i + 1) s)
   part-one i n h = let d : i + 1 ≡ suc i = omega arith in rw (d, drop-cons s i 0 h)
@@ -185,24 +191,33 @@ module _ (s : List ℕ) where
   part-none i zero h = refl
   part-none i (suc n) h = rw (drop-of-length-le s h)
 
-  pub slash-none : (i n : ℕ) → n ≤ 0 → noSlash (take n (drop i s)) ≡ true
+  -- one octet more, and none left
+  pub slash-step : (i to before after : ℕ) → i < to → to ≤ length s → eqb after 0 ≡ pick (eqb (getD s i 0) 47) false (eqb before 0)
+      → both (eqb before 0) (noSlash (take (to - i) (drop i s))) ≡ both (eqb after 0) (noSlash (take (to - (i + 1)) (drop (i + 1) s)))
   unfolding noSlash
-  slash-none i zero h = refl
-  slash-none i (suc n) h = absurd (omega arith)
+  slash-step i to before after h k e =
+      let d : to - i ≡ suc (to - (i + 1)) = omega arith in
+      let l : i < length s = omega arith in
+      rw (d, part-one i (to - (i + 1)) l, e) (go (eqb (getD s i 0) 47) (eqb before 0) (noSlash (take (to - (i + 1)) (drop (i + 1) s))))
+    where
+      go : (t x n : Bool) → both x (pick t false n) ≡ both (pick t false x) n
+      go true true n = refl
+      go true false n = refl
+      go false x n = refl
 
-  pub slash-end : (i n : ℕ) → length s ≤ i → noSlash (take n (drop i s)) ≡ true
+  pub slash-done : (i to before : ℕ) → to ≤ i → both (eqb before 0) (noSlash (take (to - i) (drop i s))) ≡ eqb before 0
   unfolding noSlash
-  slash-end i n h = rw (part-none i n h)
+  slash-done i to before h = let d : to - i ≡ 0 = omega arith in rw d (go (eqb before 0))
+    where
+      go : (x : Bool) → both x true ≡ x
+      go true = refl
+      go false = refl
 
-  pub slash-here : (i n : ℕ) → 0 < n → i < length s → getD s i 0 ≡ 47 → noSlash (take n (drop i s)) ≡ false
-  unfolding noSlash
-  slash-here i zero l h e = absurd (omega arith)
-  slash-here i (suc n) l h e = rw (part-one i n h) (simp (eq-eqb _ _ e))
-
-  pub slash-more : (i n : ℕ) → 0 < n → i < length s → (getD s i 0 ≡ 47 → ⊥) → noSlash (take n (drop i s)) ≡ noSlash (take (n - 1) (drop (i + 1) s))
-  unfolding noSlash
-  slash-more i zero l h e = absurd (omega arith)
-  slash-more i (suc n) l h e = let d : suc n - 1 ≡ n = omega arith in rw (d, part-one i n h) (simp (ne-eqb _ _ e))
+  -- a text that the message cuts off
+  pub text-cut : (start len : ℕ) → length s - start ≤ len → take len (drop start s) ≡ take (length s - start) (drop start s)
+  text-cut start len h =
+      let d = length-drop start s in
+      take-all len (drop start s) (omega arith) ∙ sym (take-all (length s - start) (drop start s) (omega arith))
 
   pub name-none : (i n : ℕ) → n ≡ 0 → isName (take n (drop i s)) ≡ false
   unfolding isName

@@ -13,8 +13,8 @@ use glow_rows::Cell;
 use glow_rows::kinds;
 use glow_rows::tags as universal;
 ghost use mathlib.Core.Path.{_≡_};
-ghost use Prim.Native.Nat.{_+_, _≤_};
-ghost use mathlib.Core.Bool.{true};
+ghost use Prim.Native.Nat.{_+_, _-_, _≤_};
+ghost use mathlib.Core.Bool.{true, false};
 ghost use lib.Dec.{leb, eqb};
 ghost use Rattle.ber_integers.specs.Digits.{pick};
 ghost use lib.ListN.{length, take, drop};
@@ -368,23 +368,37 @@ fn is_letter(b: u8) -> bool
     false
 }
 
-// Whether no octet of a text is "/".
-fn no_slash(s: &[u8], start: usize, len: usize) -> bool
-    ensures { λ r. ⌜ noSlash (take len (drop start (now (s .entry)))) ≡ r ⌝ }
+// Whether a "/" was seen, or this octet is one: 1, else 0.
+fn seen(before: u8, b: u8) -> u8
+    ensures { λ r. ⌜ eqb r 0 ≡ pick (eqb b 47) false (eqb before 0) ⌝ }
 {
-    let mut i = start;
-    let mut left = len;
-    while 0 < left {
-        if s.len() <= i {
-            return true;
-        }
-        if s[i] == 47 {
-            return false;
-        }
-        i = i + 1;
-        left = left - 1;
+    if b == 47 { 1 } else { before }
+}
+
+// Whether no octet from one place up to another is "/". No octet ends the loop, so that a processor looks at many at a time.
+fn no_slash(s: &[u8], from: usize, to: usize) -> bool
+    requires { ⌜ (from ≤ to) × (to ≤ length (now s)) ⌝ }
+    ensures { λ r. ⌜ noSlash (take (to - from) (drop from (now (s .entry)))) ≡ r ⌝ }
+{
+    let mut slash: u8 = 0;
+    let mut i = from;
+    while i < to {
+        slash = seen(slash, s[i]);
+        i += 1;
     }
-    true
+    slash == 0
+}
+
+// Where the octets of a text end, or the message.
+fn end_of(s: &[u8], start: usize, len: usize) -> usize
+    requires { ⌜ start ≤ length (now s) ⌝ }
+    ensures { λ r. ⌜ (start ≤ r) × (r ≤ length (now (s .entry))) ⌝ }
+    ensures { λ r. ⌜ take len (drop start (now (s .entry))) ≡ take (r - start) (drop start (now (s .entry))) ⌝ }
+{
+    if s.len() - start < len {
+        return s.len();
+    }
+    start + len
 }
 
 // Whether a text is an identifier.
@@ -400,7 +414,7 @@ fn is_name(s: &[u8], start: usize, len: usize) -> bool
     if !is_letter(s[start]) {
         return false;
     }
-    no_slash(s, start, len)
+    no_slash(s, start, end_of(s, start, len))
 }
 
 fn text_leaf(s: &[u8], at: usize, what: u64, above: usize, start: usize, len: usize) -> Leaf

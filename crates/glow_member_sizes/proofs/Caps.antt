@@ -4,7 +4,7 @@ use mathlib.Core.Path.{_≡_, refl, sym, ap, _∙_}
 use mathlib.Core.Logic.{_⊎_, ⊎-elim, inl, inr}
 use mathlib.Core.List.{List}
 use native.Mathlib.Omega.{arith}
-use borrow.Author.Tests.{le-leb, lt-leb}
+use borrow.Author.Tests.{le-leb, lt-leb, lt-ltb}
 use lib.ListN.{length}
 use Rattle.ber_integers.proofs.Radix.{lt-or-le}
 use Rattle.ber_tags.specs.Write.{lengthOctets}
@@ -60,6 +60,12 @@ plus-right a b h = cap-over (a + b) (omega arith)
 
 pub tagged-over : (n : ℕ) → 16384 < n → cap (taggedSize n) ≡ 65536
 tagged-over n h = let a = over-tagged n in cap-over (taggedSize n) (omega arith)
+
+pub tagged-short : (n : ℕ) → n < 128 → cap (taggedSize n) ≡ n + 2
+unfolding taggedSize lengthOctets
+tagged-short n h =
+    let e : taggedSize n ≡ n + 2 = simp (lt-ltb _ _ h) (omega arith) in
+    ap cap e ∙ cap-in (n + 2) (omega arith)
 
 pub tagged-is : (n h t : ℕ) → h ≡ length (lengthOctets n) → t ≡ 1 + h + n → cap (taggedSize n) ≡ cap t
 unfolding taggedSize

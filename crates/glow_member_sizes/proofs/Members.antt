@@ -26,7 +26,7 @@ use Rattle.glow_trees.specs.Legal.{isReal, wordSuits, pathSuits, listSuits, par
 use Rattle.glow_trees.specs.Written.{tagged, spelled, memberOctets}
 use Rattle.glow_trees.proofs.Shift.{arcs-there}
 use Rattle.glow_member_sizes.specs.Spelling.{spelling}
-use Rattle.glow_member_sizes.specs.Sizes.{cap, taggedSize, WordSized, memberSize}
+use Rattle.glow_member_sizes.specs.Sizes.{cap, taggedSize, WordSized, isKept, memberSize}
 use Rattle.glow_member_sizes.proofs.Caps.{cap-in, cap-tagged}
 
 -- a number below 31 has a tag of one octet
@@ -229,10 +229,6 @@ unfolding expects
 no-octets = refl
 
 -- ---- a part, as the reader judges it
-abbrev pub isKept : Leaf → Bool
-isKept (Kept v n) = true
-isKept (Not number place) = false
-
 module _ (s : List ℕ) (start len what : ℕ) (h : start + len ≤ length s) where
   abbrev pub bs : List ℕ
   bs = take len (drop start s)
@@ -314,17 +310,17 @@ module _ (s : List ℕ) (v : Cell) (what : ℕ) (p : isPart (v .kind) ≡ true) 
     inside : start + len ≤ length s
     inside = omega arith
 
-    pub part-refused : {number place : ℕ} → leafAt s 0 (v .kind) start len what 0 ≡ Not number place → (real : ℕ → List ℕ)
+    pub part-refused : isKept (leafAt s 0 (v .kind) start len what 0) ≡ false → (real : ℕ → List ℕ)
         → memberSize real what (contentOf s v) ≡ 65536
     part-refused q real =
         ap (memberSize real what) there
-        ∙ size-part-no (v .kind) real what listed e p (take len (drop start s)) (sym (part-kept s start len what inside (v .kind) p e) ∙ ap isKept q)
+        ∙ size-part-no (v .kind) real what listed e p (take len (drop start s)) (sym (part-kept s start len what inside (v .kind) p e) ∙ q)
 
-    pub part-sized : {x : Cell} {n : ℕ} → leafAt s 0 (v .kind) start len what 0 ≡ Kept x n → (a r : ℕ) → cap (taggedSize (v .second)) ≡ a
+    pub part-sized : isKept (leafAt s 0 (v .kind) start len what 0) ≡ true → (a r : ℕ) → cap (taggedSize (v .second)) ≡ a
         → cap (taggedSize a) ≡ r → (real : ℕ → List ℕ) → memberSize real what (contentOf s v) ≡ r
     part-sized q a r f g real =
         ap (memberSize real what) there
-        ∙ size-part (v .kind) real what listed e p (take len (drop start s)) (sym (part-kept s start len what inside (v .kind) p e) ∙ ap isKept q)
+        ∙ size-part (v .kind) real what listed e p (take len (drop start s)) (sym (part-kept s start len what inside (v .kind) p e) ∙ q)
         (v .second) a r (bs-length s start len what inside ∙ l) f g
 
 module _ (s : List ℕ) (v : Cell) (what : ℕ) (least : Bool) (listed : what ≡ 0 → ⊥) (e : expects what (v .kind) ≡ true) (p : isPart (v .kind) ≡ false)

@@ -16,14 +16,9 @@ use Rattle.ber_integers.proofs.Signs.{minus-is}
 use lib.Ieee as Ieee
 use lib.Ieee.{Float, nan, inf, fin, binary64}
 use lib.Ieee.Bits.{ofBits-fits, nanBits-is}
-use Rattle.ber_integers.specs.declared.Wrote.{Wrote}
-use Rattle.ber_integers.specs.declared.Wrote.the-variants.{Next, Out}
-use Rattle.ber_integers.specs.Digits.{pick, Put, put, outcome}
+use Rattle.ber_integers.specs.Digits.{pick}
 use Rattle.ber_integers.specs.Integer.{shortest}
-use Rattle.ber_integers.proofs.Laws.{put-in}
 use Rattle.ber_integers.proofs.Radix.{lt-or-le}
-use Rattle.ber_integers.proofs.Sizes.{size-eight}
-use Rattle.ber_integers.proofs.RoundTrip.{length-shortest}
 use Rattle.ber_reals.specs.Write.{Form, unwritten, octets, form}
 use Rattle.ber_real_sizes.specs.Sizes.{isForm, isWritten, writtenSize, leastSize, leastOctets}
 use Rattle.ber_real_sizes.specs.Sizes as sizes
@@ -36,7 +31,7 @@ use Rattle.glow_trees.specs.Content.{intOf}
 use Rattle.glow_trees.specs.Legal.{isReal, isFormed, wordSuits}
 use Rattle.glow_trees.specs.Written.{spelled, writtenReal}
 use Rattle.glow_member_sizes.specs.Spelling.{spelling, leastReal}
-use Rattle.glow_member_sizes.specs.Sizes.{nextOf, WordSized}
+use Rattle.glow_member_sizes.specs.Sizes.{WordSized}
 
 module _ (w : ℕ) where
   pub int-low : w < 0x8000000000000000 → intOf w ≡ pos w
@@ -65,15 +60,6 @@ module _ (w : ℕ) where
 
     pub range-word : (what : ℕ) → wordIn what w ≡ inRange what (intOf w)
     range-word what = ap (wordIn what) (sym word-back) ∙ word-range what (intOf w) int-fits
-
-    -- eight octets hold any
-    pub int-sized : (room : List ℕ) (p : Put) → length room ≡ 8 → put room 0 (shortest (intOf w)) ≡ p → length (shortest (intOf w)) ≡ nextOf (p .answer)
-    int-sized room p l d =
-        let e = length-shortest (intOf w) in
-        let s = size-eight (intOf w) int-fits in
-        let h : 0 + length (shortest (intOf w)) ≤ length room = omega arith in
-        let z : length (shortest (intOf w)) ≡ 0 + length (shortest (intOf w)) = omega arith in
-        z ∙ ap (λ (q : Put). nextOf (q .answer)) (sym (put-in room 0 (shortest (intOf w)) h) ∙ d)
 
   -- ---- reals
   formed : (f : Form) → isFormed f ≡ true → (bs : List ℕ) × (f ≡ octets bs)
@@ -156,10 +142,6 @@ int-is-low w h = int-low w h ∙ sym (toZ-pos w64 h)
 
 pub int-is-high : (w : ℕ) → 0x8000000000000000 ≤ w → intOf w ≡ toZ w64 (ofZ w64 (negsuc 0 -ℤ toZ w64 (18446744073709551615 - w)))
 int-is-high w h = let k : 18446744073709551615 - w < 2 ^ 63 = omega arith in int-high w h ∙ sym (minus-is _ k)
-
-pub int-sized-by : (w : ℕ) → w < 18446744073709551616 → (z : ℤ) (room : List ℕ) (p : Put) → put room 0 (shortest z) ≡ p → length room ≡ 8
-    → intOf w ≡ z → length (shortest (intOf w)) ≡ nextOf (p .answer)
-int-sized-by w f z room p d l e = int-sized w f room p l (ap (λ (y : ℤ). put room 0 (shortest y)) e ∙ d)
 
 pub least-by : (w : ℕ) (least : Bool) (n r : ℕ) → least ≡ true → n ≡ leastSize (Ieee.ofBits binary64 w) → r ≡ n
     → isReal w ≡ true → length (spelling least w) ≡ r

@@ -2,13 +2,15 @@
 use Prim.Native.Nat.{ℕ, _+_}
 use mathlib.Core.Path.{_≡_}
 use mathlib.Core.List.{List}
-use mathlib.Core.Bool.{true}
+use mathlib.Core.Bool.{Bool, true, false}
 use lib.ListN.{length}
 use lib.Dec.{leb, eqb}
 use Rattle.ber_integers.specs.Digits.{pick}
 use Rattle.ber_integers.specs.declared.Wrote.{Wrote}
 use Rattle.ber_integers.specs.declared.Wrote.the-variants.{Next, Out}
 use Rattle.ber_tags.specs.Write.{lengthOctets}
+use Rattle.glow_grammar.specs.declared.Leaf.{Leaf}
+use Rattle.glow_grammar.specs.declared.Leaf.the-variants.{Kept, Refused as Not}
 use Rattle.glow_rows.specs.Cell.{boolean, integer}
 use Rattle.glow_trees.specs.Content.{Content}
 use Rattle.glow_trees.specs.Legal.{isReal, suits}
@@ -34,6 +36,11 @@ nextOf Out = 0
 -- the content octets of a boolean, an integer, or a real that is written
 abbrev pub WordSized : (ℕ → List ℕ) → ℕ → ℕ → ℕ → Type 0
 WordSized real kind w n = pick (eqb kind boolean) true (pick (eqb kind integer) true (isReal w)) ≡ true → length (spelled real kind w) ≡ n
+
+-- whether a value is kept
+abbrev pub isKept : Leaf → Bool
+isKept (Kept v n) = true
+isKept (Not number place) = false
 
 -- a member by its rule
 unfoldable pub memberSize : (ℕ → List ℕ) → ℕ → Content → ℕ

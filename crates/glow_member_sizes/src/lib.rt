@@ -1,6 +1,7 @@
 // The members of an entry: how many octets each takes with its tags, and whether it may stand where it does.
 use ber_integers::Wrote;
 use glow_grammar::Leaf;
+use glow_grammar::NO_WORD;
 use glow_grammar::rules;
 use glow_rows::Cell;
 use glow_rows::tags;
@@ -9,19 +10,20 @@ ghost use mathlib.Core.Bool.{true, false};
 ghost use mathlib.Core.List.{List, []};
 ghost use Prim.Native.Nat.{ℕ, _+_};
 ghost use lib.ListN.{length};
-ghost use Rattle.ber_integers.specs.Integer.{shortest};
-ghost use Rattle.glow_grammar.specs.Leaf.{expects};
+ghost use lib.Signed.{mag};
+ghost use Rattle.ber_integers.specs.Integer.{shortest, sizeBy};
+ghost use Rattle.glow_grammar.specs.Leaf.{expects, leafAt};
 ghost use Rattle.glow_trees.specs.Content.{contentOf, isPart, intOf};
 ghost use Rattle.glow_trees.specs.Legal.{isReal, wordSuits};
 ghost use Rattle.glow_member_sizes.specs.Spelling.{spelling};
-ghost use Rattle.glow_member_sizes.specs.Sizes.{cap, taggedSize, nextOf, WordSized, memberSize};
+ghost use Rattle.glow_member_sizes.specs.Sizes.{cap, taggedSize, nextOf, WordSized, isKept, memberSize};
 
 // The octets of the longest message, and the size of what is longer or not legal.
 pub const MESSAGE_LIMIT: u64 = 16384;
 
 pub const NO_SIZE: u64 = 65536;
 
-fn capped(n: u64) -> u64
+pub fn capped(n: u64) -> u64
     ensures { λ r. ⌜ cap n ≡ r ⌝ }
 {
     if n <= MESSAGE_LIMIT { n } else { NO_SIZE }
@@ -44,6 +46,9 @@ pub fn plus(a: u64, b: u64) -> u64
 pub fn around(n: u64) -> u64
     ensures { λ r. ⌜ cap (taggedSize n) ≡ r ⌝ }
 {
+    if n < 128 {
+        return n + 2;
+    }
     if MESSAGE_LIMIT < n {
         return NO_SIZE;
     }
@@ -77,14 +82,34 @@ pub fn place(w: Wrote) -> usize
     }
 }
 
+// How far the integer of a word is from 0, or from -1 where it is below 0.
+fn distance(w: u64) -> u64
+    ensures { λ r. ⌜ r ≡ mag (intOf w) ⌝ }
+{
+    if w < 0x8000000000000000 {
+        return w;
+    }
+    18446744073709551615 - w
+}
+
+// The fewest octets that hold m and a sign bit.
+fn size_of(m: u64) -> u64
+    ensures { λ r. ⌜ r ≡ sizeBy m m ⌝ }
+{
+    let mut r = m;
+    let mut n: u64 = 1;
+    while 128 <= r {
+        r = r / 256;
+        n = n + 1;
+    }
+    n
+}
+
 // The content octets of an integer.
 fn int_size(w: u64) -> u64
     ensures { λ r. ⌜ length (shortest (intOf w)) ≡ r ⌝ }
 {
-    let mut room = [0u8; 8];
-    let out: &mut [u8] = &mut room;
-    let n = place(ber_integers::write_int(int_of(w), out, 0));
-    wide(n)
+    size_of(distance(w))
 }
 
 // The content octets of a real.
@@ -146,6 +171,19 @@ pub fn index(x: u64) -> usize
     x as usize
 }
 
+// Whether the reader keeps a part of the message at a member, by the part's universal tag number.
+fn part_fits(s: &[u8], kind: u64, start: usize, len: usize, what: u64) -> bool
+    ensures { λ r. ⌜ isKept (leafAt (now (s .entry)) 0 kind start len what 0) ≡ r ⌝ }
+{
+    if glow_grammar::word_of(s, kind, start, len, what) != NO_WORD {
+        return true;
+    }
+    match glow_grammar::read_leaf(s, 0, kind, start, len, what, 0) {
+        Leaf::Refused(_, _) => false,
+        Leaf::Kept(_, _) => true,
+    }
+}
+
 // A member that holds a part of the message: its octets with both tags.
 fn part_size(s: &[u8], v: Cell, what: u64) -> u64
     requires { ⌜ (isPart (v .kind) ≡ true) × ((expects what (v .kind) ≡ true) × (what ≡ 0 → ⊥)) ⌝ }
@@ -160,10 +198,10 @@ fn part_size(s: &[u8], v: Cell, what: u64) -> u64
     }
     let start = index(v.first);
     let len = index(v.second);
-    match glow_grammar::read_leaf(s, 0, v.kind, start, len, what, 0) {
-        Leaf::Refused(_, _) => NO_SIZE,
-        Leaf::Kept(_, _) => around(around(v.second)),
+    if !part_fits(s, v.kind, start, len, what) {
+        return NO_SIZE;
     }
+    around(around(v.second))
 }
 
 // A member by its cell and its rule: the octets with both tags, 0 for an absent one.

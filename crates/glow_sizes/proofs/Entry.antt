@@ -105,10 +105,7 @@ members-empty real kind c n (x ∷ xs) h =
 -- ---- an entry
 module _ (real : ℕ → List ℕ) (kind k above : ℕ) (xs : List Content) where
   abbrev pub no : Entered
-  no = record { size = 65536; path = 0 }
-
-  first-false : (b : Bool) → pick (both false b) (record { size = entryOctets real kind xs; path = pathAfter kind above xs }) no ≡ no
-  first-false b = refl
+  no = record { size = 65536; inside = 0; path = 0 }
 
   pub not-suited : suited kind 0 xs ≡ false → entered real kind k above xs ≡ no
   unfolding entered isEntry
@@ -138,13 +135,14 @@ module _ (real : ℕ → List ℕ) (kind k above : ℕ) (xs : List Content) wher
       unfolding entered isEntry
       path-long h = simp (s, c, lt-leb _ _ h)
 
-      pub entered-is : pick (empty (inner kind xs)) true (leb 5 k) ≡ true → (size path : ℕ) → entryOctets real kind xs ≡ size → size ≤ 16384
-          → pathAfter kind above xs ≡ path → path ≤ 16 → entered real kind k above xs ≡ record { size = size; path = path }
+      pub entered-is : pick (empty (inner kind xs)) true (leb 5 k) ≡ true → (size within path : ℕ) → entryOctets real kind xs ≡ size → size ≤ 16384
+          → length (membersOctets real 0 (inner kind xs)) ≡ within → pathAfter kind above xs ≡ path → path ≤ 16
+          → entered real kind k above xs ≡ record { size = size; inside = within; path = path }
       unfolding entered isEntry
-      entered-is d size path e h f g =
+      entered-is d size within path e h i f g =
           let h′ : entryOctets real kind xs ≤ 16384 = omega arith in
           let g′ : pathAfter kind above xs ≤ 16 = omega arith in
-          simp (s, c, d, le-leb _ _ h′, le-leb _ _ g′) (rw (e, f) refl)
+          simp (s, c, d, le-leb _ _ h′, le-leb _ _ g′) (rw (e, i, f) refl)
 
 -- ---- the two parts of an entry's cells: those that stand outside its contents, and its contents
 module _ (kind : ℕ) (s row : List ℕ) where

@@ -150,7 +150,7 @@ module _ (real : ℕ → List ℕ) (s r : List ℕ) (k above : ℕ) {kind part o
   xs = contentsOf s (cellsFrom 16 0 r)
 
   abbrev no : Entered
-  no = record { size = 65536; path = 0 }
+  no = record { size = 65536; inside = 0; path = 0 }
 
   abbrev cells : ℕ → ℕ → List Content
   cells n c = contentsOf s (cellsFrom n c r)
@@ -313,19 +313,20 @@ module _ (real : ℕ → List ℕ) (s r : List ℕ) (k above : ℕ) {kind part o
               (λ (l : pathAfter kind above xs ≤ 16). let e = cap-few _ l in let f = path-is in absurd (omega arith))
               (lt-or-le 16 (pathAfter kind above xs))))
 
-          entry-is : path ≤ 16 → enteredAt real s r k above ≡ record { size = size; path = path }
+          entry-is : path ≤ 16 → enteredAt real s r k above ≡ record { size = size; inside = i; path = path }
           entry-is m =
               by-kind (entered-is real kind k above xs suited-all (complete-is ∙ full) (ap (λ (b : Bool). pick b true (leb 5 k)) empty-is ∙ shallow)
-              size path
+              size i path
               (⊎-elim (λ (l : 16384 < entryOctets real kind xs). let e = cap-over _ l in let f = size-is in absurd (omega arith))
               (λ (l : entryOctets real kind xs ≤ 16384). sym (cap-in _ l) ∙ size-is)
               (lt-or-le 16384 (entryOctets real kind xs)))
               right
+              (sized-in innerSuits innerLength i inner-sized (z .inner-fits) .1)
               (⊎-elim (λ (l : 16 < pathAfter kind above xs). let e = cap-many _ l in let f = path-is in absurd (omega arith))
               (λ (l : pathAfter kind above xs ≤ 16). sym (cap-few _ l) ∙ path-is)
               (lt-or-le 16 (pathAfter kind above xs)))
               m)
 
           pub path-judged : (16 < path → enteredAt real s r k above ≡ no)
-              × (path ≤ 16 → enteredAt real s r k above ≡ record { size = size; path = path })
+              × (path ≤ 16 → enteredAt real s r k above ≡ record { size = size; inside = i; path = path })
           path-judged = (path-over, entry-is)

@@ -24,6 +24,7 @@ use Rattle.glow_sizes.specs.declared.Measured.{Measured}
 use Rattle.glow_sizes.specs.Accepted.{isEnd, isWhole, octetsOf, fits, lengthOf}
 use Rattle.glow_member_sizes.specs.Sizes.{cap, taggedSize}
 use Rattle.glow_sizes.specs.Sizes.{wrappedSize, isEntry, entryOctets, entered, enteredAt, measured, Gives}
+use Rattle.glow_sizes.specs.Kept.{Packed, Keeps}
 use Rattle.glow_member_sizes.proofs.Caps.{cap-in, cap-over, cap-left, cap-right, cap-tagged, over-tagged}
 use Rattle.glow_member_sizes.proofs.Members.{tagged-length, outer-length, twice}
 use Rattle.glow_sizes.proofs.Entry.{wrapped-length, both-left, both-right}
@@ -376,7 +377,10 @@ module _ (real : ℕ → List ℕ) (which k above kind : ℕ) (xs : List Content
     tree-entry x e h = go (isEntry kind k above xs) refl (leb (entryOctets real kind xs) 16384) refl e
       where
         go : (a : Bool) → isEntry kind k above xs ≡ a → (b : Bool) → leb (entryOctets real kind xs) 16384 ≡ b
-            → pick (both a b) (record { size = entryOctets real kind xs; path = pathAfter kind above xs }) (record { size = 65536; path = 0 }) ≡ x → Refused
+            → pick (both a b)
+            (record { size = entryOctets real kind xs; inside = length (membersOctets real 0 (inner kind xs)); path = pathAfter kind above xs })
+            (record { size = 65536; inside = 0; path = 0 }) ≡ x
+            → Refused
         go false p b q u = no-tree _ legal-tree (no-inside (rw p refl))
         go true p false q u =
             let y : 16384 < entryOctets real kind xs = leb-false _ _ q in
@@ -456,10 +460,44 @@ unfolding entered
 entered-in real kind k above xs x e h = go (both (isEntry kind k above xs) (leb (entryOctets real kind xs) 16384)) refl e
   where
     go : (b : Bool) → both (isEntry kind k above xs) (leb (entryOctets real kind xs) 16384) ≡ b
-        → pick b (record { size = entryOctets real kind xs; path = pathAfter kind above xs }) (record { size = 65536; path = 0 }) ≡ x
+        → pick b (record { size = entryOctets real kind xs; inside = length (membersOctets real 0 (inner kind xs)); path = pathAfter kind above xs })
+        (record { size = 65536; inside = 0; path = 0 }) ≡ x
         → (isEntry kind k above xs ≡ true) × ((entryOctets real kind xs ≡ x .size) × (pathAfter kind above xs ≡ x .path))
     go true q u = (both-left _ _ q, (ap (λ (m : Entered). m .size) u, ap (λ (m : Entered). m .path) u))
     go false q u = let z : 65536 ≡ x .size = ap (λ (m : Entered). m .size) u in absurd (omega arith)
+
+entered-inside : (real : ℕ → List ℕ) (kind k above : ℕ) (xs : List Content) (x : Entered) → entered real kind k above xs ≡ x → x .size ≤ 16384
+    → length (membersOctets real 0 (inner kind xs)) ≡ x .inside
+unfolding entered
+entered-inside real kind k above xs x e h = go (both (isEntry kind k above xs) (leb (entryOctets real kind xs) 16384)) e
+  where
+    go : (b : Bool)
+        → pick b (record { size = entryOctets real kind xs; inside = length (membersOctets real 0 (inner kind xs)); path = pathAfter kind above xs })
+        (record { size = 65536; inside = 0; path = 0 }) ≡ x
+        → length (membersOctets real 0 (inner kind xs)) ≡ x .inside
+    go true u = ap (λ (m : Entered). m .inside) u
+    go false u = let z : 65536 ≡ x .size = ap (λ (m : Entered). m .size) u in absurd (omega arith)
+
+wrapped-more : (n : ℕ) → n ≤ wrappedSize n
+unfolding wrappedSize taggedSize
+wrapped-more zero = omega arith
+wrapped-more (suc n) = let z : suc n ≡ 0 → ⊥ = λ e. omega arith in rw (ne-eqb (suc n) 0 z) (omega arith)
+
+-- the contents of an entry that is not too long
+pub inside-small : (real : ℕ → List ℕ) (s row : List ℕ) (k above : ℕ) (x : Entered) → enteredAt real s row k above ≡ x → x .size ≤ 16384
+    → x .inside ≤ 16384
+unfolding enteredAt entryOctets
+inside-small real s row k above x e h =
+    let xs : List Content = contentsOf s (cellsFrom 16 0 row) in
+    let bs : List ℕ = membersOctets real 0 (inner (getD row 0 0) (contentsOf s (cellsFrom 16 0 row))) in
+    let a = entered-in real (getD row 0 0) k above (contentsOf s (cellsFrom 16 0 row)) x e h .1 .0 in
+    let b = entered-inside real (getD row 0 0) k above (contentsOf s (cellsFrom 16 0 row)) x e h in
+    let l = wrapped-length 1 0 17 (membersOctets real 0 (inner (getD row 0 0) (contentsOf s (cellsFrom 16 0 row)))) (omega arith) (omega arith) in
+    let m = wrapped-more (length (membersOctets real 0 (inner (getD row 0 0) (contentsOf s (cellsFrom 16 0 row))))) in
+    omega arith
+
+plain : (a b : ℕ) → 0 + a ≡ b → a ≡ b
+plain a b h = omega arith
 
 cap-small : (n m : ℕ) → cap n ≡ m → m ≤ 16384 → n ≡ m
 cap-small n m e h =
@@ -619,11 +657,19 @@ pub next-is : (w v parent which kind n : ℕ) (t : Bool) → v ≡ w → v ≡ p
 next-is w v parent which kind n t e h i j =
     let z : w ≡ parent = sym e ∙ h in rw (eq-eqb _ _ z) (ap (standsIn which) (sym i) ∙ j)
 
-pub may-hold : (kind c what start next n : ℕ) → ruleOf kind c ≡ n → n ≡ what → may kind c what start next ≡ true
-may-hold kind c what start next n e h = rw (eq-eqb _ _ (e ∙ h)) refl
+pub may-empty : (kind c what start next : ℕ) → next ≡ start → may kind c what start next ≡ true
+may-empty kind c what start next h = rw (eq-eqb _ _ h) (go (eqb (ruleOf kind c) what))
+  where
+    go : (b : Bool) → pick b true true ≡ true
+    go true = refl
+    go false = refl
 
-pub may-else : (kind c what start next n : ℕ) → ruleOf kind c ≡ n → (n ≡ what → ⊥) → may kind c what start next ≡ eqb next start
-may-else kind c what start next n e h = let z : ruleOf kind c ≡ what → ⊥ = λ i. h (sym e ∙ i) in rw (ne-eqb _ _ z) refl
+pub may-rule : (kind c what start next n : ℕ) → ruleOf kind c ≡ n → (next ≡ start → ⊥) → may kind c what start next ≡ eqb n what
+may-rule kind c what start next n e h = rw (ne-eqb _ _ h) (go (eqb (ruleOf kind c) what) ∙ ap (λ (i : ℕ). eqb i what) e)
+  where
+    go : (b : Bool) → pick b true false ≡ b
+    go true = refl
+    go false = refl
 
 pub tree-sized : (total own kids links a b c held d f r : ℕ) → cap (wrappedSize kids) ≡ a → cap (wrappedSize links) ≡ b → cap (a + b) ≡ c
     → cap (own + c) ≡ held → cap (taggedSize held) ≡ d → cap (taggedSize d) ≡ f → cap (total + f) ≡ r
@@ -757,6 +803,23 @@ module _ (real : ℕ → List ℕ) (s : List ℕ) (rows : Rows) (n which parent 
                   links-here h)
 
               module _ (less : links .size ≤ 16384) where
+                -- what is kept of this entry
+                pub turn-keeps : (w : ℕ) → Packed (x .size) (x .inside) (kids .size) (links .size) w → Keeps real s rows n i w
+                turn-keeps w p =
+                    record {
+                      size = p .0 ∙ sym (entered-in real (this .kind) k above (this .members) x entry-is small .1 .0);
+                      inside = p .1 .0 ∙ sym (entered-inside real (this .kind) k above (this .members) x entry-is small);
+                      kids = λ f m.
+                          p .1 .1 .0
+                          ∙ sym (plain _ _ (measured-in real _ _ _ 0 _ _ kids
+                          (kids-are real es which parent k above total i this at in-es stands-here x entry-is small kids kids-here f m) few .1 .0));
+                      links = λ f m.
+                          p .1 .1 .1
+                          ∙ sym (plain _ _ (measured-in real _ _ _ 0 _ _ links
+                          (links-are real es which parent k above total i this at in-es stands-here x entry-is small kids kids-here few (may-here true mk) links
+                          links-here f m) less .1 .0));
+                    }
+
                 linked-here : (t : Bool) → may kind 5 15 (kids .next) (links .next) ≡ t → may (this .kind) 5 15 (kids .next) (links .next) ≡ t
                 linked-here t h = subst (λ (j : ℕ). may j 5 15 (kids .next) (links .next) ≡ t) ek h
 
@@ -793,6 +856,20 @@ module _ (real : ℕ → List ℕ) (s : List ℕ) (rows : Rows) (n which parent 
                             (may-here true mk) links links-here less (linked-here true ml) total′ ts h deep (cells-many 16 0) r g);
                       }
 
+-- ---- a collection that is not walked
+module _ (real : ℕ → List ℕ) (s : List ℕ) (rows : Rows) (n which parent start k above : ℕ) (h : start ≤ n) (le : n ≤ length rows) (z : Measured)
+    (e : z ≡ record { next = start; size = 0 }) where
+  pub inside-end : n ≤ start → Answers real s rows n which parent start k above z
+  inside-end l =
+      subst (Answers real s rows n which parent start k above) (sym e)
+      (turn-end real s rows n which parent start k above start 0 (turn-first real s rows n which parent start k above h) le l)
+
+  pub inside-other : start < n → (w : ℕ) → w ≡ getD (getD rows start []) 1 0 → (w ≡ parent → ⊥) → Answers real s rows n which parent start k above z
+  inside-other l w i p =
+      subst (Answers real s rows n which parent start k above) (sym e)
+      (turn-none real s rows n which parent start k above start 0 (turn-first real s rows n which parent start k above h) le l
+      (next-not (getD (getD rows start []) 1 0) w parent (standsIn which (getD (getD rows start []) 0 0)) i p))
+
 -- ---- the whole message
 few-roots : (root : ℕ) → rootNumber root < 31
 unfolding rootNumber
@@ -806,6 +883,12 @@ is-end : (es : List Item) (n : ℕ) → n < length es → isEnd (drop n es) ≡ 
 is-end [] n h = absurd (omega arith)
 is-end (e ∷ es) zero h = refl
 is-end (e ∷ es) (suc n) h = is-end es n (omega arith)
+
+pub no-size : 65536 ≡ cap (taggedSize (cap (taggedSize 65536)))
+no-size =
+    let a = over-tagged 65536 in
+    let e : cap (taggedSize 65536) ≡ 65536 = cap-over (taggedSize 65536) (omega arith) in
+    sym (ap (λ (x : ℕ). cap (taggedSize x)) e ∙ e)
 
 module _ (real : ℕ → List ℕ) (root rows n : ℕ) (es : List Item) where
   no-fit : fits real root rows n es ≡ false → lengthOf real root rows n es ≡ 65536
@@ -856,6 +939,9 @@ module _ (real : ℕ → List ℕ) (root rows n : ℕ) (es : List Item) where
             let e = message-length in
             let y : 16384 < length (octetsOf real root es) = omega arith in
             no-fit (both-no (leb n rows) _ (both-no (leb n 256) _ (both-no (isWhole root es) _ (lt-leb _ _ y)))))
+
+    pub all-octets : m .size ≤ 16384 → octets real all ≡ m .size
+    all-octets few = let o : 0 + octets real all ≡ m .size = measured-in real root 62 0 0 0 all m all-are few .1 .0 in omega arith
 
     module _ (few : m .size ≤ 16384) (many : length es ≡ n) where
       rest-is : treesOf root es .rest ≡ drop (m .next) es

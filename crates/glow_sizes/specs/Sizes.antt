@@ -4,11 +4,8 @@ use mathlib.Core.Path.{_≡_}
 use mathlib.Core.List.{List, [], _∷_}
 use mathlib.Core.Bool.{Bool, true, false, not}
 use lib.ListN.{length, drop, getD}
-use lib.Dec.{leb, ltb, eqb}
+use lib.Dec.{leb, eqb}
 use Rattle.ber_integers.specs.Digits.{pick}
-use Rattle.glow_rows.specs.declared.Cell.{Cell}
-use Rattle.glow_rows.specs.Cell.{absent}
-use Rattle.glow_rows.specs.Entry.{Rows}
 use Rattle.glow_grammar.specs.Grammar.{required, universal, contentsMember, set}
 use Rattle.glow_grammar.specs.Grammar as grammar
 use Rattle.glow_grammar.specs.Leaf.{both}
@@ -46,16 +43,12 @@ entryOctets real kind xs = length (membersOctets real 0 (own kind xs)) + length 
 unfoldable pub entered : (ℕ → List ℕ) → ℕ → ℕ → ℕ → List Content → Entered
 entered real kind k above xs =
     pick (both (isEntry kind k above xs) (leb (entryOctets real kind xs) messageLimit))
-    (record { size = entryOctets real kind xs; path = pathAfter kind above xs })
-    (record { size = noSize; path = 0 })
+    (record { size = entryOctets real kind xs; inside = length (membersOctets real 0 (inner kind xs)); path = pathAfter kind above xs })
+    (record { size = noSize; inside = 0; path = 0 })
 
 -- how many cells stand outside an entry's contents
 abbrev pub split : ℕ → ℕ
 split kind = pick (eqb (grammar.contentsOf kind) 0) 16 1
-
--- the contents of the entry in a row, with the message beside it
-unfoldable pub contentsSize : (ℕ → List ℕ) → List ℕ → List ℕ → ℕ → ℕ
-contentsSize real s r kind = cellsSize real kind (split kind) (contentsOf s (cellsFrom (16 - split kind) (split kind) r))
 
 -- whether the first n members of a row, at most two, have a kind
 unfoldable pub keyed : ℕ → List ℕ → Bool

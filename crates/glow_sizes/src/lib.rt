@@ -7,22 +7,23 @@ use glow_grammar::tags;
 use glow_member_sizes::MESSAGE_LIMIT;
 use glow_member_sizes::NO_SIZE;
 use glow_member_sizes::around;
+use glow_member_sizes::capped;
 use glow_member_sizes::index;
 use glow_member_sizes::member_size;
 use glow_member_sizes::plus;
 use glow_member_sizes::wide;
 use glow_rows::Cell;
-use glow_rows::cell_at;
 use glow_rows::KIND;
-use glow_rows::kinds;
 use glow_rows::PARENT;
+use glow_rows::cell_at;
+use glow_rows::kinds;
 use glow_rows::tags::ABSENT;
 use glow_rows::word_at;
 ghost use mathlib.Core.Path.{_≡_};
 ghost use mathlib.Core.Bool.{true, false};
 ghost use mathlib.Core.List.{[], _∷_};
 ghost use mathlib.Core.Logic.{_⊎_};
-ghost use Prim.Native.Nat.{_+_, _-_, _≤_, _<_};
+ghost use Prim.Native.Nat.{ℕ, _+_, _-_, _*_, _^_, _/_, _%_, _≤_, _<_};
 ghost use lib.ListN.{length, getD};
 ghost use lib.Dec.{leb, eqb};
 ghost use Rattle.ber_integers.specs.Digits.{pick};
@@ -30,33 +31,63 @@ ghost use Rattle.glow_trees.specs.Content.{contentOf, contentsOf};
 ghost use Rattle.glow_trees.specs.Rows.{cellsFrom, itemsIn};
 ghost use Rattle.glow_trees.specs.Trees.{standsIn};
 ghost use Rattle.glow_grammar.specs.Grammar.{required, ruleOf};
-ghost use Rattle.glow_trees.specs.Legal.{ruleAt, suits, pathOf};
+ghost use Rattle.glow_trees.specs.Legal.{suits, pathOf};
 ghost use Rattle.glow_member_sizes.specs.Spelling.{leastReal, spelling};
 ghost use Rattle.glow_member_sizes.specs.Sizes.{cap, taggedSize};
 ghost use Rattle.glow_sizes.specs.Accepted.{fits, lengthOf};
-ghost use Rattle.glow_sizes.specs.Sizes.{cellsSize, wrappedSize, pathCap, split, contentsSize, keyed, enteredAt, Gives};
+ghost use Rattle.glow_sizes.specs.Sizes.{cellsSize, wrappedSize, pathCap, split, keyed, enteredAt, Gives};
+ghost use Rattle.glow_sizes.specs.Kept.{RulesIn, Packed, Stored, Notes, Judged};
 
 // The containers that are left in Root's collection.
-pub const LEFT: u64 = collections::IN_COLLECTION as u64;
+const LEFT: u64 = collections::IN_COLLECTION as u64;
 
-// An entry alone: how many octets its members and contents take, and how many numbers the path has with its own.
+// An entry alone: how many octets its members and contents take, and its contents inside their tags, and how many numbers the path has with its own.
 pub struct Entered {
     pub size: u64,
+    pub inside: u64,
     pub path: u64,
 }
 
-// The rule for a cell of a kind.
-fn rule_at(kind: u64, c: u64) -> u64
-    ensures { λ r. ⌜ ruleAt kind c ≡ r ⌝ }
+// The rules for the cells of a kind in one word, four bits a cell, the first lowest: of the first kinds.
+fn first_rules(kind: u64) -> u64
+    requires { ⌜ kind ≤ 6 ⌝ }
+    ensures { λ r. ⌜ RulesIn kind r ⌝ }
 {
-    let row = glow_grammar::contents_of(kind);
-    if row == rows::NONE {
-        return glow_grammar::rule_of(kind, c);
+    match kind {
+        kinds::PARAMETER => 0x800903900a444215,
+        kinds::COMMAND => 0x99,
+        kinds::NODE => 0x33215,
+        kinds::MATRIX => 0x8888cb215,
+        kinds::QUALIFIED_PARAMETER => 0x800903900a444216,
+        kinds::QUALIFIED_NODE => 0x33216,
+        _ => 0,
     }
-    if c == 0 {
-        return glow_grammar::rule_of(kind, 0);
+}
+
+// The same of any kind.
+fn rules_of(kind: u64) -> u64
+    ensures { λ r. ⌜ RulesIn kind r ⌝ }
+{
+    if kind <= kinds::QUALIFIED_NODE {
+        return first_rules(kind);
     }
-    glow_grammar::rule_of(row, c - 1)
+    match kind {
+        kinds::QUALIFIED_MATRIX => 0x8888cb216,
+        kinds::CONNECTION => 0xb78,
+        kinds::STREAM_ENTRY => 0x48,
+        rows::PARAMETER_CONTENTS => 0x800903900a44421,
+        rows::NODE_CONTENTS => 0x3321,
+        rows::MATRIX_CONTENTS => 0x8888cb21,
+        _ => 0,
+    }
+}
+
+// The rule for the cell c among them.
+fn rule_in(rules: u64, c: u64) -> u64
+    requires { ⌜ c < 16 ⌝ }
+    ensures { λ r. ⌜ rules / 2 ^ (4 * c) % 16 ≡ r ⌝ }
+{
+    (rules >> (4 * c)) % 16
 }
 
 // The members of an entry from one cell up to another.
@@ -64,24 +95,22 @@ fn cells_size(
     rows: &[[u64; 50]],
     i: usize,
     s: &[u8],
-    kind: u64,
+    rules: u64,
     from: usize,
     to: usize,
     least: bool,
 ) -> u64
     requires { ⌜ (from ≤ to) × (to ≤ 16) ⌝ }
-    ensures { λ r. ⌜ cellsSize (spelling least) kind from (contentsOf (now (s .entry)) (cellsFrom (to - from) from (getD (now (rows .entry)) i []))) ≡ r ⌝ }
+    ensures { λ r. ⌜ ((kind : ℕ) → RulesIn kind rules
+        → cellsSize (spelling least) kind from (contentsOf (now (s .entry)) (cellsFrom (to - from) from (getD (now (rows .entry)) i []))) ≡ r) ⌝ }
 {
     let mut c = to;
     let mut total: u64 = 0;
     while from < c {
         c = c - 1;
-        total = plus(
-            member_size(s, cell_at(rows, i, c), rule_at(kind, wide(c)), least),
-            total,
-        );
+        total = total + member_size(s, cell_at(rows, i, c), rule_in(rules, wide(c)), least);
     }
-    total
+    capped(total)
 }
 
 // Contents or a collection of n octets in its outer tag; an empty one is left out.
@@ -103,13 +132,6 @@ pub fn split_of(kind: u64) -> usize
         return 16;
     }
     1
-}
-
-// The octets of an entry's contents.
-pub fn contents_size(rows: &[[u64; 50]], i: usize, s: &[u8], kind: u64, least: bool) -> u64
-    ensures { λ r. ⌜ contentsSize (spelling least) (now (s .entry)) (getD (now (rows .entry)) i []) kind ≡ r ⌝ }
-{
-    cells_size(rows, i, s, kind, split_of(kind), 16, least)
 }
 
 // Whether the members that an entry must have are there.
@@ -169,10 +191,11 @@ fn path_after(s: &[u8], v: Cell, what: u64, above: u64) -> u64
 }
 
 fn none() -> Entered
-    ensures { λ r. ⌜ r ≡ record { size = 65536; path = 0 } ⌝ }
+    ensures { λ r. ⌜ r ≡ record { size = 65536; inside = 0; path = 0 } ⌝ }
 {
     Entered {
         size: NO_SIZE,
+        inside: 0,
         path: 0,
     }
 }
@@ -188,20 +211,14 @@ fn is_shallow(inside: u64, k: u64) -> bool
 }
 
 // An entry alone, with k containers still allowed where it stands.
-pub fn entry_size(
-    rows: &[[u64; 50]],
-    i: usize,
-    s: &[u8],
-    k: u64,
-    above: u64,
-    least: bool,
-) -> Entered
+fn entry_size(rows: &[[u64; 50]], i: usize, s: &[u8], k: u64, above: u64, least: bool) -> Entered
     ensures { λ r. ⌜ enteredAt (spelling least) (now (s .entry)) (getD (now (rows .entry)) i []) k above ≡ r ⌝ }
 {
     let kind = word_at(rows, i, KIND);
     let split = split_of(kind);
-    let own = cells_size(rows, i, s, kind, 0, split, least);
-    let inside = cells_size(rows, i, s, kind, split, 16, least);
+    let rules = rules_of(kind);
+    let own = cells_size(rows, i, s, rules, 0, split, least);
+    let inside = cells_size(rows, i, s, rules, split, 16, least);
     if MESSAGE_LIMIT < own {
         return none();
     }
@@ -218,11 +235,11 @@ pub fn entry_size(
     if !is_complete(rows, i, kind) {
         return none();
     }
-    let path = path_after(s, cell_at(rows, i, 0), rule_at(kind, 0), above);
+    let path = path_after(s, cell_at(rows, i, 0), rule_in(rules, 0), above);
     if 16 < path {
         return none();
     }
-    Entered { size, path }
+    Entered { size, inside, path }
 }
 
 // Whether a collection may hold a kind.
@@ -272,6 +289,15 @@ fn least_of(a: usize, b: usize) -> usize
     if a <= b { a } else { b }
 }
 
+fn empty(start: usize) -> Measured
+    ensures { λ r. ⌜ r ≡ record { next = start; size = 0 } ⌝ }
+{
+    Measured {
+        next: start,
+        size: 0,
+    }
+}
+
 fn refused() -> Measured
     ensures { λ r. ⌜ r ≡ record { next = 0; size = 65536 } ⌝ }
 {
@@ -295,10 +321,10 @@ fn is_next(rows: &[[u64; 50]], i: usize, which: u64, parent: u64) -> bool
 fn may_hold(kind: u64, c: u64, what: u64, from: usize, next: usize) -> bool
     ensures { λ r. ⌜ pick (eqb (ruleOf kind c) what) true (eqb next from) ≡ r ⌝ }
 {
-    if glow_grammar::rule_of(kind, c) == what {
+    if next == from {
         return true;
     }
-    next == from
+    glow_grammar::rule_of(kind, c) == what
 }
 
 // The octets before a tree and its own: its entry, its children and its connections in their tags.
@@ -309,7 +335,53 @@ fn tree_size(total: u64, own: u64, kids: u64, links: u64) -> u64
     plus(total, around(around(held)))
 }
 
-// The trees that stand in a collection under a parent, from an entry on.
+// Four sizes in one word.
+fn packed(size: u64, inside: u64, kids: u64, links: u64) -> u64
+    requires { ⌜ (size ≤ 16384) × ((inside ≤ 16384) × ((kids ≤ 16384) × (links ≤ 16384))) ⌝ }
+    ensures { λ r. ⌜ Packed size inside kids links r ⌝ }
+{
+    size + inside * 65536 + kids * 4294967296 + links * 281474976710656
+}
+
+// A word kept at a place, if there is one.
+fn keep(kept: &mut [u64], i: usize, w: u64)
+    ensures { λ _. ⌜ Stored (now (kept .entry)) i w (now (kept .exit)) ⌝ }
+{
+    if kept.len() <= i {
+        return;
+    }
+    kept[i] = w;
+}
+
+// The trees that stand in a collection under a parent, from an entry on: nothing to walk where that entry has another parent.
+fn inside(
+    rows: &[[u64; 50]],
+    s: &[u8],
+    count: usize,
+    which: u64,
+    parent: u64,
+    start: usize,
+    k: u64,
+    above: u64,
+    least: bool,
+    kept: &mut [u64],
+) -> Measured
+    requires { ⌜ (start ≤ count) × (count ≤ length (now rows)) ⌝ }
+    ensures { λ r. ⌜ Gives (spelling least) (itemsIn (now (s .entry)) (now (rows .entry)) count) which parent k above 0 start r ⌝ }
+    ensures { λ r. ⌜ (start ≤ r .next) ⊎ (16384 < r .size) ⌝ }
+    ensures { λ r. ⌜ (r .next ≤ count) ⌝ }
+    ensures { λ r. ⌜ Notes (spelling least) (now (s .entry)) (now (rows .entry)) count start r (now (kept .entry)) (now (kept .exit)) ⌝ }
+{
+    if count <= start {
+        return empty(start);
+    }
+    if word_at(rows, start, PARENT) != parent {
+        return empty(start);
+    }
+    items(rows, s, count, which, parent, start, k, above, least, kept)
+}
+
+// The same, entry by entry.
 fn items(
     rows: &[[u64; 50]],
     s: &[u8],
@@ -320,11 +392,13 @@ fn items(
     k: u64,
     above: u64,
     least: bool,
+    kept: &mut [u64],
 ) -> Measured
     requires { ⌜ (start ≤ count) × (count ≤ length (now rows)) ⌝ }
     ensures { λ r. ⌜ Gives (spelling least) (itemsIn (now (s .entry)) (now (rows .entry)) count) which parent k above 0 start r ⌝ }
     ensures { λ r. ⌜ (start ≤ r .next) ⊎ (16384 < r .size) ⌝ }
     ensures { λ r. ⌜ (r .next ≤ count) ⌝ }
+    ensures { λ r. ⌜ Notes (spelling least) (now (s .entry)) (now (rows .entry)) count start r (now (kept .entry)) (now (kept .exit)) ⌝ }
 {
     let mut i = start;
     let mut total: u64 = 0;
@@ -346,7 +420,7 @@ fn items(
         let below = i + 1;
         let me = wide(below);
         let left = inside_of(k);
-        let kids = items(
+        let kids = inside(
             rows,
             s,
             count,
@@ -356,6 +430,7 @@ fn items(
             left,
             e.path,
             least,
+            kept,
         );
         if MESSAGE_LIMIT < kids.size {
             return refused();
@@ -363,7 +438,7 @@ fn items(
         if !may_hold(kind, tags::KIDS_MEMBER, rules::KIDS, below, kids.next) {
             return refused();
         }
-        let links = items(
+        let links = inside(
             rows,
             s,
             count,
@@ -373,6 +448,7 @@ fn items(
             left,
             e.path,
             least,
+            kept,
         );
         if MESSAGE_LIMIT < links.size {
             return refused();
@@ -386,6 +462,7 @@ fn items(
         ) {
             return refused();
         }
+        keep(kept, i, packed(e.size, e.inside, kids.size, links.size));
         total = tree_size(total, e.size, kids.size, links.size);
         if MESSAGE_LIMIT < total {
             return refused();
@@ -419,13 +496,24 @@ pub fn trees_size(
             size: 0,
         };
     }
-    items(rows, s, n, which, parent, start, k, above, least)
+    let mut none = [0u64; 1];
+    let kept: &mut [u64] = &mut none;
+    items(rows, s, n, which, parent, start, k, above, least, kept)
 }
 
-// How many octets the message of the first `count` rows has, with reals as they are written or in the fewest octets; NO_SIZE where
-// they make no tree that the reader accepts in 16,384 octets.
-pub fn measure(rows: &[[u64; 50]], count: usize, root: u64, s: &[u8], least: bool) -> u64
-    ensures { λ r. ⌜ lengthOf (spelling least) root (length (now (rows .entry))) count (itemsIn (now (s .entry)) (now (rows .entry)) count) ≡ r ⌝ }
+// How many octets the trees of the first `count` rows take in Root's collection, with the sizes of each entry kept by its place; NO_SIZE where they
+// make no tree that the reader accepts in 16,384 octets.
+pub fn judge(
+    rows: &[[u64; 50]],
+    count: usize,
+    root: u64,
+    s: &[u8],
+    least: bool,
+    kept: &mut [u64],
+) -> u64
+    ensures { λ r. ⌜ lengthOf (spelling least) root (length (now (rows .entry))) count (itemsIn (now (s .entry)) (now (rows .entry)) count)
+        ≡ cap (taggedSize (cap (taggedSize r))) ⌝ }
+    ensures { λ r. ⌜ (r ≤ 16384 → Judged (spelling least) (now (s .entry)) (now (rows .entry)) count root r (now (kept .entry)) (now (kept .exit))) ⌝ }
 {
     if rows.len() < count {
         return NO_SIZE;
@@ -436,14 +524,24 @@ pub fn measure(rows: &[[u64; 50]], count: usize, root: u64, s: &[u8], least: boo
     if !glow_trees::is_root(root) {
         return NO_SIZE;
     }
-    let m = items(rows, s, count, root, 0, 0, LEFT, 0, least);
+    let m = items(rows, s, count, root, 0, 0, LEFT, 0, least, kept);
     if MESSAGE_LIMIT < m.size {
         return NO_SIZE;
     }
     if m.next != count {
         return NO_SIZE;
     }
-    around(around(m.size))
+    m.size
+}
+
+// How many octets the message of the first `count` rows has, with reals as they are written or in the fewest octets; NO_SIZE where
+// they make no tree that the reader accepts in 16,384 octets.
+pub fn measure(rows: &[[u64; 50]], count: usize, root: u64, s: &[u8], least: bool) -> u64
+    ensures { λ r. ⌜ lengthOf (spelling least) root (length (now (rows .entry))) count (itemsIn (now (s .entry)) (now (rows .entry)) count) ≡ r ⌝ }
+{
+    let mut none = [0u64; 1];
+    let kept: &mut [u64] = &mut none;
+    around(around(judge(rows, count, root, s, least, kept)))
 }
 
 // Whether the first `count` rows make a tree that the reader accepts: some message of at most 16,384 bytes is read as exactly these entries.

@@ -18,15 +18,14 @@ use Rattle.glow_trees.specs.Rows.{cellsFrom, entryOf, entriesOf, itemsIn}
 use Rattle.glow_trees.specs.Trees.{Trees, none, tree, standsIn, stands, Taken, taken, takenBy, count}
 use Rattle.glow_trees.specs.Legal.{suited, complete, pathAfter, empty, inner, isNone, legal}
 use Rattle.glow_trees.specs.Written.{tagged, membersOctets, wrapped, own, treesOctets, writtenReal}
-use Rattle.glow_sizes.specs.declared.Entered.{Entered}
-use Rattle.glow_sizes.specs.declared.Measured.{Measured}
 use Rattle.glow_writer.specs.declared.write.Placed.{Placed}
 use Rattle.glow_member_sizes.specs.Sizes.{cap, taggedSize}
-use Rattle.glow_sizes.specs.Sizes.{wrappedSize, entryOctets, entered, enteredAt, measured, Gives}
-use Rattle.glow_writer.specs.Puts.{Puts, heads, entryPart, treesAt, kidsAt, linksAt, oneAt, ItemsPut, ItemPuts, InsidePuts}
+use Rattle.glow_sizes.specs.Sizes.{wrappedSize, entryOctets}
+use Rattle.glow_sizes.specs.Kept.{treesAt, kidsAt, linksAt, kindAt, membersAt, Packed, Keeps}
+use Rattle.glow_writer.specs.Puts.{Puts, heads, entryPart, EntryPuts, oneAt, ItemsPut, ItemPuts, InsidePuts}
 use Rattle.glow_member_sizes.proofs.Caps.{cap-in, over-tagged}
 use Rattle.glow_member_sizes.proofs.Members.{outer-length}
-use Rattle.glow_sizes.proofs.Entry.{wrapped-length, tagged-some, entered-is}
+use Rattle.glow_sizes.proofs.Entry.{wrapped-length, tagged-some}
 use Rattle.glow_writer.proofs.Putting.{puts-then, puts-none, puts-as, outer-put, application-small, wrapped-within, wrapped-empty, wrapped-put}
 
 never : {P : Type 0} → false ≡ true → P
@@ -319,22 +318,8 @@ module _ (es : List Item) (which parent k above i : ℕ) where
       (y .0, wrapped-put number class inside size (treesOctets writtenReal (treesAt es f which parent i)) out at tag q o (r .place) o′ m l t e z p (y .1))
 
 -- ---- a tree
-pub measured-is : (which k above i : ℕ) (t : Trees) (r : Measured) → legal which k above t ≡ true → length (treesOctets writtenReal t) ≤ 16384
-    → measured writtenReal which k above 0 i t ≡ r → (i + count t ≡ r .next) × (length (treesOctets writtenReal t) ≡ r .size)
-unfolding measured
-measured-is which k above i t r g h m =
-    let b : 0 + length (treesOctets writtenReal t) ≤ 16384 = omega arith in
-    let z : 0 + length (treesOctets writtenReal t) ≡ length (treesOctets writtenReal t) = omega arith in
-    let e : measured writtenReal which k above 0 i t ≡ record { next = i + count t; size = 0 + length (treesOctets writtenReal t) } = simp (
-      g,
-      le-leb
-          _ _ b,
-    ) in
-    (ap (λ (x : Measured). x .next) (sym e ∙ m), sym z ∙ ap (λ (x : Measured). x .size) (sym e ∙ m))
-
-four : (P : ℕ → ℕ → ℕ → ℕ → Type 0) {a b c d a′ b′ c′ d′ : ℕ} → a ≡ a′ → b ≡ b′ → c ≡ c′ → d ≡ d′ → P a b c d → P a′ b′ c′ d′
-four P {a} {b} {c} {d} {a′} {b′} {c′} {d′} i j k l p =
-    subst (λ (x : ℕ). P a′ b′ c′ x) l (subst (λ (x : ℕ). P a′ b′ x d) k (subst (λ (x : ℕ). P a′ x c d) j (subst (λ (x : ℕ). P x b c d) i p)))
+two : (P : ℕ → ℕ → Type 0) {a b a′ b′ : ℕ} → a ≡ a′ → b ≡ b′ → P a b → P a′ b′
+two P {a} {b} {a′} {b′} i j p = subst (λ (x : ℕ). P a′ x) j (subst (λ (x : ℕ). P x b) i p)
 
 module _ (es : List Item) (k above i kind : ℕ) (xs : List Content) (f which : ℕ) (l : length es - suc i < f)
     (g : legal which k above (oneAt es f i kind xs) ≡ true) (b : length (treesOctets writtenReal (oneAt es f i kind xs)) ≤ 16384) where
@@ -378,52 +363,36 @@ module _ (es : List Item) (k above i kind : ℕ) (xs : List Content) (f which : 
       let z = over-tagged (taggedSize (length B)) in
       omega arith
 
-  entered-eq : entered writtenReal kind k above xs ≡ record { size = entryOctets writtenReal kind xs; path = P }
-  entered-eq =
-      let x = body-length in
-      let y = body-small in
-      let p : P ≤ 16 = leb-true P 16 (facts .1 .1 .0) in
-      entered-is writtenReal kind k above xs (facts .0) (facts .1 .0) (facts .1 .1 .1 .0) (entryOctets writtenReal kind xs) P refl (omega arith) refl p
-
-  item-core : (e : Entered) → entered writtenReal kind k above xs ≡ e → (me deep n : ℕ) → me ≡ suc i → deep ≡ k - 4 → n ≡ suc i → (kids links : Measured)
-      → Gives writtenReal es 1 me deep (e .path) 0 n kids → Gives writtenReal es 2 me deep (e .path) 0 (kids .next) links
-      → (p q c held : ℕ) → cap (wrappedSize (kids .size)) ≡ p → cap (wrappedSize (links .size)) ≡ q → cap (p + q) ≡ c → cap (e .size + c) ≡ held
-      → (tag : ℕ) → tag ≡ 96 + getD applications kind 0 → (out : List ℕ) (at x : ℕ) (o₁ : List ℕ) → (taggedSize held ≤ 16384 → Puts out at
-      (heads 0 tag held) x o₁)
+  item-core : (size ks ls : ℕ) → size ≡ entryOctets writtenReal kind xs → ks ≡ length (treesOctets writtenReal K)
+      → ls ≡ length (treesOctets writtenReal L) → (me n : ℕ) → me ≡ suc i → n ≡ suc i
+      → (p q c held : ℕ) → cap (wrappedSize ks) ≡ p → cap (wrappedSize ls) ≡ q → cap (p + q) ≡ c → cap (size + c) ≡ held
+      → (tag : ℕ) → tag ≡ 96 + getD applications kind 0 → (out : List ℕ) (at x : ℕ) (o₁ : List ℕ)
+      → (taggedSize held ≤ 16384 → Puts out at (heads 0 tag held) x o₁)
       → (y : ℕ) (o₂ : List ℕ) → (suited kind 0 xs ≡ true → Puts o₁ x (entryPart kind xs) y o₂)
-      → (m : Placed) (o₃ : List ℕ) → InsidePuts es 1 2 100 (kids .size) me deep (e .path) n o₂ y m o₃
-      → (r : Placed) (o₄ : List ℕ) → InsidePuts es 2 5 48 (links .size) me deep (e .path) (m .next) o₃ (m .place) r o₄
+      → (m : Placed) (o₃ : List ℕ) → InsidePuts es 1 2 100 ks me (k - 4) P n o₂ y m o₃
+      → (r : Placed) (o₄ : List ℕ) → InsidePuts es 2 5 48 ls me (k - 4) P (m .next) o₃ (m .place) r o₄
       → (i + count (oneAt es f i kind xs) ≡ r .next) × Puts out at (treesOctets writtenReal (oneAt es f i kind xs)) (r .place) o₄
   unfolding InsidePuts entryPart oneAt count
-  item-core e he me deep n em ed en kids links hk hl p q c held hp hq hc hh tag ht out at x o₁ ho y o₂ hn m o₃ h1 r o₄ h2 =
+  item-core size ks ls se hk hl me n em en p q c held hp hq hc hh tag ht out at x o₁ ho y o₂ hn m o₃ h1 r o₄ h2 =
       let bl = body-length in
       let bs = body-small in
       let kw = wrapped-within 2 1 4 (treesOctets writtenReal K) (omega arith) (omega arith) in
       let lw = wrapped-within 5 0 16 (treesOctets writtenReal L) (omega arith) (omega arith) in
       let gk : legal children (k - 4) P K ≡ true = facts .1 .1 .1 .1 .0 in
       let gl : legal connections (k - 4) P L ≡ true = facts .1 .1 .1 .1 .1 in
-      let ee : e ≡ record { size = entryOctets writtenReal kind xs; path = P } = sym he ∙ entered-eq in
-      let pe : e .path ≡ P = ap (λ (z : Entered). z .path) ee in
-      let se : e .size ≡ entryOctets writtenReal kind xs = ap (λ (z : Entered). z .size) ee in
-      let bk : length (treesOctets writtenReal K) ≤ 16384 = omega arith in
-      let mk = measured-is 1 (k - 4) P (suc i) K kids gk bk (four (λ a d v u. Gives writtenReal es 1 a d v 0 u kids) em ed pe en hk f l) in
+      let sk : ks ≤ 16384 = omega arith in
+      let sl : ls ≤ 16384 = omega arith in
       let ll : length es - (suc i + count K) < f = omega arith in
-      let bw : length (treesOctets writtenReal L) ≤ 16384 = omega arith in
-      let ml = measured-is 2 (k - 4) P (suc i + count K) L links gl bw
-      (four (λ a d v u. Gives writtenReal es 2 a d v 0 u links) em ed pe (sym (mk .0)) hl f ll) in
-      let sk : kids .size ≤ 16384 = omega arith in
-      let sl : links .size ≤ 16384 = omega arith in
-      let i1 = four (λ a d v u. InsidePuts es 1 2 100 (kids .size) a d v u o₂ y m o₃) em ed pe en h1 f 1 4 l refl (omega arith) gk (mk .1) sk in
-      let i2 = four (λ a d v u. InsidePuts es 2 5 48 (links .size) a d v u o₃ (m .place) r o₄) em ed pe (sym (i1 .0)) h2 f 0 16 ll refl
-      (omega arith) gl (ml .1) sl in
-      let wk : wrappedSize (kids .size) ≡ length WK =
-      ap wrappedSize (sym (mk .1)) ∙ sym (wrapped-length 2 1 4 (treesOctets writtenReal K) (omega arith) (omega arith)) in
-      let wl : wrappedSize (links .size) ≡ length WL =
-      ap wrappedSize (sym (ml .1)) ∙ sym (wrapped-length 5 0 16 (treesOctets writtenReal L) (omega arith) (omega arith)) in
+      let i1 = two (λ a u. InsidePuts es 1 2 100 ks a (k - 4) P u o₂ y m o₃) em en h1 f 1 4 l refl (omega arith) gk (sym hk) sk in
+      let i2 = two (λ a u. InsidePuts es 2 5 48 ls a (k - 4) P u o₃ (m .place) r o₄) em (sym (i1 .0)) h2 f 0 16 ll refl (omega arith) gl (sym hl) sl in
+      let wk : wrappedSize ks ≡ length WK =
+      ap wrappedSize hk ∙ sym (wrapped-length 2 1 4 (treesOctets writtenReal K) (omega arith) (omega arith)) in
+      let wl : wrappedSize ls ≡ length WL =
+      ap wrappedSize hl ∙ sym (wrapped-length 5 0 16 (treesOctets writtenReal L) (omega arith) (omega arith)) in
       let pk : p ≡ length WK = sym hp ∙ ap cap wk ∙ cap-in (length WK) (omega arith) in
       let ql : q ≡ length WL = sym hq ∙ ap cap wl ∙ cap-in (length WL) (omega arith) in
       let ci : c ≡ p + q = sym hc ∙ cap-in (p + q) (omega arith) in
-      let hi : held ≡ e .size + c = sym hh ∙ cap-in (e .size + c) (omega arith) in
+      let hi : held ≡ size + c = sym hh ∙ cap-in (size + c) (omega arith) in
       let hb : length B ≡ held = omega arith in
       let ti : tag ≡ 1 * 64 + 32 + getD applications kind 0 = omega arith in
       let mine : List ℕ = membersOctets writtenReal 0 (own kind xs) in
@@ -439,24 +408,27 @@ module _ (es : List Item) (k above i kind : ℕ) (xs : List Content) (f which : 
       )
 
 -- ---- the code's answers
-pub item-put : (es : List Item) (k above i : ℕ) (s row : List ℕ) (kind : ℕ) → kind ≡ getD row 0 0
-    → (e : Entered) → enteredAt writtenReal s row k above ≡ e → (me deep n : ℕ) → me ≡ suc i → deep ≡ k - 4 → n ≡ suc i → (kids links : Measured)
-    → Gives writtenReal es 1 me deep (e .path) 0 n kids → Gives writtenReal es 2 me deep (e .path) 0 (kids .next) links
-    → (p q c held : ℕ) → cap (wrappedSize (kids .size)) ≡ p → cap (wrappedSize (links .size)) ≡ q → cap (p + q) ≡ c → cap (e .size + c) ≡ held
-    → (tag : ℕ) → tag ≡ 96 + getD applications kind 0 → (out : List ℕ) (at x : ℕ) (o₁ : List ℕ) → (taggedSize held ≤ 16384 → Puts out at
-    (heads 0 tag held) x o₁)
-    → (y : ℕ) (o₂ : List ℕ)
-    → (suited kind 0 (contentsOf s (cellsFrom 16 0 row)) ≡ true → Puts o₁ x (entryPart kind (contentsOf s (cellsFrom 16 0 row))) y o₂)
-    → (m : Placed) (o₃ : List ℕ) → InsidePuts es 1 2 100 (kids .size) me deep (e .path) n o₂ y m o₃
-    → (r : Placed) (o₄ : List ℕ) → InsidePuts es 2 5 48 (links .size) me deep (e .path) (m .next) o₃ (m .place) r o₄
-    → ItemPuts es k above i (getD row 0 0) (contentsOf s (cellsFrom 16 0 row)) out at r o₄
-unfolding ItemPuts enteredAt
-item-put es k above i s row kind ek e he me deep n em ed en kids links hk hl p q c held hp hq hc hh tag ht out at x o₁ ho y o₂ hn m o₃ h1 r o₄ h2
+pub item-put : (s : List ℕ) (rows : Rows) (cnt i kind w : ℕ) → kind ≡ kindAt rows i → Keeps writtenReal s rows cnt i w
+    → (size within ks ls : ℕ) → Packed size within ks ls w → (me n : ℕ) → me ≡ suc i → n ≡ suc i
+    → (p q c held : ℕ) → cap (wrappedSize ks) ≡ p → cap (wrappedSize ls) ≡ q → cap (p + q) ≡ c → cap (size + c) ≡ held
+    → (tag : ℕ) → tag ≡ 96 + getD applications kind 0 → (out : List ℕ) (at x : ℕ) (o₁ : List ℕ)
+    → (taggedSize held ≤ 16384 → Puts out at (heads 0 tag held) x o₁)
+    → (y : ℕ) (o₂ : List ℕ) → EntryPuts kind (membersAt s rows i) within o₁ x y o₂
+    → (m : Placed) (o₃ : List ℕ) → ((k above : ℕ) → InsidePuts (itemsIn s rows cnt) 1 2 100 ks me k above n o₂ y m o₃)
+    → (r : Placed) (o₄ : List ℕ) → ((k above : ℕ) → InsidePuts (itemsIn s rows cnt) 2 5 48 ls me k above (m .next) o₃ (m .place) r o₄)
+    → (k above : ℕ) → ItemPuts (itemsIn s rows cnt) k above i (kindAt rows i) (membersAt s rows i) out at r o₄
+unfolding ItemPuts
+item-put s rows cnt i kind w ek kp size within ks ls pa me n em en p q c held hp hq hc hh tag ht out at x o₁ ho y o₂ hn m o₃ h1 r o₄ h2 k above
     f which l g b =
-    let xs : List Content = contentsOf s (cellsFrom 16 0 row) in
-    item-core es k above i (getD row 0 0) xs f which l g b e he me deep n em ed en kids links hk hl p q c held hp hq hc hh tag
+    let xs : List Content = membersAt s rows i in
+    let path : ℕ = pathAfter (kindAt rows i) above (membersAt s rows i) in
+    item-core (itemsIn s rows cnt) k above i (kindAt rows i) xs f which l g b size ks ls (sym (pa .0) ∙ kp .size)
+    (sym (pa .1 .1 .0) ∙ kp .kids f l) (sym (pa .1 .1 .1) ∙ kp .links f l) me n em en p q c held hp hq hc hh tag
     (ht ∙ ap (λ (z : ℕ). 96 + getD applications z 0) ek) out at x o₁ ho y o₂
-    (λ u. subst (λ (z : ℕ). Puts o₁ x (entryPart z xs) y o₂) ek (hn (ap (λ (z : ℕ). suited z 0 xs) ek ∙ u))) m o₃ h1 r o₄ h2
+    (λ u. subst (λ (z : ℕ). Puts o₁ x (entryPart z xs) y o₂) ek
+    (hn (ap (λ (z : ℕ). suited z 0 xs) ek ∙ u)
+    (sym (pa .1 .0) ∙ kp .inside ∙ ap (λ (z : ℕ). length (membersOctets writtenReal 0 (inner z xs))) (sym ek))))
+    m o₃ (h1 (k - 4) path) r o₄ (h2 (k - 4) path)
 
 module _ (s : List ℕ) (rows : Rows) (n : ℕ) (h : n ≤ length rows) (which parent k above i : ℕ) where
   abbrev row : List ℕ

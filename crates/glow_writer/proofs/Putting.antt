@@ -33,11 +33,11 @@ use Rattle.glow_trees.specs.Rows.{cellAt, cellsFrom}
 use Rattle.glow_trees.specs.Legal.{isReal, isFormed, wordSuits, suits, ruleAt, suited, inner}
 use Rattle.glow_trees.specs.Written.{tagged, spelled, memberOctets, membersOctets, wrapped, own, rootNumber, writtenReal, formOctets}
 use Rattle.glow_member_sizes.specs.Sizes.{cap, taggedSize, nextOf, WordSized}
-use Rattle.glow_sizes.specs.Sizes.{cellsSize, split}
+use Rattle.glow_sizes.specs.Sizes.{split}
 use Rattle.glow_writer.specs.Puts.{Puts, head, heads, entryPart}
 use Rattle.glow_member_sizes.proofs.Caps.{cap-in, over-tagged}
 use Rattle.glow_member_sizes.proofs.Members.{tagged-length, outer-length, content-part, content-out, part-small, word-small, word-known}
-use Rattle.glow_sizes.proofs.Entry.{both-left, both-right, cells-sized}
+use Rattle.glow_sizes.proofs.Entry.{both-left, both-right}
 
 never : {P : Type 0} → false ≡ true → P
 never e = absurd (subst (λ (b : Bool). T (not b)) e tt)
@@ -454,13 +454,8 @@ module _ (kind : ℕ) (s row : List ℕ) where
         both-right (suits (ruleAt kind 0) (contentOf s (cellAt row 0))) (suited kind 1 (some 15 1)) h,
       )
 
-  some-length : (n c : ℕ) → length (some n c) ≡ n
-  unfolding cellsFrom contentsOf
-  some-length zero c = refl
-  some-length (suc n) c = ap suc (some-length n (suc c))
-
-  module _ (sp : ℕ) (e : split kind ≡ sp) (l : sp ≤ 16) (n : ℕ) (z : cellsSize writtenReal kind sp (some (16 - sp) sp) ≡ n) (out : List ℕ) (at a : ℕ)
-      (o : List ℕ)
+  module _ (sp : ℕ) (e : split kind ≡ sp) (l : sp ≤ 16) (n : ℕ) (z : n ≡ length (membersOctets writtenReal 0 (inner kind all))) (out : List ℕ)
+      (at a : ℕ) (o : List ℕ)
       (f : suited kind 0 (some (sp - 0) 0) ≡ true → Puts out at (membersOctets writtenReal 0 (some (sp - 0) 0)) a o) (u : suited kind 0 all ≡ true) where
     abbrev inside : List ℕ
     inside = membersOctets writtenReal 0 (inner kind all)
@@ -481,32 +476,17 @@ module _ (kind : ℕ) (s row : List ℕ) where
     inner-suited : suited kind sp (some (16 - sp) sp) ≡ true
     inner-suited = subst (λ (x : ℕ). suited kind x (some (16 - x) x) ≡ true) e (suited-parts u .1)
 
-    inside-length : length inside ≤ 16384 → length inside ≡ n
-    inside-length h =
-        let m = some-length (16 - sp) sp in
-        let q : 0 + length (some (16 - sp) sp) ≤ 31 = omega arith in
-        let w : length inside ≡ length (membersOctets writtenReal 0 (some (16 - sp) sp)) = ap (λ (x : List Content). length
-        (membersOctets writtenReal 0 x)) inner-some in
-        let y : length (membersOctets writtenReal 0 (some (16 - sp) sp)) ≤ 16384 = omega arith in
-        w ∙ sym (cap-in (length (membersOctets writtenReal 0 (some (16 - sp) sp))) y)
-        ∙ sym (cells-sized writtenReal kind sp 0 (some (16 - sp) sp) q ∙ rw inner-suited refl) ∙ z
-
-    entry-given : (r : ℕ) (o′ : List ℕ) → (length inside ≡ n → Puts o a (wrapped 1 0 17 inside) r o′) → Puts out at (entryPart kind all) r o′
+    entry-given : (r : ℕ) (o′ : List ℕ) → Puts o a (wrapped 1 0 17 inside) r o′ → Puts out at (entryPart kind all) r o′
     unfolding entryPart
-    entry-given r o′ g =
-        puts-given out at (mine ++ wrapped 1 0 17 inside) r o′
-        (λ h.
-        let i = length-append mine (wrapped 1 0 17 inside) in
-        let j = wrapped-within 1 0 17 inside (omega arith) (omega arith) in
-        puts-then out at mine a o (wrapped 1 0 17 inside) r o′ own-put (g (inside-length (omega arith))))
+    entry-given r o′ g = puts-then out at mine a o (wrapped 1 0 17 inside) r o′ own-put g
 
     pub entry-none : n ≡ 0 → Puts out at (entryPart kind all) a o
-    entry-none h = entry-given a o (λ k. wrapped-empty 1 0 17 n inside o a k h)
+    entry-none h = entry-given a o (wrapped-empty 1 0 17 n inside o a (sym z) h)
 
     pub entry-some : (n ≡ 0 → ⊥) → (q : ℕ) (o₂ : List ℕ) (r : ℕ) (o′ : List ℕ) → (taggedSize n ≤ 16384 → Puts o a (heads 1 49 n) q o₂)
         → (suited kind sp (some (16 - sp) sp) ≡ true → Puts o₂ q (membersOctets writtenReal 0 (some (16 - sp) sp)) r o′)
         → Puts out at (entryPart kind all) r o′
     entry-some h q o₂ r o′ g k =
         entry-given r o′
-        (λ y. wrapped-put 1 0 17 n inside o a 49 q o₂ r o′ (omega arith) (omega arith) refl y h g
+        (wrapped-put 1 0 17 n inside o a 49 q o₂ r o′ (omega arith) (omega arith) refl (sym z) h g
         (puts-as o₂ q (membersOctets writtenReal 0 (some (16 - sp) sp)) inside r o′ (ap (membersOctets writtenReal 0) (sym inner-some)) (k inner-suited)))

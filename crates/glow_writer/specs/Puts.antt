@@ -17,6 +17,7 @@ use Rattle.glow_trees.specs.Trees.{Trees, none, tree, takenBy, count}
 use Rattle.glow_trees.specs.Legal.{isReal, suits, suited, inner, legal}
 use Rattle.glow_trees.specs.Written.{spelled, memberOctets, membersOctets, wrapped, own, treesOctets, writtenReal}
 use Rattle.glow_member_sizes.specs.Sizes.{taggedSize}
+use Rattle.glow_sizes.specs.Kept.{treesAt, kidsAt, linksAt, kindAt, membersAt, Keeps}
 use Rattle.glow_writer.specs.declared.write.Placed.{Placed}
 
 -- Octets of at most 16,384, for which there is room, stand at `at`, and r is the place after them.
@@ -50,20 +51,12 @@ MemberPuts number x out at r out′ = (what : ℕ) → suits what x ≡ true →
 abbrev pub MembersPut : ℕ → ℕ → List Content → List ℕ → ℕ → ℕ → List ℕ → Type 0
 MembersPut kind from xs out at r out′ = suited kind from xs ≡ true → Puts out at (membersOctets writtenReal 0 xs) r out′
 
-abbrev pub EntryPuts : ℕ → List Content → List ℕ → ℕ → ℕ → List ℕ → Type 0
-EntryPuts kind xs out at r out′ = suited kind 0 xs ≡ true → Puts out at (entryPart kind xs) r out′
-
--- the trees that stand in a collection from place i on; f is more than the entries that are left
-abbrev pub treesAt : List Item → ℕ → ℕ → ℕ → ℕ → Trees
-treesAt es f which parent i = takenBy f which parent i (drop i es) .trees
+-- by the octets of its contents
+abbrev pub EntryPuts : ℕ → List Content → ℕ → List ℕ → ℕ → ℕ → List ℕ → Type 0
+EntryPuts kind xs n out at r out′ =
+    suited kind 0 xs ≡ true → n ≡ length (membersOctets writtenReal 0 (inner kind xs)) → Puts out at (entryPart kind xs) r out′
 
 -- the tree of the entry at place i, alone
-abbrev pub kidsAt : List Item → ℕ → ℕ → Trees
-kidsAt es f i = treesAt es f children (suc i) (suc i)
-
-abbrev pub linksAt : List Item → ℕ → ℕ → Trees
-linksAt es f i = treesAt es f connections (suc i) (suc i + count (kidsAt es f i))
-
 unfoldable pub oneAt : List Item → ℕ → ℕ → ℕ → List Content → Trees
 oneAt es f i kind members = tree kind members (kidsAt es f i) (linksAt es f i) none
 
@@ -89,10 +82,17 @@ InsidePuts es which number tag size parent k above i out at r out′ =
     → (i + count (treesAt es f which parent i) ≡ r .next)
     × Puts out at (wrapped number class inside (treesOctets writtenReal (treesAt es f which parent i))) (r .place) out′
 
--- by the rows, with the message beside them
-abbrev pub ItemBy : List ℕ → Rows → ℕ → ℕ → ℕ → ℕ → List ℕ → ℕ → Placed → List ℕ → Type 0
-ItemBy s rows n k above i out at r out′ = ItemPuts (itemsIn s rows n) k above i (getD (getD rows i []) 0 0) (rowCells s rows i 16 0) out at r out′
+-- by the rows, with the message beside them; whatever the containers that are still allowed, and the path above
+abbrev pub ItemsBy : List ℕ → Rows → ℕ → ℕ → ℕ → ℕ → List ℕ → ℕ → Placed → List ℕ → Type 0
+ItemsBy s rows n which parent i out at r out′ = (k above : ℕ) → ItemsPut (itemsIn s rows n) which parent k above i out at r out′
 
-abbrev pub InsideBy : List ℕ → Rows → ℕ → ℕ → ℕ → ℕ → ℕ → ℕ → ℕ → ℕ → ℕ → List ℕ → ℕ → Placed → List ℕ → Type 0
-InsideBy s rows n which number tag size parent k above i out at r out′ =
-    InsidePuts (itemsIn s rows n) which number tag size parent k above i out at r out′
+abbrev pub ItemBy : List ℕ → Rows → ℕ → ℕ → List ℕ → ℕ → Placed → List ℕ → Type 0
+ItemBy s rows n i out at r out′ = (k above : ℕ) → ItemPuts (itemsIn s rows n) k above i (kindAt rows i) (membersAt s rows i) out at r out′
+
+abbrev pub InsideBy : List ℕ → Rows → ℕ → ℕ → ℕ → ℕ → ℕ → ℕ → ℕ → List ℕ → ℕ → Placed → List ℕ → Type 0
+InsideBy s rows n which number tag size parent i out at r out′ =
+    (k above : ℕ) → InsidePuts (itemsIn s rows n) which number tag size parent k above i out at r out′
+
+-- the sizes of all entries are kept
+abbrev pub AllKept : List ℕ → Rows → ℕ → List ℕ → Type 0
+AllKept s rows n kept = (j : ℕ) → j < n → Keeps writtenReal s rows n j (getD kept j 0)

@@ -1,4 +1,4 @@
-// The message of a tree, written forward: each length is measured before what it counts is written.
+// The message of a tree, written forward: the sizes are kept by entry before anything is written.
 use ber_integers::Wrote;
 use glow_grammar::collections;
 use glow_grammar::tags;
@@ -12,22 +12,17 @@ use glow_member_sizes::plus;
 use glow_member_sizes::wide;
 use glow_member_sizes::word_size;
 use glow_rows::Cell;
+use glow_rows::KIND;
+use glow_rows::PARENT;
+use glow_rows::cell_at;
 use glow_rows::kinds;
 use glow_rows::tags::ABSENT;
 use glow_rows::tags::BOOLEAN;
 use glow_rows::tags::INTEGER;
-use glow_sizes::LEFT;
-use glow_rows::KIND;
-use glow_rows::PARENT;
-use glow_rows::cell_at;
 use glow_rows::word_at;
-use glow_sizes::contents_size;
-use glow_sizes::entry_size;
-use glow_sizes::inside_of;
-use glow_sizes::measure;
+use glow_sizes::judge;
 use glow_sizes::split_of;
 use glow_sizes::stands_in;
-use glow_sizes::trees_size;
 use glow_sizes::wrapped_size;
 ghost use mathlib.Core.Path.{_≡_};
 ghost use mathlib.Core.List.{[], _∷_};
@@ -40,7 +35,7 @@ ghost use Rattle.glow_trees.specs.Content.{contentOf};
 ghost use Rattle.glow_trees.specs.Rows.{itemsIn};
 ghost use Rattle.glow_writer.specs.Writes.{writes};
 ghost use Rattle.glow_member_sizes.specs.Sizes.{taggedSize};
-ghost use Rattle.glow_writer.specs.Puts.{Puts, head, heads, rowCells, WordPuts, MemberPuts, MembersPut, EntryPuts, ItemsPut, ItemBy, InsideBy};
+ghost use Rattle.glow_writer.specs.Puts.{Puts, head, heads, rowCells, WordPuts, MemberPuts, MembersPut, EntryPuts, ItemsBy, ItemBy, InsideBy, AllKept};
 
 // The context numbers of members that hold contents, children and connections, as octets.
 const CONTENTS: u8 = tags::CONTENTS_MEMBER as u8;
@@ -151,12 +146,19 @@ fn put_cells(
 }
 
 // An entry's own members, and its contents in their tags.
-fn put_entry(rows: &[[u64; 50]], i: usize, s: &[u8], kind: u64, out: &mut [u8], at: usize) -> usize
+fn put_entry(
+    rows: &[[u64; 50]],
+    i: usize,
+    s: &[u8],
+    kind: u64,
+    n: u64,
+    out: &mut [u8],
+    at: usize,
+) -> usize
     requires { ⌜ i < length (now rows) ⌝ }
-    ensures { λ r. ⌜ EntryPuts kind (rowCells (now (s .entry)) (now (rows .entry)) i 16 0) (now (out .entry)) at r (now (out .exit)) ⌝ }
+    ensures { λ r. ⌜ EntryPuts kind (rowCells (now (s .entry)) (now (rows .entry)) i 16 0) n (now (out .entry)) at r (now (out .exit)) ⌝ }
 {
     let split = split_of(kind);
-    let n = contents_size(rows, i, s, kind, false);
     let a = put_cells(rows, i, s, kind, 0, split, out, at);
     if n == 0 {
         return a;
@@ -207,14 +209,13 @@ fn put_inside(
     size: u64,
     parent: u64,
     start: usize,
-    k: u64,
-    above: u64,
+    kept: &[u64],
     out: &mut [u8],
     at: usize,
 ) -> Placed
-    requires { ⌜ (start ≤ count) × ((count ≤ length (now rows)) × (number < 31)) ⌝ }
-    ensures { λ r. ⌜ InsideBy (now (s .entry)) (now (rows .entry)) count which number tag size parent k above start (now (out .entry)) at r
-        (now (out .exit)) ⌝ }
+    requires { ⌜ (start ≤ count) × ((count ≤ length (now rows)) × ((count ≤ length (now kept)) × (AllKept (now s) (now rows) count (now kept)
+        × (number < 31)))) ⌝ }
+    ensures { λ r. ⌜ InsideBy (now (s .entry)) (now (rows .entry)) count which number tag size parent start (now (out .entry)) at r (now (out .exit)) ⌝ }
     ensures { λ r. ⌜ (start ≤ r .next) × (r .next ≤ count) ⌝ }
 {
     if size == 0 {
@@ -224,7 +225,7 @@ fn put_inside(
         };
     }
     let a = put_outer(number, tag, size, out, at);
-    put_items(rows, s, count, which, parent, start, k, above, out, a)
+    put_items(rows, s, count, which, parent, start, kept, out, a)
 }
 
 // An entry with its children and connections.
@@ -233,47 +234,24 @@ fn put_item(
     s: &[u8],
     count: usize,
     i: usize,
-    k: u64,
-    above: u64,
+    kept: &[u64],
     out: &mut [u8],
     at: usize,
 ) -> Placed
-    requires { ⌜ (i < count) × (count ≤ length (now rows)) ⌝ }
-    ensures { λ r. ⌜ ItemBy (now (s .entry)) (now (rows .entry)) count k above i (now (out .entry)) at r (now (out .exit)) ⌝ }
+    requires { ⌜ (i < count) × ((count ≤ length (now rows)) × ((count ≤ length (now kept)) × AllKept (now s) (now rows) count (now kept))) ⌝ }
+    ensures { λ r. ⌜ ItemBy (now (s .entry)) (now (rows .entry)) count i (now (out .entry)) at r (now (out .exit)) ⌝ }
     ensures { λ r. ⌜ (i < r .next) × (r .next ≤ count) ⌝ }
 {
     let kind = word_at(rows, i, KIND);
-    let e = entry_size(rows, i, s, k, above, false);
+    let w = kept[i];
+    let size = w % 65536;
+    let inside = w / 65536 % 65536;
+    let kids = w / 4294967296 % 65536;
+    let links = w / 281474976710656 % 65536;
     let me = wide(i) + 1;
-    let deep = inside_of(k);
-    let kids = trees_size(
-        rows,
-        s,
-        count,
-        collections::CHILDREN,
-        me,
-        i + 1,
-        deep,
-        e.path,
-        false,
-    );
-    let links = trees_size(
-        rows,
-        s,
-        count,
-        collections::CONNECTIONS,
-        me,
-        kids.next,
-        deep,
-        e.path,
-        false,
-    );
-    let held = plus(
-        e.size,
-        plus(wrapped_size(kids.size), wrapped_size(links.size)),
-    );
+    let held = plus(size, plus(wrapped_size(kids), wrapped_size(links)));
     let a = put_outer(0, tag_of(kind), held, out, at);
-    let b = put_entry(rows, i, s, kind, out, a);
+    let b = put_entry(rows, i, s, kind, inside, out, a);
     let c = put_inside(
         rows,
         s,
@@ -281,11 +259,10 @@ fn put_item(
         collections::CHILDREN,
         KIDS,
         tags::ELEMENT_COLLECTION_OCTET,
-        kids.size,
+        kids,
         me,
         i + 1,
-        deep,
-        e.path,
+        kept,
         out,
         b,
     );
@@ -296,11 +273,10 @@ fn put_item(
         collections::CONNECTIONS,
         LINKS,
         tags::SEQUENCE_OCTET,
-        links.size,
+        links,
         me,
         c.next,
-        deep,
-        e.path,
+        kept,
         out,
         c.place,
     )
@@ -314,13 +290,12 @@ fn put_items(
     which: u64,
     parent: u64,
     start: usize,
-    k: u64,
-    above: u64,
+    kept: &[u64],
     out: &mut [u8],
     at: usize,
 ) -> Placed
-    requires { ⌜ (start ≤ count) × (count ≤ length (now rows)) ⌝ }
-    ensures { λ r. ⌜ ItemsPut (itemsIn (now (s .entry)) (now (rows .entry)) count) which parent k above start (now (out .entry)) at r (now (out .exit)) ⌝ }
+    requires { ⌜ (start ≤ count) × ((count ≤ length (now rows)) × ((count ≤ length (now kept)) × AllKept (now s) (now rows) count (now kept))) ⌝ }
+    ensures { λ r. ⌜ ItemsBy (now (s .entry)) (now (rows .entry)) count which parent start (now (out .entry)) at r (now (out .exit)) ⌝ }
     ensures { λ r. ⌜ (start ≤ r .next) × (r .next ≤ count) ⌝ }
 {
     let mut i = start;
@@ -332,7 +307,7 @@ fn put_items(
         if !stands_in(which, word_at(rows, i, KIND)) {
             return Placed { next: i, place: p };
         }
-        let r = put_item(rows, s, count, i, k, above, out, p);
+        let r = put_item(rows, s, count, i, kept, out, p);
         i = r.next;
         p = r.place;
     }
@@ -355,16 +330,19 @@ pub fn write(rows: &[[u64; 50]], count: usize, root: u64, s: &[u8], out: &mut [u
     ensures { λ r. ⌜ writes root (length (now (rows .entry))) count (itemsIn (now (s .entry)) (now (rows .entry)) count) (now (out .entry))
         ≡ outcome r (now (out .exit)) ⌝ }
 {
-    let m = measure(rows, count, root, s, false);
+    let mut room = [0u64; 256];
+    let kept: &mut [u64] = &mut room;
+    let all = judge(rows, count, root, s, false, kept);
+    let one = around(all);
+    let m = around(one);
     if MESSAGE_LIMIT < m {
         return Wrote::Out;
     }
     if wide(out.len()) < m {
         return Wrote::Out;
     }
-    let all = trees_size(rows, s, count, root, 0, 0, LEFT, 0, false);
-    let a = put_head(tags::ROOT_OCTET, around(all.size), out, 0);
-    let b = put_head(root_tag(root), all.size, out, a);
-    let p = put_items(rows, s, count, root, 0, 0, LEFT, 0, out, b);
+    let a = put_head(tags::ROOT_OCTET, one, out, 0);
+    let b = put_head(root_tag(root), all, out, a);
+    let p = put_items(rows, s, count, root, 0, 0, kept, out, b);
     Wrote::Next(p.place)
 }

@@ -1,6 +1,8 @@
 use Rattle.glow_grammar.proofs.Laws.{name-none, name-end, name-letter, name-rest}
 use borrow.Author.Tests.{not-true, not-false}
-use mathlib.Core.Path.{_∙_}
+use mathlib.Core.Path.{ap, _∙_}
+use native.Mathlib.Omega.{arith}
+use Rattle.glow_grammar.specs.Leaf.{noSlash}
 use borrow.Author.Needs.{needs}
 use Rattle.glow_grammar.proofs.is_name.Statement.{statement}
 use Rattle.glow_grammar.proofs.is_name.Tie as tie
@@ -22,13 +24,18 @@ returns-3 c =
     let e = c .before .is-letter .ensures ∙ not-true _ (c .if3 .taken) in
     name-letter _ _ _ (c .before .before .before .before .if1 .left) (c .before .before .before .if2 .left) e
 
+end-of-requires : tie.Need-end-of-requires
+end-of-requires c κs = let h = c .before .before .before .if2 .left in omega arith
+
 no-slash-requires : tie.Need-no-slash-requires
-no-slash-requires c κs = search needs
+no-slash-requires c κs = c .end-of .ensures .0
 
 returns-4 : tie.Need-returns-4
 returns-4 c =
-    let e = c .before .before .is-letter .ensures ∙ not-false _ (c .before .if3 .left) in
-    name-rest _ _ _ (c .before .before .before .before .before .if1 .left) (c .before .before .before .before .if2 .left) e ∙ c .no-slash .ensures
+    let the-is-letter = c .before .before .before .is-letter in
+    let e = the-is-letter .ensures ∙ not-false _ (c .before .before .if3 .left) in
+    name-rest _ _ _ (c .before .before .before .before .before .before .if1 .left) (c .before .before .before .before .before .if2 .left) e
+    ∙ ap noSlash (c .before .end-of .ensures .1) ∙ c .no-slash .ensures
 
 pub is-name-spec : {M : Type 1} → statement M
 is-name-spec =
@@ -39,5 +46,6 @@ is-name-spec =
     shared-slice-read-is-letter
     is-letter-requires
     returns-3
+    end-of-requires
     no-slash-requires
     returns-4)

@@ -1,4 +1,4 @@
-use Rattle.glow_member_sizes.proofs.Caps.{tagged-over, tagged-is}
+use Rattle.glow_member_sizes.proofs.Caps.{tagged-short, tagged-over, tagged-is}
 use native.Mathlib.Omega.{arith}
 use mathlib.Core.Path.{_∙_}
 use borrow.Author.Needs.{needs}
@@ -10,10 +10,14 @@ use Rattle.ber_tags.proofs.length_size.Reads as length-size-reads
 use Rattle.glow_member_sizes.proofs.capped.Reads as capped-reads
 use Rattle.glow_member_sizes.proofs.wide.Reads as wide-reads
 
+add-result : tie.Need-add-result
+add-result c = omega arith
+
 returns : tie.Need-returns
-returns c =
-    let the-if1 = c .if1 in
-    tagged-over _ (the-if1 .taken)
+returns c = tagged-short _ (c .if1 .taken)
+
+returns-2 : tie.Need-returns-2
+returns-2 c = tagged-over _ (c .if2 .taken)
 
 length-size-requires : tie.Need-length-size-requires
 length-size-requires c κs = search needs
@@ -36,8 +40,8 @@ add-capped-2 c =
 capped-requires : tie.Need-capped-requires
 capped-requires c κs = search needs
 
-returns-2 : tie.Need-returns-2
-returns-2 c =
+returns-3 : tie.Need-returns-3
+returns-3 c =
     let the-length-size = c .before .before .length-size in
     let the-wide = c .before .wide in
     let the-capped = c .capped in
@@ -47,10 +51,12 @@ pub around-spec : {M : Type 1} → statement M
 around-spec =
     tie.close
     (tie.spec
+    add-result
     returns
+    returns-2
     length-size-requires
     wide-requires
     add-capped
     add-capped-2
     capped-requires
-    returns-2)
+    returns-3)

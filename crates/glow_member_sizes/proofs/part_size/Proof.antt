@@ -1,15 +1,10 @@
 use Rattle.glow_member_sizes.proofs.Members.{part-out, part-refused, part-sized}
+use borrow.Author.Tests.{not-true, not-false}
 use mathlib.Core.Path.{_∙_}
 use native.Mathlib.Omega.{arith}
 use borrow.Author.Needs.{needs}
 use Rattle.glow_member_sizes.proofs.part_size.Statement.{statement}
 use Rattle.glow_member_sizes.proofs.part_size.Tie as tie
-use Rattle.glow_member_sizes.proofs.part_size.Reads as reads
-use Rattle.glow_member_sizes.proofs.part_size.Lts as lts
-use Rattle.glow_grammar.proofs.read_leaf.Reads as read-leaf-reads
-use Rattle.glow_member_sizes.proofs.around.Reads as around-reads
-use Rattle.glow_member_sizes.proofs.index.Reads as index-reads
-use Rattle.glow_member_sizes.proofs.wide.Reads as wide-reads
 
 wide-requires : tie.Need-wide-requires
 wide-requires c κs = search needs
@@ -36,14 +31,23 @@ index-requires c κs = search needs
 index-requires-2 : tie.Need-index-requires-2
 index-requires-2 c κs = search needs
 
-read-leaf-requires : tie.Need-read-leaf-requires
-read-leaf-requires c κs = search needs
+part-fits-requires : tie.Need-part-fits-requires
+part-fits-requires c κs = search needs
 
-enum-told : tie.Need-enum-told
-enum-told c = search needs
-
-enum-told-2 : tie.Need-enum-told-2
-enum-told-2 c = search needs
+returns-3 : tie.Need-returns-3
+returns-3 c =
+    let the-Start = c .before .before .before .before .before .before .before .before .before .before .before in
+    let the-wide = c .before .before .before .before .before .before .before .before .before .wide in
+    let the-if2 = c .before .before .before .before .if2 in
+    let the-index = c .before .before .before .index in
+    let the-index2 = c .before .before .index2 in
+    let the-part-fits = c .before .part-fits in
+    let the-if3 = c .if3 in
+    let w = the-wide .ensures in
+    let q = the-Start .pre in
+    let k = the-if2 .left in
+    part-refused _ _ _ (q .0) (q .1 .0) (q .1 .1) _ _ (the-index .ensures) (the-index2 .ensures) (omega arith)
+    (the-part-fits .ensures ∙ not-true _ (the-if3 .taken))
 
 around-requires : tie.Need-around-requires
 around-requires c κs = search needs
@@ -51,36 +55,22 @@ around-requires c κs = search needs
 around-requires-2 : tie.Need-around-requires-2
 around-requires-2 c κs = search needs
 
-returns-3 : tie.Need-returns-3
-returns-3 c =
-    let the-Start = c .before .before .before .before .before .before .before .before .before .before .before .before in
-    let the-wide = c .before .before .before .before .before .before .before .before .before .before .wide in
-    let the-if2 = c .before .before .before .before .before .if2 in
-    let the-index = c .before .before .before .before .index in
-    let the-index2 = c .before .before .before .index2 in
-    let the-read-leaf = c .before .before .read-leaf in
-    let the-enum-told = c .enum-told in
-    let w = the-wide .ensures in
-    let q = the-Start .pre in
-    let k = the-if2 .left in
-    part-refused _ _ _ (q .0) (q .1 .0) (q .1 .1) _ _ (the-index .ensures) (the-index2 .ensures) (omega arith) (the-read-leaf .ensures .0 ∙ the-enum-told .given .1)
-
 returns-4 : tie.Need-returns-4
 returns-4 c =
-    let the-Start = c .before .before .before .before .before .before .before .before .before .before .before .before .before .before in
-    let the-wide = c .before .before .before .before .before .before .before .before .before .before .before .before .wide in
-    let the-if2 = c .before .before .before .before .before .before .before .if2 in
-    let the-index = c .before .before .before .before .before .before .index in
-    let the-index2 = c .before .before .before .before .before .index2 in
-    let the-read-leaf = c .before .before .before .before .read-leaf in
-    let the-enum-told2 = c .before .before .enum-told2 in
+    let the-Start = c .before .before .before .before .before .before .before .before .before .before .before .before .before in
+    let the-wide = c .before .before .before .before .before .before .before .before .before .before .before .wide in
+    let the-if2 = c .before .before .before .before .before .before .if2 in
+    let the-index = c .before .before .before .before .before .index in
+    let the-index2 = c .before .before .before .before .index2 in
+    let the-part-fits = c .before .before .before .part-fits in
+    let the-if3 = c .before .before .if3 in
     let the-around = c .before .around in
     let the-around2 = c .around2 in
     let w = the-wide .ensures in
     let q = the-Start .pre in
     let k = the-if2 .left in
-    part-sized _ _ _ (q .0) (q .1 .0) (q .1 .1) _ _ (the-index .ensures) (the-index2 .ensures) (omega arith) (the-read-leaf .ensures .0 ∙ the-enum-told2 .given .1)
-    _ _ (the-around .ensures) (the-around2 .ensures)
+    part-sized _ _ _ (q .0) (q .1 .0) (q .1 .1) _ _ (the-index .ensures) (the-index2 .ensures) (omega arith)
+    (the-part-fits .ensures ∙ not-false _ (the-if3 .left)) _ _ (the-around .ensures) (the-around2 .ensures)
 
 pub part-size-spec : {M : Type 1} → statement M
 part-size-spec =
@@ -91,10 +81,8 @@ part-size-spec =
     returns-2
     index-requires
     index-requires-2
-    read-leaf-requires
-    enum-told
-    enum-told-2
+    part-fits-requires
+    returns-3
     around-requires
     around-requires-2
-    returns-3
     returns-4)

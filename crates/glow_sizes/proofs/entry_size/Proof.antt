@@ -12,6 +12,7 @@ use Rattle.ber_integers.specs.Digits.{pick}
 use Rattle.glow_grammar.specs.Grammar.{required}
 use Rattle.glow_sizes.specs.declared.Entered.{Entered}
 use Rattle.glow_sizes.specs.Sizes.{keyed, enteredAt}
+use Rattle.glow_sizes.specs.Kept.{RulesIn}
 use native.Mathlib.Omega.{arith}
 use borrow.Author.Needs.{needs}
 use Rattle.glow_sizes.proofs.entry_size.Statement.{statement}
@@ -25,7 +26,6 @@ use Rattle.glow_sizes.proofs.is_shallow.Reads as is-shallow-reads
 use Rattle.glow_sizes.proofs.none.Reads as none-reads
 use Rattle.glow_sizes.proofs.path_after.Reads as path-after-reads
 use Rattle.glow_member_sizes.proofs.plus.Reads as plus-reads
-use Rattle.glow_sizes.proofs.rule_at.Reads as rule-at-reads
 use Rattle.glow_sizes.proofs.split_of.Reads as split-of-reads
 use Rattle.glow_rows.proofs.word_at.Reads as word-at-reads
 use Rattle.glow_sizes.proofs.wrapped_size.Reads as wrapped-size-reads
@@ -41,13 +41,16 @@ Gives s e = enteredAt (spelling (s .args .least)) (s .args .s .now) (row s) (s .
 -- both parts are summed
 module _ (c : tie.After-cells-size2) where
   abbrev start : tie.Start
-  start = c .before .before .before .before .before
+  start = c .before .before .before .before .before .before
 
   abbrev kind : ℕ
-  kind = c .before .before .before .word-at .result
+  kind = c .before .before .before .before .word-at .result
 
   abbrev part : ℕ
-  part = c .before .before .split-of .result
+  part = c .before .before .before .split-of .result
+
+  rules : RulesIn kind (c .before .before .rules-of .result)
+  rules = c .before .before .rules-of .ensures
 
   abbrev own : ℕ
   own = c .before .cells-size .result
@@ -58,10 +61,10 @@ module _ (c : tie.After-cells-size2) where
   summed : Summed (spelling (start .args .least)) (start .args .s .now) (row start) kind part own inside
   summed =
       record {
-        is = c .before .before .before .word-at .ensures;
-        at = c .before .before .split-of .ensures .0;
-        ownly = c .before .cells-size .ensures;
-        innerly = c .cells-size2 .ensures;
+        is = c .before .before .before .before .word-at .ensures;
+        at = c .before .before .before .split-of .ensures .0;
+        ownly = c .before .cells-size .ensures kind rules;
+        innerly = c .cells-size2 .ensures kind rules;
       }
 
 -- the places before a later one
@@ -100,14 +103,15 @@ module _ (c : tie.After-path-after) where
   abbrev size : tie.After-plus
   size = whole (flat (checked c))
 
-  judged : (16 < c .path-after .result → Gives (start (parts size)) (record { size = 65536; path = 0 }))
-      × (c .path-after .result ≤ 16 → Gives (start (parts size)) (record { size = size .plus .result; path = c .path-after .result }))
+  judged : (16 < c .path-after .result → Gives (start (parts size)) (record { size = 65536; inside = 0; path = 0 }))
+      × (c .path-after .result ≤ 16 → Gives (start (parts size))
+      (record { size = size .plus .result; inside = inside (parts size); path = c .path-after .result }))
   judged =
-      let the-rule-at = c .before .rule-at in
+      let the-rule-in = c .before .rule-in in
       let the-cell-at = c .before .before .cell-at in
       let the-if3 = flat (checked c) .before .before .if3 in
       path-judged _ _ _ _ _ (summed (parts size)) (sized size) (the-if3 .left) (shallow (flat (checked c))) (full (checked c))
-      (the-rule-at .ensures) (the-cell-at .ensures ∙ cell-in _ _ 0 (omega arith)) (c .path-after .ensures)
+      (rules (parts size) 0 (omega arith) ∙ the-rule-in .ensures) (the-cell-at .ensures ∙ cell-in _ _ 0 (omega arith)) (c .path-after .ensures)
 
 word-at-requires : tie.Need-word-at-requires
 word-at-requires c κs = search needs
@@ -115,14 +119,17 @@ word-at-requires c κs = search needs
 split-of-requires : tie.Need-split-of-requires
 split-of-requires c κs = search needs
 
+rules-of-requires : tie.Need-rules-of-requires
+rules-of-requires c κs = search needs
+
 cells-size-requires : tie.Need-cells-size-requires
 cells-size-requires c κs =
-    let the-split-of = c .split-of in
+    let the-split-of = c .before .split-of in
     (omega arith, the-split-of .ensures .1)
 
 cells-size-requires-2 : tie.Need-cells-size-requires-2
 cells-size-requires-2 c κs =
-    let the-split-of = c .before .split-of in
+    let the-split-of = c .before .before .split-of in
     (the-split-of .ensures .1, omega arith)
 
 none-requires : tie.Need-none-requires
@@ -185,18 +192,18 @@ returns-5 c =
 cell-at-requires : tie.Need-cell-at-requires
 cell-at-requires c κs = search needs
 
-rule-at-requires : tie.Need-rule-at-requires
-rule-at-requires c κs = search needs
+rule-in-requires : tie.Need-rule-in-requires
+rule-in-requires c κs = omega arith
 
 path-after-requires : tie.Need-path-after-requires
 path-after-requires c κs =
-    let the-rule-at = c .rule-at in
+    let the-rule-in = c .rule-in in
     let the-cell-at = c .before .cell-at in
     let q = c .before .before in
     let the-if3 = flat q .before .before .if3 in
     let p = whole (flat q) in
     path-fits _ _ _ (start (parts p) .args .k) 0 (summed (parts p)) (sized p) (the-if3 .left) (shallow (flat q)) (full q)
-    (the-rule-at .ensures) (the-cell-at .ensures ∙ cell-in _ _ 0 (omega arith))
+    (rules (parts p) 0 (omega arith) ∙ the-rule-in .ensures) (the-cell-at .ensures ∙ cell-in _ _ 0 (omega arith))
 
 none-requires-6 : tie.Need-none-requires-6
 none-requires-6 c κs = search needs
@@ -213,6 +220,7 @@ entry-size-spec =
     (tie.spec
     word-at-requires
     split-of-requires
+    rules-of-requires
     cells-size-requires
     cells-size-requires-2
     none-requires
@@ -230,7 +238,7 @@ entry-size-spec =
     none-requires-5
     returns-5
     cell-at-requires
-    rule-at-requires
+    rule-in-requires
     path-after-requires
     none-requires-6
     returns-6
