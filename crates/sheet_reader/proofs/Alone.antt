@@ -15,7 +15,8 @@ use Rattle.glow_trees.specs.Content.{Content, Item, item}
 use Rattle.glow_trees.specs.Trees.{Trees, none, tree, count, flat, among, standsIn}
 use Rattle.glow_trees.specs.Legal.{legal, legalRoot, isNone, isRoot, pathAfter}
 use Rattle.desk_crosspoints.specs.Figures.{both}
-use Rattle.desk_connections.specs.Connections.{numberOf, octetsOf, numbersIn, isQualified, Ask, ask, asksOf, same}
+use Rattle.glow_paths.specs.Paths.{numberOf, octetsOf, numbersIn, isQualified, same}
+use Rattle.desk_connections.specs.Connections.{Ask, ask, asksOf}
 use Rattle.desk_connections.proofs.Paths.{memberAt, ownPath, asksDown, asks-down, right, tests}
 use Rattle.desk_crosspoints.specs.Desk.{Desk, withCells, answer}
 use Rattle.desk_requests.specs.Request.{Request, requested}
