@@ -7,7 +7,8 @@ use native.Mathlib.Omega.{arith}
 use borrow.Author.Tests.{leb-true, leb-false, ltb-true, ltb-false}
 use lib.ListN.{length, take, drop, getD}
 use lib.Dec.{leb, ltb, eqb}
-use Rattle.ber_integers.specs.Digits.{pick, natural}
+use Rattle.base_choices.proofs.Laws.{pick-by}
+use Rattle.ber_integers.specs.Digits.{natural}
 use Rattle.ber_integers.proofs.Radix.{digit-more, power-le}
 use Rattle.ber_tags.specs.declared.Length.{Length}
 use Rattle.ber_tags.specs.declared.Length.the-variants.{Definite, Indefinite}
@@ -19,10 +20,6 @@ use Rattle.ber_tags.specs.declared.Head.{Head}
 use Rattle.ber_tags.specs.declared.Head.the-variants.{Tag as HeadTag, Refused as NoHead}
 use Rattle.ber_containers.specs.Progress.{Fits}
 use Rattle.ber_tags.specs.Tag.{stop, longNumber, tagNumber, sized, lengthAt, headOf, afterNumber, headAt}
-
-pub pick-by : {A : Type 0} (P : A → Type 0) {a b : A} (t : Bool) → (t ≡ true → P a) → (t ≡ false → P b) → P (pick t a b)
-pick-by P true f g = f refl
-pick-by P false f g = g refl
 
 abbrev pub NumberAhead : ℕ → ℕ → ℕ → Numbered → Type 0
 NumberAhead at p len (Number n q) = (p < q) × ((at < len) × (n < 268435456))

@@ -8,7 +8,7 @@ use borrow.Author.Tests.{le-leb, lt-leb, eq-eqb, ne-eqb, leb-false, lt-ltb, le-l
 use lib.ListN.{length, getD, set}
 use lib.Seq.{set-out}
 use lib.Dec.{leb, ltb, eqb}
-use Rattle.ber_integers.specs.Digits.{pick}
+use Rattle.base_choices.specs.Choices.{pick}
 use Rattle.ber_tags.specs.declared.Head.{Head}
 use Rattle.ber_tags.specs.declared.Head.the-variants.{Tag as HeadTag}
 use Rattle.ber_tags.specs.Tag.{headAt}
@@ -24,7 +24,7 @@ use Rattle.ber_containers.specs.declared.Crossing.the-variants.{Over, Pa
 use Rattle.ber_containers.specs.Ends.{no, bit, openOf, ofHead, zeroAt, closingAt, standingAt, deep, enterAt, firstAt, lastAt, isTag}
 use Rattle.ber_containers.specs.Passing.{skipped, crossAt, throughBy, Through, passedAt}
 use Rattle.ber_containers.specs.Progress.{Fits, Ahead, OntoOnward}
-use Rattle.ber_containers.proofs.Heads.{HeadAhead, head-ahead, pick-by}
+use Rattle.ber_containers.proofs.Heads.{HeadAhead, head-ahead}
 
 module _ (s : List ℕ) (p : ℕ) (o : Open) where
   pub closing-definite : o .definite ≡ 1 → closingAt s p o ≡ Refused (no 30 p)

@@ -22,7 +22,7 @@ use Rattle.ber_containers.specs.Ends.{ofHead, zeroAt, closingAt, standin
 use Rattle.ber_containers.specs.Passing.{skipped, pastOf, crossOf, crossAt, onCrossing, onwards, throughBy, passedAt}
 use Rattle.ber_containers.specs.Progress.{Ahead, Onward}
 use Rattle.ber_containers.specs.Numbers.{standNumbers, enterNumbers, firstNumbers, lastNumbers, StandsBy, FoundBy, OntoBy}
-use Rattle.ber_containers.proofs.Heads.{pick-by}
+use Rattle.base_choices.proofs.Laws.{pick-by}
 use Rattle.ber_containers.proofs.Quick.{standing-onward}
 
 module _ (s : List ℕ) where

@@ -7,7 +7,7 @@ use native.Mathlib.Omega.{arith}
 use borrow.Author.Tests.{le-leb, lt-leb, leb-true, leb-false, lt-ltb, le-ltb, eq-eqb, ne-eqb}
 use lib.ListN.{length, getD}
 use lib.Dec.{leb, ltb, eqb}
-use Rattle.ber_integers.specs.Digits.{pick}
+use Rattle.base_choices.proofs.Laws.{pick-by}
 use Rattle.ber_tags.specs.declared.Length.{Length}
 use Rattle.ber_tags.specs.declared.Length.the-variants.{Definite, Indefinite}
 use Rattle.ber_tags.specs.declared.Head.{Head}
@@ -20,7 +20,7 @@ use Rattle.ber_containers.specs.declared.Stands.the-variants.{Ended, Her
 use Rattle.ber_containers.specs.Ends.{bit, openOf, ofHead, zeroAt, closingAt, standingAt}
 use Rattle.ber_containers.specs.Progress.{Fits, Ahead, Onward}
 use Rattle.ber_containers.specs.Short.{shortTag, Short}
-use Rattle.ber_containers.proofs.Heads.{pick-by, HeadAhead, head-ahead, stop-under, stop-inside}
+use Rattle.ber_containers.proofs.Heads.{HeadAhead, head-ahead, stop-under, stop-inside}
 use Rattle.ber_containers.proofs.Laws.{standing-zero, standing-by, closing-two, zero-in, zero-inside, head-before}
 
 -- whatever stands at p is ahead of it

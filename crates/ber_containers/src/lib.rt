@@ -1,4 +1,6 @@
 // Containers of tags, lengths and values: what stands at a place, what surrounds the one value of an outer tag, and what is passed over.
+use base_casts::size;
+use base_casts::wide;
 use ber_tags::Head;
 use ber_tags::Length;
 ghost use Prim.Native.Nat.{_+_, _-_, _≤_, _<_};
@@ -106,22 +108,10 @@ fn open_of(bound: usize, start: usize, length: Length) -> Open
     }
 }
 
-fn wide(x: u8) -> u64
-    ensures { λ r. ⌜ r ≡ x ⌝ }
-{
-    x as u64
-}
-
 fn flag(b: bool) -> u64
     ensures { λ r. ⌜ bit b ≡ r ⌝ }
 {
     if b { 1 } else { 0 }
-}
-
-fn size(x: u8) -> usize
-    ensures { λ r. ⌜ r ≡ x ⌝ }
-{
-    x as usize
 }
 
 // The place after the open container o if it ends at p, or 2^64 - 1 where that is for `standing` to say.

@@ -11,7 +11,8 @@ use lib.ListN.{take-append-drop}
 use Rattle.ber_integers.specs.declared.Wrote.the-variants.{Next}
 use Rattle.ber_integers.proofs.Laws.{put-in}
 use lib.Seq.{drop-cons}
-use Rattle.ber_integers.specs.Digits.{pick, put, unchanged, outcome}
+use Rattle.base_choices.specs.Choices.{pick}
+use Rattle.ber_integers.specs.Digits.{put, unchanged, outcome}
 use Rattle.ber_identifiers.specs.declared.Arc.{Arc}
 use Rattle.ber_identifiers.specs.declared.Arc.the-variants.{Number, Range as Over, Refused as NoArc}
 use Rattle.ber_identifiers.specs.declared.Oid.{Oid}

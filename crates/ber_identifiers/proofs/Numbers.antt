@@ -5,7 +5,7 @@ use mathlib.Core.Path.{refl}
 use mathlib.Core.Logic.{inl, inr}
 use types.Run.{OneOf}
 use Rattle.ber_integers.specs.Digits.{put}
-use Rattle.ber_integers.specs.Said.{numberOf}
+use Rattle.ber_integers.specs.Readings.{numberOf}
 use Rattle.ber_integers.specs.Numbers.{putNumbers}
 use Rattle.ber_integers.proofs.Numbers.{put-numbers}
 use Rattle.ber_tags.proofs.Numbers.{put-if-numbers}

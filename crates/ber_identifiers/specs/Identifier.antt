@@ -7,8 +7,9 @@ use mathlib.Core.List.{List, [], _∷_, _++_}
 use mathlib.Core.Bool.{Bool, true, false}
 use lib.ListN.{length, take, drop, getD}
 use lib.Dec.{leb, ltb, eqb}
-use Rattle.ber_integers.specs.Digits.{pick, Put, put, unchanged}
-use Rattle.ber_integers.specs.Said.{Said, done, refused}
+use Rattle.base_choices.specs.Choices.{pick}
+use Rattle.ber_integers.specs.Digits.{Put, put, unchanged}
+use Rattle.ber_integers.specs.Readings.{Reading, done, refused}
 use Rattle.ber_tags.specs.Write.{septets}
 use Rattle.ber_identifiers.specs.declared.Arc.{Arc}
 use Rattle.ber_identifiers.specs.declared.Arc.the-variants.{Number, Range as Over, Refused as NoArc}
@@ -89,12 +90,12 @@ putOid out at ns = pick (inRange ns) (put out at (oidOctets ns)) (unchanged out)
 
 -- For each case of the answers what it says, at the tag: 30 for bad octets; a number out of its range has the number `range`, 37 in a path and 34 in sources.
 -- A number comes with the position after it; of an identifier the count of its numbers is told.
-abbrev pub arcSays : Arc → ℕ → ℕ → Said (ℕ × ℕ)
+abbrev pub arcSays : Arc → ℕ → ℕ → Reading (ℕ × ℕ)
 arcSays (Number n next) range at = done (n, next)
 arcSays (Over next) range at = refused range at
 arcSays NoArc range at = refused 30 at
 
-abbrev pub oidSays : Oid → ℕ → ℕ → Said ℕ
+abbrev pub oidSays : Oid → ℕ → ℕ → Reading ℕ
 oidSays (Numbers n) range at = done n
 oidSays Range range at = refused range at
 oidSays Refused range at = refused 30 at
@@ -103,12 +104,12 @@ oidSays Refused range at = refused 30 at
 abbrev pub identifierNumbers : ℕ → List ℕ
 identifierNumbers range = 0 ∷ 30 ∷ range ∷ []
 
-abbrev pub arcOr : ℕ → Arc → ℕ → ℕ → Said (ℕ × ℕ)
+abbrev pub arcOr : ℕ → Arc → ℕ → ℕ → Reading (ℕ × ℕ)
 arcOr number (Number n next) range at = done (n, next)
 arcOr number (Over next) range at = refused range at
 arcOr number NoArc range at = refused number at
 
-abbrev pub oidOr : ℕ → Oid → ℕ → ℕ → Said ℕ
+abbrev pub oidOr : ℕ → Oid → ℕ → ℕ → Reading ℕ
 oidOr number (Numbers n) range at = done n
 oidOr number Range range at = refused range at
 oidOr number Refused range at = refused number at

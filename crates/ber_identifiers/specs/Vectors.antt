@@ -4,7 +4,7 @@ use Prim.Native.Nat.{ℕ}
 use mathlib.Core.Path.{_≡_, refl}
 use mathlib.Core.List.{List, [], _∷_, map}
 use lib.ListN.{length}
-use Rattle.ber_integers.specs.Said.{Said, done, refused}
+use Rattle.ber_integers.specs.Readings.{Reading, done, refused}
 use Rattle.ber_identifiers.specs.Identifier.{arcIs, arcFrom, arcAt, arcsFrom, oidAt, arcSays, oidSays}
 
 -- 1; 300; 2,147,483,647, and another number after each
@@ -19,10 +19,10 @@ over = 0x88 ∷ 0x80 ∷ 0x80 ∷ 0x80 ∷ 0x00 ∷ []
 abbrev pub bad : List (List ℕ)
 bad = (0x80 ∷ 0x01 ∷ []) ∷ (0x81 ∷ 0x82 ∷ []) ∷ []
 
-abbrev arc : ℕ → List ℕ → Said (ℕ × ℕ)
+abbrev arc : ℕ → List ℕ → Reading (ℕ × ℕ)
 arc range s = arcSays (arcAt s 0 (length s)) range 7
 
-abbrev oid : ℕ → List ℕ → Said ℕ
+abbrev oid : ℕ → List ℕ → Reading ℕ
 oid range s = oidSays (oidAt s 0 (length s)) range 7
 
 pub arcs-0 : map (arc 37) good ≡ done (1, 1) ∷ done (300, 2) ∷ done (2147483647, 5) ∷ []

@@ -1,10 +1,11 @@
 // Relative identifiers: numbers in groups of seven bits, one after another.
+use base_casts::wide;
 use ber_integers::Wrote;
 ghost use mathlib.Core.Path.{_≡_};
 ghost use Prim.Native.Nat.{_+_, _-_, _≤_, _<_};
 ghost use lib.ListN.{length, take, drop, getD};
 ghost use Rattle.ber_integers.specs.Digits.{put, outcome};
-ghost use Rattle.ber_integers.specs.Said.{Told};
+ghost use Rattle.ber_integers.specs.Readings.{Promised};
 ghost use Rattle.ber_identifiers.specs.Identifier.{arcIs, arcAt, oidAt, arcSays, arcOr, oidSays, oidOr, ArcWithin, inRange, oidOctets, putOid};
 ghost use Rattle.ber_tags.specs.Write.{septets};
 
@@ -22,13 +23,6 @@ pub enum Oid {
     Refused,
 }
 
-fn wide(x: u8) -> u64
-    ensures { λ r. ⌜ r ≡ x ⌝ }
-    ensures { λ r. ⌜ r < 256 ⌝ }
-{
-    x as u64
-}
-
 // A number that has ended.
 fn ended(n: u64, next: usize) -> Arc
     ensures { λ r. ⌜ r ≡ arcIs n next ⌝ }
@@ -41,7 +35,7 @@ fn ended(n: u64, next: usize) -> Arc
 
 // The number that starts at p, in octets that end at `end`.
 pub fn read_number(s: &[u8], p: usize, end: usize) -> Arc
-    ensures { λ r. ⌜ Told arcSays (arcOr 30) (arcAt (now (s .entry)) p end) r ⌝ }
+    ensures { λ r. ⌜ Promised arcSays (arcOr 30) (arcAt (now (s .entry)) p end) r ⌝ }
     ensures { λ r. ⌜ ArcWithin p end r ⌝ }
 {
     if s.len() < end {
@@ -71,7 +65,7 @@ pub fn read_number(s: &[u8], p: usize, end: usize) -> Arc
 
 // The identifier whose content octets are the n octets at a position.
 pub fn read_oid(s: &[u8], at: usize, n: usize) -> Oid
-    ensures { λ r. ⌜ Told oidSays (oidOr 30) (oidAt (now (s .entry)) at n) r ⌝ }
+    ensures { λ r. ⌜ Promised oidSays (oidOr 30) (oidAt (now (s .entry)) at n) r ⌝ }
 {
     if s.len() < n {
         return Oid::Refused;

@@ -12,7 +12,8 @@ use mathlib.Core.List.{append-assoc, append-nil}
 use lib.ListN.{set, take-append-drop}
 use Rattle.ber_integers.specs.declared.Natural.the-variants.{Nat, Refused as NoNat}
 use Rattle.ber_integers.specs.declared.Wrote.the-variants.{Next}
-use Rattle.ber_integers.specs.Digits.{pick, natural, digits, countBy, horner, put, unchanged, outcome}
+use Rattle.base_choices.specs.Choices.{pick}
+use Rattle.ber_integers.specs.Digits.{natural, digits, countBy, horner, put, unchanged, outcome}
 use lib.Dec.{leb}
 use lib.ListN.{length-take, length-drop}
 use lib.IntN.{pos, negsuc}

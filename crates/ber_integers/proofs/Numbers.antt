@@ -14,8 +14,9 @@ use Rattle.ber_integers.specs.declared.Natural.the-variants.{Nat, Refuse
 use Rattle.ber_integers.specs.declared.Number.{Number}
 use Rattle.ber_integers.specs.declared.Number.the-variants.{Int, Refused}
 use Rattle.ber_integers.specs.declared.Wrote.the-variants.{Next}
-use Rattle.ber_integers.specs.Digits.{pick, digits, put, unchanged}
-use Rattle.ber_integers.specs.Said.{numberOf, integerSays, naturalSays}
+use Rattle.base_choices.specs.Choices.{pick}
+use Rattle.ber_integers.specs.Digits.{digits, put, unchanged}
+use Rattle.ber_integers.specs.Readings.{numberOf, integerSays, naturalSays}
 use Rattle.ber_integers.specs.Integer.{unsignedAt, signedAt, integerAt, shortest}
 use Rattle.ber_integers.specs.Numbers.{octetNumbers, putNumbers}
 

@@ -8,10 +8,7 @@ use lib.ListN.{length, take, drop}
 use lib.Dec.{leb, eqb}
 use Rattle.ber_integers.specs.declared.Wrote.{Wrote}
 use Rattle.ber_integers.specs.declared.Wrote.the-variants.{Next, Out}
-
-abbrev pub pick : {X : Type 0} → Bool → X → X → X
-pick true a b = a
-pick false a b = b
+use Rattle.base_choices.specs.Choices.{pick}
 
 -- each digit is one of the base: `Below 256` says that numbers are octets
 abbrev pub Below : ℕ → List ℕ → Type 0

@@ -11,7 +11,8 @@ use Rattle.ber_integers.specs.declared.Natural.{Natural}
 use Rattle.ber_integers.specs.declared.Natural.the-variants.{Nat, Refused as NoNat}
 use Rattle.ber_integers.specs.declared.Number.{Number}
 use Rattle.ber_integers.specs.declared.Number.the-variants.{Int, Refused}
-use Rattle.ber_integers.specs.Digits.{pick, natural, digits}
+use Rattle.base_choices.specs.Choices.{pick}
+use Rattle.ber_integers.specs.Digits.{natural, digits}
 
 -- "two's complement": with the first bit set, the number less 256 to the power of the count of octets
 unfoldable pub signed : List ℕ → ℤ

@@ -8,7 +8,7 @@ use Rattle.ber_integers.specs.declared.Wrote.{Wrote}
 use Rattle.ber_integers.specs.declared.Wrote.the-variants.{Next, Out}
 use Rattle.ber_integers.specs.Digits.{horner, digits, Put, wrote, put}
 use Rattle.ber_integers.specs.Integer.{signed, nineFree, twos, integer, unsignedAt, signedAt, integerAt, sizeBy, octets, shortest}
-use Rattle.ber_integers.specs.Said.{Said, done, refused, integerSays, naturalSays}
+use Rattle.ber_integers.specs.Readings.{Reading, done, refused, integerSays, naturalSays}
 
 -- 1, -1, 127, 128, 255, -128, -32,768: P1 to P7
 abbrev pub written : List (List ℕ)
@@ -18,7 +18,7 @@ written =
 abbrev pub integers : List ℤ
 integers = pos 1 ∷ negsuc 0 ∷ pos 127 ∷ pos 128 ∷ pos 255 ∷ negsuc 127 ∷ negsuc 32767 ∷ []
 
-abbrev said : List ℕ → Said ℤ
+abbrev said : List ℕ → Reading ℤ
 said bs = integerSays (integerAt bs 0 (length bs)) 7
 
 pub read : map said written ≡ map done integers
@@ -52,7 +52,7 @@ unfolding signedAt twos
 signed-30 = refl
 
 -- 258, and 0 in no octet; nine octets, and octets that the message does not hold
-abbrev natural : List ℕ → ℕ → Said ℕ
+abbrev natural : List ℕ → ℕ → Reading ℕ
 natural s n = naturalSays (unsignedAt s 0 n) 7
 
 pub natural-read : natural (1 ∷ 2 ∷ []) 2 ∷ natural [] 0 ∷ [] ≡ done 258 ∷ done 0 ∷ []

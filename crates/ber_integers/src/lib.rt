@@ -1,4 +1,5 @@
 // Big-endian numbers in content octets: natural numbers, two's complement, and EmBER integers.
+use base_casts::wide;
 ghost use mathlib.Core.Path.{_≡_};
 ghost use mathlib.Core.List.{[], _∷_};
 ghost use Prim.Native.Nat.{_+_, _-_, _*_, _^_, _%_, _≤_, _<_};
@@ -7,7 +8,7 @@ ghost use lib.Signed.{mag};
 ghost use mir.Syntax.{w64};
 ghost use mir.Val.{ofZ};
 ghost use Rattle.ber_integers.specs.Digits.{natural, digits, count, put, outcome};
-ghost use Rattle.ber_integers.specs.Said.{Told, integerSays, integerOr, naturalSays, naturalOr};
+ghost use Rattle.ber_integers.specs.Readings.{Promised, integerSays, integerOr, naturalSays, naturalOr};
 ghost use Rattle.ber_integers.specs.Integer.{sizeBy, nine, unsignedAt, signedAt, integerAt, shortest};
 
 // A natural number read, or octets refused.
@@ -26,13 +27,6 @@ pub enum Number {
 pub enum Wrote {
     Next(usize),
     Out,
-}
-
-fn wide(x: u8) -> u64
-    ensures { λ r. ⌜ r ≡ x ⌝ }
-    ensures { λ r. ⌜ r < 256 ⌝ }
-{
-    x as u64
 }
 
 fn low(x: u64) -> u8
@@ -58,7 +52,7 @@ fn natural_of(s: &[u8], at: usize, n: usize) -> u64
 
 // The natural number of the n octets at a position, 0 to 8 of them.
 pub fn read_unsigned(s: &[u8], at: usize, n: usize) -> Natural
-    ensures { λ r. ⌜ Told naturalSays (naturalOr 30) (unsignedAt (now (s .entry)) at n) r ⌝ }
+    ensures { λ r. ⌜ Promised naturalSays (naturalOr 30) (unsignedAt (now (s .entry)) at n) r ⌝ }
 {
     if 8 < n {
         return Natural::Refused;
@@ -88,7 +82,7 @@ fn ones(n: usize) -> u64
 
 // The two's complement number of the n octets at a position, 1 to 8 of them; no rule on the first nine bits.
 pub fn read_signed(s: &[u8], at: usize, n: usize) -> Number
-    ensures { λ r. ⌜ Told integerSays (integerOr 30) (signedAt (now (s .entry)) at n) r ⌝ }
+    ensures { λ r. ⌜ Promised integerSays (integerOr 30) (signedAt (now (s .entry)) at n) r ⌝ }
 {
     if s.len() < n {
         return Number::Refused;
@@ -120,7 +114,7 @@ fn nine_bits(s: &[u8], at: usize) -> u64
 
 // The integer whose content octets are the n octets at a position.
 pub fn read_int(s: &[u8], at: usize, n: usize) -> Number
-    ensures { λ r. ⌜ Told integerSays (integerOr 30) (integerAt (now (s .entry)) at n) r ⌝ }
+    ensures { λ r. ⌜ Promised integerSays (integerOr 30) (integerAt (now (s .entry)) at n) r ⌝ }
 {
     if s.len() < n {
         return Number::Refused;

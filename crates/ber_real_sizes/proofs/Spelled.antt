@@ -16,7 +16,8 @@ use lib.Ieee as Ieee
 use lib.Ieee.{Float, nan, inf, fin, size, binary64}
 use lib.Ieee.Digits.{size-le, size-lt}
 use lib.Ieee.Fits.{and-l, and-r}
-use Rattle.ber_integers.specs.Digits.{pick, natural, digits, horner}
+use Rattle.base_choices.specs.Choices.{pick}
+use Rattle.ber_integers.specs.Digits.{natural, digits, horner}
 use Rattle.ber_integers.specs.Integer.{signed, shortest}
 use Rattle.ber_integers.proofs.RoundTrip.{shortest-below}
 use Rattle.ber_integers.proofs.Radix.{none-or-some, Below, length-digits, digits-below, horner-digits}

@@ -9,7 +9,8 @@ use lib.Dec.{leb, ltb}
 use lib.IntN.{ℤ, pos, negsuc}
 use lib.Signed.{mag}
 use lib.Ieee.{Float, nan, inf, fin, size}
-use Rattle.ber_integers.specs.Digits.{pick, digits}
+use Rattle.base_choices.specs.Choices.{pick}
+use Rattle.ber_integers.specs.Digits.{digits}
 use Rattle.ber_integers.specs.Integer.{shortest}
 use Rattle.ber_reals.specs.Write.{Form, unwritten, octets, form}
 

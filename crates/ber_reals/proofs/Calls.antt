@@ -1,5 +1,5 @@
 -- The round trip of the functions themselves, by their contracts: what a call of `write_real` writes, a call of `read_real` reads.
-use Rattle.ber_integers.proofs.Told.{told}
+use Rattle.ber_integers.proofs.Promises.{promised}
 use Rattle.ber_reals.proofs.RealLaws.{real-row}
 use Prim.Native.Nat.{ℕ, _+_, _-_, _≤_}
 use mathlib.Core.Path.{_≡_, refl, sym, ap, _∙_}
@@ -86,7 +86,7 @@ read-called s at n r e =
       slice-is = refl;
       at-is = refl;
       count-is = refl;
-      ensured = told real-row e;
+      ensured = promised real-row e;
     }
 
 pub round-trip : {x : Float} {out : List ℕ} {at n : ℕ} {out′ : List ℕ} {r : Read} → T (Ieee.fits binary64 x)

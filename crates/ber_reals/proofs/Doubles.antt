@@ -15,7 +15,7 @@ use lib.Ieee.{Float, nan, inf, fin, binary64, up, down, size}
 use lib.Ieee.Fits.{and-l, and-r, up-pos, down-pos}
 use lib.Ieee.Bits.{is-true}
 use lib.Ieee.Digits.{size-le}
-use Rattle.ber_integers.specs.Digits.{pick}
+use Rattle.base_choices.specs.Choices.{pick}
 use Rattle.ber_reals.specs.declared.Read.the-variants.{Real, Refused}
 use Rattle.ber_reals.specs.Number.{halvings, oddPart, oddPower, inDouble, number}
 use Rattle.ber_reals.specs.Means.{Equals}

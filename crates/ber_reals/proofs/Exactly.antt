@@ -12,7 +12,8 @@ use lib.Dec.{T, leb, ltb, eqb, leb→le, ltb→lt}
 use lib.IntN.{ℤ, pos}
 use lib.Ieee.{Float, inf, fin}
 use lib.Ieee.Fits.{and-l, and-r}
-use Rattle.ber_integers.specs.Digits.{pick, natural}
+use Rattle.base_choices.specs.Choices.{pick}
+use Rattle.ber_integers.specs.Digits.{natural}
 use Rattle.ber_integers.proofs.Radix.{Below, natural-lt}
 use Rattle.ber_integers.proofs.Signs.{below-drop}
 use Rattle.ber_reals.specs.declared.Read.{Read}

@@ -3,7 +3,7 @@ use Prim.Native.Nat.{ℕ}
 use mathlib.Core.List.{List}
 use types.Run.{OneOf, hit}
 use lib.Ieee.{Float, ofBits, binary64}
-use Rattle.ber_integers.specs.Said.{numberOf}
+use Rattle.ber_integers.specs.Readings.{numberOf}
 use Rattle.ber_integers.specs.Numbers.{putNumbers}
 use Rattle.ber_integers.proofs.Numbers.{put-numbers, unchanged-numbers}
 use Rattle.ber_reals.specs.declared.Read.{Read}

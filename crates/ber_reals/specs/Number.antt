@@ -7,7 +7,7 @@ use lib.IntN.{ℤ, pos, negsuc, _+ℤ_}
 use lib.Signed.{leZ}
 use lib.Count.{trailingZeros}
 use lib.Ieee.{fin, size}
-use Rattle.ber_integers.specs.Digits.{pick}
+use Rattle.base_choices.specs.Choices.{pick}
 use Rattle.ber_reals.specs.declared.Read.{Read}
 use Rattle.ber_reals.specs.declared.Read.the-variants.{Real, Refused}
 

@@ -7,9 +7,10 @@ use lib.ListN.{length, take, drop}
 use lib.Dec.{leb, ltb, eqb}
 use lib.IntN.{ℤ, pos, _+ℤ_}
 use lib.Ieee.{Float, inf, fin}
-use Rattle.ber_integers.specs.Digits.{pick, natural}
+use Rattle.base_choices.specs.Choices.{pick}
+use Rattle.ber_integers.specs.Digits.{natural}
 use Rattle.ber_integers.specs.Integer.{signed}
-use Rattle.ber_integers.specs.Said.{Said, done, refused}
+use Rattle.ber_integers.specs.Readings.{Reading, done, refused}
 use Rattle.ber_reals.specs.declared.Read.{Read}
 use Rattle.ber_reals.specs.declared.Read.the-variants.{Real, Refused}
 use Rattle.ber_reals.specs.Number.{number}
@@ -64,7 +65,7 @@ unfoldable pub realAt : List ℕ → ℕ → ℕ → Read
 realAt s at n = pick (leb (at + n) (length s)) (real (take n (drop at s))) Refused
 
 -- for each case of the answer what it says, at the tag: "35 REAL: any real not accepted"
-abbrev pub realSays : Read → ℕ → Said Float
+abbrev pub realSays : Read → ℕ → Reading Float
 realSays (Real x) at = done x
 realSays Refused at = refused 35 at
 
@@ -72,6 +73,6 @@ realSays Refused at = refused 35 at
 abbrev pub realNumbers : List ℕ
 realNumbers = 0 ∷ 35 ∷ []
 
-abbrev pub realOr : ℕ → Read → ℕ → Said Float
+abbrev pub realOr : ℕ → Read → ℕ → Reading Float
 realOr number (Real x) at = done x
 realOr number Refused at = refused number at

@@ -10,7 +10,7 @@ use lib.Ieee as Ieee
 use lib.Ieee.{Float, nan, inf, fin}
 use Rattle.ber_integers.specs.Digits.{horner, digits}
 use Rattle.ber_integers.specs.Integer.{signed, sizeBy, shortest, octets as octetsOf}
-use Rattle.ber_integers.specs.Said.{Said, done, refused}
+use Rattle.ber_integers.specs.Readings.{Reading, done, refused}
 use Rattle.ber_reals.specs.declared.Read.the-variants.{Real}
 use Rattle.ber_reals.specs.Number.{inDouble, number}
 use Rattle.ber_reals.specs.Real.{wellFormed, binaryReal, nonEmpty, real, realAt, realSays}
@@ -97,7 +97,7 @@ bad =
     ∷ []
 
 -- each says 35, at its tag
-abbrev said : List ℕ → Said Float
+abbrev said : List ℕ → Reading Float
 said bs = realSays (realAt bs 0 (length bs)) 7
 
 pub refused-35 : map said bad ≡ map (λ bs. refused 35 7) bad

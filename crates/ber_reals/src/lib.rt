@@ -1,4 +1,5 @@
 // EmBER reals, read and written without rounding.
+use base_casts::wide;
 ghost use mathlib.Core.Path.{_≡_};
 ghost use Prim.Native.Nat.{_+_, _-_, _*_, _/_, _≤_, _<_, _^_};
 ghost use lib.ListN.{length, take, drop, getD};
@@ -7,7 +8,7 @@ ghost use lib.Count.{trailingZeros};
 ghost use lib.Ieee.{fin, minus, size, odd, ofBits, binary64};
 ghost use Rattle.ber_integers.specs.Digits.{digits, put, outcome};
 ghost use Rattle.ber_integers.specs.Integer.{signed, shortest};
-ghost use Rattle.ber_integers.specs.Said.{Told};
+ghost use Rattle.ber_integers.specs.Readings.{Promised};
 ghost use Rattle.ber_reals.specs.Number.{halved, number};
 ghost use Rattle.ber_reals.specs.Real.{binaryReal, realAt, realSays, realOr};
 ghost use Rattle.ber_reals.specs.Write.{firstOctet, numberOctets, writeAt};
@@ -90,13 +91,6 @@ fn exact(negative: bool, m: u64, power: u64) -> Read
     Read::Real(f64::from_bits(pattern(negative, odd, units)))
 }
 
-fn wide(x: u8) -> u64
-    ensures { λ r. ⌜ r ≡ x ⌝ }
-    ensures { λ r. ⌜ r < 256 ⌝ }
-{
-    x as u64
-}
-
 // 256 to the power e.
 fn power_of_256(e: usize) -> u64
     requires { ⌜ (1 ≤ e) × (e ≤ 3) ⌝ }
@@ -158,7 +152,7 @@ fn binary(s: &[u8], at: usize, n: usize) -> Read
 
 // The real of the n octets at a position.
 pub fn read_real(s: &[u8], at: usize, n: usize) -> Read
-    ensures { λ r. ⌜ Told realSays (realOr 35) (realAt (now (s .entry)) at n) r ⌝ }
+    ensures { λ r. ⌜ Promised realSays (realOr 35) (realAt (now (s .entry)) at n) r ⌝ }
 {
     if s.len() < n {
         return Read::Refused;

@@ -8,7 +8,8 @@ use borrow.Author.Tests.{leb-true, le-leb, lt-leb, lt-ltb, le-ltb, eq-eqb, ne-eq
 use lib.ListN.{length, take, drop, getD, set}
 use lib.Seq.{take-set-le, drop-set-lt, set-split}
 use lib.Dec.{leb}
-use Rattle.ber_integers.specs.Digits.{pick, natural, digits, count, put, unchanged}
+use Rattle.base_choices.specs.Choices.{pick}
+use Rattle.ber_integers.specs.Digits.{natural, digits, count, put, unchanged}
 use Rattle.ber_tags.specs.Write.{marked, septets, bit, tagOctets, putTag, lengthOctets, putLength}
 use Rattle.ber_tags.specs.declared.Length.the-variants.{Definite, Indefinite}
 use Rattle.ber_tags.specs.declared.Numbered.{Numbered}

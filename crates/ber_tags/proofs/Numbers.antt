@@ -4,8 +4,9 @@ use mathlib.Core.List.{List}
 use mathlib.Core.Bool.{Bool, true, false}
 use types.Run.{OneOf, hit}
 use lib.Dec.{leb}
-use Rattle.ber_integers.specs.Digits.{pick, Put, put, unchanged}
-use Rattle.ber_integers.specs.Said.{numberOf}
+use Rattle.base_choices.specs.Choices.{pick}
+use Rattle.ber_integers.specs.Digits.{Put, put, unchanged}
+use Rattle.ber_integers.specs.Readings.{numberOf}
 use Rattle.ber_integers.specs.Numbers.{octetNumbers, putNumbers}
 use Rattle.ber_integers.proofs.Numbers.{put-numbers, unchanged-numbers}
 use Rattle.ber_tags.specs.declared.Head.{Head}

@@ -9,7 +9,8 @@ use lib.ListN.{length, take, drop, getD, length-append, length-drop}
 use lib.Seq.{take-at, drop-drop, drop-append-seam}
 use lib.Dec.{leb, ltb}
 use borrow.Author.Tests.{le-leb, lt-leb, lt-ltb, le-ltb}
-use Rattle.ber_integers.specs.Digits.{pick, horner, digits, count, natural}
+use Rattle.base_choices.specs.Choices.{pick}
+use Rattle.ber_integers.specs.Digits.{horner, digits, count, natural}
 use Rattle.ber_integers.proofs.Radix.{lt-or-le, Below, length-digits, digits-below, horner-digits, count-holds, count-least}
 use Rattle.ber_integers.proofs.Laws.{count-more}
 use Rattle.ber_tags.specs.declared.Length.the-variants.{Definite, Indefinite}

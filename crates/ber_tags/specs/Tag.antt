@@ -5,8 +5,9 @@ use mathlib.Core.List.{List}
 use mathlib.Core.Bool.{Bool}
 use lib.ListN.{length, take, drop, getD}
 use lib.Dec.{leb, ltb, eqb}
-use Rattle.ber_integers.specs.Digits.{pick, natural}
-use Rattle.ber_integers.specs.Said.{Said, done, refused}
+use Rattle.base_choices.specs.Choices.{pick}
+use Rattle.ber_integers.specs.Digits.{natural}
+use Rattle.ber_integers.specs.Readings.{Reading, done, refused}
 use Rattle.ber_tags.specs.declared.Length.{Length}
 use Rattle.ber_tags.specs.declared.Length.the-variants.{Definite, Indefinite}
 use Rattle.ber_tags.specs.declared.Numbered.{Numbered}
@@ -80,12 +81,12 @@ pub record Tagged : Type 0 where
   pub next : ℕ
 
 -- for each case of the answer what it says: "30 BER: bad tag, length", at its place
-abbrev pub headSays : Head → Said Tagged
+abbrev pub headSays : Head → Reading Tagged
 headSays (Tag class constructed number length next) =
     done (record { class = class; constructed = constructed; number = number; length = length; next = next })
 headSays (Refused place) = refused 30 place
 
-abbrev pub headOr : ℕ → Head → Said Tagged
+abbrev pub headOr : ℕ → Head → Reading Tagged
 headOr number (Tag class constructed n length next) =
     done (record { class = class; constructed = constructed; number = n; length = length; next = next })
 headOr number (Refused place) = refused number place

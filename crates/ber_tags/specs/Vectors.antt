@@ -4,12 +4,12 @@ use mathlib.Core.Path.{_≡_, refl}
 use mathlib.Core.List.{List, [], _∷_}
 use mathlib.Core.Bool.{true, false}
 use Rattle.ber_integers.specs.Digits.{horner}
-use Rattle.ber_integers.specs.Said.{Said, done, refused}
+use Rattle.ber_integers.specs.Readings.{Reading, done, refused}
 use Rattle.ber_tags.specs.declared.Length.the-variants.{Definite, Indefinite}
 use Rattle.ber_tags.specs.Tag.{stop, cut, longNumber, tagNumber, sized, lengthAt, headAt, Tagged, headSays}
 
 -- a tag at the message's begin, in a container that ends at `bound`; 99 is past every message here
-abbrev said : List ℕ → ℕ → Said Tagged
+abbrev said : List ℕ → ℕ → Reading Tagged
 said s bound = headSays (headAt s 0 bound)
 
 -- an integer's; a sequence of indefinite length; context 2 in long form, with a length of two octets

@@ -4,7 +4,8 @@ use Prim.Native.Nat.{ℕ, _+_, _*_, _/_, _%_}
 use mathlib.Core.List.{List, [], _∷_, _++_}
 use mathlib.Core.Bool.{Bool, true, false}
 use lib.Dec.{leb, ltb}
-use Rattle.ber_integers.specs.Digits.{pick, digits, count, Put, put, unchanged}
+use Rattle.base_choices.specs.Choices.{pick}
+use Rattle.ber_integers.specs.Digits.{digits, count, Put, put, unchanged}
 
 -- digits with the top bit set: more follow
 abbrev pub marked : List ℕ → List ℕ

@@ -1,11 +1,14 @@
 // Identifier octets and length octets of EmBER, read and written.
+use base_casts::index;
+use base_casts::wide;
+use base_casts::word;
 use ber_integers::Natural;
 use ber_integers::Wrote;
 ghost use mathlib.Core.Path.{_≡_};
 ghost use Prim.Native.Nat.{_+_, _-_, _*_, _/_, _%_, _^_, _≤_, _<_};
 ghost use lib.ListN.{length, take, drop, getD};
 ghost use Rattle.ber_integers.specs.Digits.{put, outcome};
-ghost use Rattle.ber_integers.specs.Said.{Told};
+ghost use Rattle.ber_integers.specs.Readings.{Promised};
 ghost use Rattle.ber_tags.specs.Tag.{stop, cut, longNumber, tagNumber, sized, lengthAt, headOf, headAt, headSays, headOr, NumberWithin};
 ghost use Rattle.ber_tags.specs.Write.{septets, bit, putTag, lengthOctets, putLength};
 
@@ -39,13 +42,6 @@ pub enum Head {
     Refused {
         place: usize,
     },
-}
-
-fn wide(x: u8) -> u64
-    ensures { λ r. ⌜ r ≡ x ⌝ }
-    ensures { λ r. ⌜ r < 256 ⌝ }
-{
-    x as u64
 }
 
 // Where octets of a tag at `at` must end: at the container's end or the message's.
@@ -146,7 +142,7 @@ fn length_at(s: &[u8], at: usize, bound: usize, constructed: bool, p: usize) -> 
     }
     let b = s[p];
     if b < 128 {
-        return fitted(count(wide(b)), at, bound, p + 1);
+        return fitted(index(wide(b)), at, bound, p + 1);
     }
     if b == 128 {
         if constructed {
@@ -160,21 +156,15 @@ fn length_at(s: &[u8], at: usize, bound: usize, constructed: bool, p: usize) -> 
     if 132 < b {
         return Sized::Refused { place: at };
     }
-    let n = count(wide(b - 128));
+    let n = index(wide(b - 128));
     let from = p + 1;
     if end - from < n {
         return Sized::Refused { place };
     }
     match ber_integers::read_unsigned(s, from, n) {
-        Natural::Nat(v) => fitted(count(v), at, bound, from + n),
+        Natural::Nat(v) => fitted(index(v), at, bound, from + n),
         Natural::Refused => Sized::Refused { place: at },
     }
-}
-
-fn count(x: u64) -> usize
-    ensures { λ r. ⌜ r ≡ x ⌝ }
-{
-    x as usize
 }
 
 // Class and constructed bit are the first octet's.
@@ -195,7 +185,7 @@ fn headed(b: u8, number: u64, z: Sized) -> Head
 
 // The tag at a position and its length; the container ends at `bound`.
 pub fn read_tag(s: &[u8], at: usize, bound: usize) -> Head
-    ensures { λ r. ⌜ Told headSays (headOr 30) (headAt (now (s .entry)) at bound) r ⌝ }
+    ensures { λ r. ⌜ Promised headSays (headOr 30) (headAt (now (s .entry)) at bound) r ⌝ }
 {
     match tag_number(s, at, bound) {
         Numbered::Refused { place } => Head::Refused { place },
@@ -218,12 +208,6 @@ fn small(x: u64) -> u8
     ensures { λ r. ⌜ r ≡ x ⌝ }
 {
     x as u8
-}
-
-fn word(x: usize) -> u64
-    ensures { λ r. ⌜ r ≡ x ⌝ }
-{
-    x as u64
 }
 
 // A number in groups of seven bits, the fewest, at a position of the output.

@@ -8,9 +8,10 @@ use lib.ListN.{length, take, drop}
 use lib.Dec.{leb, eqb}
 use Rattle.ber_integers.specs.declared.Number.{Number}
 use Rattle.ber_integers.specs.declared.Number.the-variants.{Int as Whole, Refused as NoInt}
-use Rattle.ber_integers.specs.Digits.{pick, put}
+use Rattle.base_choices.specs.Choices.{pick}
+use Rattle.ber_integers.specs.Digits.{put}
 use Rattle.ber_integers.specs.Integer.{integerAt}
-use Rattle.ber_integers.specs.Said.{numberOf}
+use Rattle.ber_integers.specs.Readings.{numberOf}
 use Rattle.ber_integers.specs.Numbers.{octetNumbers, putNumbers}
 use Rattle.ber_integers.proofs.Numbers.{put-numbers, unchanged-numbers}
 use Rattle.ber_reals.specs.declared.Read.{Read}

@@ -12,7 +12,7 @@ use lib.Ieee as Ieee
 use lib.Ieee.{Float, binary64}
 use mir.Syntax.{w64}
 use mir.Val.{SFits}
-use Rattle.ber_integers.specs.Digits.{pick}
+use Rattle.base_choices.specs.Choices.{pick}
 use Rattle.ber_integers.specs.Integer.{shortest}
 use Rattle.ber_integers.proofs.Sizes.{size-eight}
 use Rattle.ber_integers.proofs.RoundTrip.{length-shortest}

@@ -7,9 +7,9 @@ use mathlib.Core.Bool.{Bool, true, not}
 use lib.ListN.{length, take, drop}
 use lib.Dec.{leb, eqb}
 use Rattle.ber_integers.specs.declared.Number.{Number}
-use Rattle.ber_integers.specs.Digits.{pick}
+use Rattle.base_choices.specs.Choices.{pick}
 use Rattle.ber_integers.specs.Integer.{integerAt}
-use Rattle.ber_integers.specs.Said.{Said, done, refused, integerSays}
+use Rattle.ber_integers.specs.Readings.{Reading, done, refused, integerSays}
 use Rattle.ber_reals.specs.declared.Read.{Read}
 use Rattle.ber_reals.specs.Real.{realAt, realSays}
 use Rattle.ber_tags.specs.declared.Length.{Length}
@@ -33,16 +33,16 @@ unfoldable pub boolAt : List ℕ → ℕ → ℕ → Flag
 boolAt s at n = pick (leb (at + n) (length s)) (boolean (take n (drop at s))) NoFlag
 
 -- for each case of the answer what it says, at the tag: "30 BER: bad .. value octets"
-abbrev pub flagSays : Flag → ℕ → Said Bool
+abbrev pub flagSays : Flag → ℕ → Reading Bool
 flagSays (Is b) at = done b
 flagSays NoFlag at = refused 30 at
 
-abbrev pub flagOr : ℕ → Flag → ℕ → Said Bool
+abbrev pub flagOr : ℕ → Flag → ℕ → Reading Bool
 flagOr number (Is b) at = done b
 flagOr number NoFlag at = refused number at
 
 -- what was read, as a value, with the position after it; or the number of the refusal and its place
-abbrev pub answering : {A : Type 0} → (A → Value) → ℕ → Said A → Answer
+abbrev pub answering : {A : Type 0} → (A → Value) → ℕ → Reading A → Answer
 answering value next (done x) = Found (value x) next
 answering value next (refused number place) = Refused number place
 
@@ -76,7 +76,7 @@ onLength s at kind next (Definite len) = contentAt s at kind next len
 onLength s at kind next Indefinite = Other
 
 -- universal and primitive, else it is no value's
-abbrev pub onTag : List ℕ → ℕ → Said Tagged → Answer
+abbrev pub onTag : List ℕ → ℕ → Reading Tagged → Answer
 onTag s at (done t) = pick (eqb (t .class) 0) (pick (t .constructed) Other (onLength s at (t .number) (t .next) (t .length))) Other
 onTag s at (refused number place) = Refused number place
 
@@ -89,7 +89,7 @@ valueAt s at bound = onHead s at (headAt s at bound)
 
 -- For each case of the answer what it says: the value and the position after it; for a tag that is none of the five "33 GLOW: a tag unexpected", at the tag (a
 -- caller that expects something else there, as a closing 00, looks at the tag first); or the number and the place that it carries.
-abbrev pub answerSays : Answer → ℕ → Said (Value × ℕ)
+abbrev pub answerSays : Answer → ℕ → Reading (Value × ℕ)
 answerSays (Found value next) at = done (value, next)
 answerSays Other at = refused 33 at
 answerSays (Refused number place) at = refused number place
@@ -98,7 +98,7 @@ answerSays (Refused number place) at = refused number place
 abbrev pub valueNumbers : List ℕ
 valueNumbers = 0 ∷ 30 ∷ 33 ∷ 35 ∷ []
 
-abbrev pub answerOr : ℕ → Answer → ℕ → Said (Value × ℕ)
+abbrev pub answerOr : ℕ → Answer → ℕ → Reading (Value × ℕ)
 answerOr other (Found value next) at = done (value, next)
 answerOr other Other at = refused other at
 answerOr other (Refused number place) at = refused number place

@@ -10,7 +10,7 @@ use lib.Ieee as Ieee
 use lib.Ieee.{fin}
 use Rattle.ber_integers.specs.Digits.{horner}
 use Rattle.ber_integers.specs.Integer.{signed, nineFree, twos, integer, integerAt}
-use Rattle.ber_integers.specs.Said.{Said, done, refused}
+use Rattle.ber_integers.specs.Readings.{Reading, done, refused}
 use Rattle.ber_reals.specs.Number.{inDouble, number}
 use Rattle.ber_reals.specs.Real.{wellFormed, binaryReal, nonEmpty, real, realAt}
 use Rattle.ber_tags.specs.Tag.{stop, cut, longNumber, tagNumber, sized, lengthAt, headAt}
@@ -19,7 +19,7 @@ use Rattle.ber_values.specs.declared.Value.the-variants.{Int, Real, Text
 use Rattle.ber_values.specs.Value.{boolean, boolAt, flagSays, isListed, kindAt, contentAt, valueAt, answerSays}
 
 -- the tag stands at 7
-abbrev flag : List ℕ → Said Bool
+abbrev flag : List ℕ → Reading Bool
 flag bs = flagSays (boolAt bs 0 (length bs)) 7
 
 pub flags-0 : map flag ((0x00 ∷ []) ∷ (0x01 ∷ []) ∷ (0xFF ∷ []) ∷ []) ≡ done false ∷ done true ∷ done true ∷ []
@@ -31,7 +31,7 @@ unfolding boolAt boolean
 flags-30 = refl
 
 -- a value at the message's second octet
-abbrev said : List ℕ → Said (Value × ℕ)
+abbrev said : List ℕ → Reading (Value × ℕ)
 said s = answerSays (valueAt (0x00 ∷ s) 1 99) 1
 
 -- true; -1; octets; 1.0; text

@@ -7,7 +7,8 @@ use lib.ListN.{length, take, drop, set}
 use lib.Dec.{leb}
 use Rattle.ber_integers.specs.declared.Wrote.{Wrote}
 use Rattle.ber_integers.specs.declared.Wrote.the-variants.{Next, Out}
-use Rattle.ber_integers.specs.Digits.{pick, Put, put, unchanged, outcome}
+use Rattle.base_choices.specs.Choices.{pick}
+use Rattle.ber_integers.specs.Digits.{Put, put, unchanged, outcome}
 use Rattle.ber_integers.specs.Integer.{shortest}
 use Rattle.ber_reals.specs.Write.{Form, unwritten, octets, form}
 use Rattle.ber_tags.specs.Write.{tagOctets, lengthOctets}

@@ -1,4 +1,5 @@
 // EmBER values: one tag with its content, read and written. Nothing of Glow.
+use base_casts::word;
 use ber_integers::Number;
 use ber_integers::Wrote;
 use ber_reals::Read;
@@ -14,7 +15,7 @@ ghost use Rattle.ber_reals.specs.Write.{octets, form};
 ghost use Rattle.ber_integers.specs.Integer.{shortest};
 ghost use Rattle.ber_values.specs.Write.{Sealable, putHead, boolOctet, part, putPart, putPrimitive, putValue};
 ghost use Rattle.ber_integers.specs.Digits.{outcome};
-ghost use Rattle.ber_integers.specs.Said.{Told};
+ghost use Rattle.ber_integers.specs.Readings.{Promised};
 
 // A value, or that there is none. Texts and octets are parts of the message.
 pub enum Value {
@@ -41,7 +42,7 @@ pub enum Answer {
 
 // The boolean whose content octets are the n octets at a position.
 pub fn read_bool(s: &[u8], at: usize, n: usize) -> Flag
-    ensures { λ r. ⌜ Told flagSays (flagOr 30) (boolAt (now (s .entry)) at n) r ⌝ }
+    ensures { λ r. ⌜ Promised flagSays (flagOr 30) (boolAt (now (s .entry)) at n) r ⌝ }
 {
     if s.len() < n {
         return Flag::Refused;
@@ -164,7 +165,7 @@ fn of_kind(s: &[u8], at: usize, kind: u64, start: usize, len: usize) -> Answer
 
 // The value of a kind (a universal tag number) whose content octets are those at `start`; its tag stands at `at`.
 pub fn read_content(s: &[u8], at: usize, kind: u64, start: usize, len: usize) -> Answer
-    ensures { λ r. ⌜ Told answerSays (answerOr 33) (contentAt (now (s .entry)) at kind start len) r ⌝ }
+    ensures { λ r. ⌜ Promised answerSays (answerOr 33) (contentAt (now (s .entry)) at kind start len) r ⌝ }
 {
     if !listed(kind) {
         return Answer::Other;
@@ -180,7 +181,7 @@ pub fn read_content(s: &[u8], at: usize, kind: u64, start: usize, len: usize) ->
 
 // The value at a position, in a container that ends at `bound`.
 pub fn read_value(s: &[u8], at: usize, bound: usize) -> Answer
-    ensures { λ r. ⌜ Told answerSays (answerOr 33) (valueAt (now (s .entry)) at bound) r ⌝ }
+    ensures { λ r. ⌜ Promised answerSays (answerOr 33) (valueAt (now (s .entry)) at bound) r ⌝ }
 {
     match ber_tags::read_tag(s, at, bound) {
         Head::Refused { place } => Answer::Refused { number: 30, place },
@@ -203,12 +204,6 @@ pub fn read_value(s: &[u8], at: usize, bound: usize) -> Answer
             }
         }
     }
-}
-
-fn word(x: usize) -> u64
-    ensures { λ r. ⌜ r ≡ x ⌝ }
-{
-    x as u64
 }
 
 fn small(x: usize) -> u8

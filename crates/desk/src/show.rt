@@ -1,18 +1,12 @@
 // The crosspoints: a line of sources, and a picture.
+use base_casts::index;
+use base_casts::word;
 use desk_crosspoints::Figures;
 use desk_crosspoints::SIDE;
 use program_lines::print;
 
 // A line of the picture: three bytes, and a byte for each source.
 const LINE: usize = SIDE + 3;
-
-fn word(x: usize) -> u64 {
-    x as u64
-}
-
-fn index(n: u64) -> usize {
-    n as usize
-}
 
 // A count of targets or sources: at most `SIDE`.
 fn side(n: u64) -> usize {

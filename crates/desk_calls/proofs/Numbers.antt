@@ -8,10 +8,10 @@ use native.Mathlib.Omega.{arith}
 use types.Run.{OneOf, hit}
 use lib.ListN.{length}
 use lib.Dec.{leb, eqb}
-use Rattle.ber_integers.specs.Digits.{pick}
+use Rattle.base_choices.specs.Choices.{pick, both}
 use Rattle.glow_rows.specs.Entry.{Rows}
 use Rattle.glow_trees.specs.Rows.{itemsIn}
-use Rattle.desk_crosspoints.specs.Figures.{both, figuresFit, cellsOf}
+use Rattle.desk_crosspoints.specs.Figures.{figuresFit, cellsOf}
 use Rattle.desk_crosspoints.specs.Crosspoints.{Cells, clear, legal}
 use Rattle.desk_crosspoints.specs.Desk.{Desk, withCells, pathFits, Answer, answer, deskOpened}
 use Rattle.desk_requests.specs.Request.{Request, result, checks, judged, asked, requested}

@@ -7,18 +7,17 @@ use native.Mathlib.Omega.{arith}
 use borrow.Author.Tests.{le-leb, lt-leb, leb-true}
 use lib.ListN.{length, drop}
 use lib.Dec.{leb}
-use Rattle.ber_integers.specs.Digits.{pick}
+use Rattle.base_choices.specs.Choices.{pick, both}
+use Rattle.base_choices.proofs.Laws.{both-left, both-right}
 use Rattle.glow_rows.specs.Entry.{Rows}
-use Rattle.glow_grammar.specs.Leaf as leaf
 use Rattle.glow_trees.specs.Content.{Item}
 use Rattle.glow_trees.specs.Rows.{itemsIn}
 use Rattle.glow_member_sizes.specs.Spelling.{leastReal}
 use Rattle.glow_sizes.specs.Accepted.{accepted, fits, lengthOf, isWhole, octetsOf}
-use Rattle.desk_crosspoints.specs.Figures.{both}
 use Rattle.desk_crosspoints.specs.Crosspoints.{Cells, clear}
 use Rattle.desk_crosspoints.specs.Desk.{Desk, deskLegal}
-use Rattle.desk_crosspoints.proofs.Laws.{both-left, both-right, both-no, both-yes}
-use Rattle.desk_calls.specs.Calls.{Served, handled, Outcome, outcome, filled, laid, unserved, isReady, called, told}
+use Rattle.desk_crosspoints.proofs.Laws.{both-no, both-yes}
+use Rattle.desk_calls.specs.Calls.{Served, handled, Outcome, outcome, filled, laid, unserved, isReady, called, outcomeOf}
 use Rattle.desk_calls.specs.Steps.{laidOver}
 use Rattle.desk_calls.specs.declared.Called.{Called}
 use Rattle.glow_paths.proofs.Items.{in-length}
@@ -30,8 +29,8 @@ module _ (real : ℕ → List ℕ) (root rows n : ℕ) (es : List Item) (r : ℕ
   measure-no h = go (leb n rows) (leb n 256) (isWhole root es) (leb (length (octetsOf real root es)) 16384) refl e
     where
       go : (a b c d : Bool) → leb (length (octetsOf real root es)) 16384 ≡ d
-          → pick (leaf.both a (leaf.both b (leaf.both c d))) (length (octetsOf real root es)) 65536 ≡ r
-          → leaf.both a (leaf.both b (leaf.both c d)) ≡ false
+          → pick (both a (both b (both c d))) (length (octetsOf real root es)) 65536 ≡ r
+          → both a (both b (both c d)) ≡ false
       go false b c d z y = refl
       go true false c d z y = refl
       go true true false d z y = refl
@@ -51,7 +50,7 @@ module _ (real : ℕ → List ℕ) (root rows n : ℕ) (es : List Item) (r : ℕ
   measure-rows h = go (leb n rows) refl (measure-yes h)
     where
       go : (a : Bool) → leb n rows ≡ a
-          → leaf.both a (leaf.both (leb n 256) (leaf.both (isWhole root es) (leb (length (octetsOf real root es)) 16384))) ≡ true → n ≤ rows
+          → both a (both (leb n 256) (both (isWhole root es) (leb (length (octetsOf real root es)) 16384))) ≡ true → n ≤ rows
       go true z y = leb-true n rows z
       go false z y = absurd (true≢false (sym y))
 
@@ -60,7 +59,7 @@ module _ (real : ℕ → List ℕ) (root rows n : ℕ) (es : List Item) (r : ℕ
   measure-few h = go (leb n rows) (leb n 256) refl (measure-yes h)
     where
       go : (a b : Bool) → leb n 256 ≡ b
-          → leaf.both a (leaf.both b (leaf.both (isWhole root es) (leb (length (octetsOf real root es)) 16384))) ≡ true → n ≤ 256
+          → both a (both b (both (isWhole root es) (leb (length (octetsOf real root es)) 16384))) ≡ true → n ≤ 256
       go true true z y = leb-true n 256 z
       go true false z y = absurd (true≢false (sym y))
       go false b z y = absurd (true≢false (sym y))
@@ -72,12 +71,12 @@ unfolding fits accepted
 measure-accepted root s rows n = go (leb n (length rows)) refl
   where
     go : (a : Bool) → leb n (length rows) ≡ a
-        → both a (leaf.both (leb (length (itemsIn s rows n)) 256)
-        (leaf.both (isWhole root (itemsIn s rows n)) (leb (length (octetsOf leastReal root (itemsIn s rows n))) 16384)))
-        ≡ leaf.both a (leaf.both (leb n 256) (leaf.both (isWhole root (itemsIn s rows n)) (leb (length (octetsOf leastReal root (itemsIn s rows n))) 16384)))
+        → both a (both (leb (length (itemsIn s rows n)) 256)
+        (both (isWhole root (itemsIn s rows n)) (leb (length (octetsOf leastReal root (itemsIn s rows n))) 16384)))
+        ≡ both a (both (leb n 256) (both (isWhole root (itemsIn s rows n)) (leb (length (octetsOf leastReal root (itemsIn s rows n))) 16384)))
     go false e = refl
     go true e =
-        ap (λ (m : ℕ). leaf.both (leb m 256) (leaf.both (isWhole root (itemsIn s rows n)) (leb (length (octetsOf leastReal root (itemsIn s rows n))) 16384)))
+        ap (λ (m : ℕ). both (leb m 256) (both (isWhole root (itemsIn s rows n)) (leb (length (octetsOf leastReal root (itemsIn s rows n))) 16384)))
         (in-length s rows n (leb-true n (length rows) e))
 
 module _ (d : Desk) (root : ℕ) (rows : Rows) (n : ℕ) (s : List ℕ) where
@@ -133,8 +132,8 @@ module _ (d : Desk) (root : ℕ) (rows : Rows) (n : ℕ) (s : List ℕ) where
       (both-left (deskLegal d) _ a, both-right (leb n (length rows)) _ (both-right (deskLegal d) _ a))
 
 -- what the call answers for 1
-pub unready-told : (r : Called) (cells : Cells) → r ≡ record { number = 1; count = 0; answers = clear 256 } → unserved cells ≡ told r cells
-unready-told r cells e = ap (λ (x : Called). told x cells) (sym e)
+pub unready-told : (r : Called) (cells : Cells) → r ≡ record { number = 1; count = 0; answers = clear 256 } → unserved cells ≡ outcomeOf r cells
+unready-told r cells e = ap (λ (x : Called). outcomeOf x cells) (sym e)
 
 -- answers laid over zeros
 drop-clear : (n m : ℕ) → drop n (clear m) ≡ clear (m - n)

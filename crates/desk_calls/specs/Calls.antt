@@ -4,12 +4,11 @@ use mathlib.Core.List.{List, [], _∷_, _++_}
 use mathlib.Core.Bool.{Bool}
 use lib.ListN.{length}
 use lib.Dec.{leb}
-use Rattle.ber_integers.specs.Digits.{pick}
+use Rattle.base_choices.specs.Choices.{pick, both}
 use Rattle.glow_rows.specs.Entry.{Rows}
 use Rattle.glow_trees.specs.Content.{Item}
 use Rattle.glow_trees.specs.Rows.{itemsIn}
 use Rattle.glow_sizes.specs.Accepted.{accepted}
-use Rattle.desk_crosspoints.specs.Figures.{both}
 use Rattle.desk_crosspoints.specs.Crosspoints.{Cells, clear}
 use Rattle.desk_crosspoints.specs.Desk.{Desk, withCells, deskLegal, Answer, answer}
 use Rattle.desk_requests.specs.Request.{Request, request, requested}
@@ -79,5 +78,5 @@ unfoldable pub called : Desk → ℕ → Rows → ℕ → List ℕ → Outcome
 called d root rows n s = pick (isReady d root rows n s) (laid (handled d (itemsIn s rows n))) (unserved (d .crosspoints))
 
 -- what the answer says, with the crosspoints after it
-abbrev pub told : Called → Cells → Outcome
-told r cells = outcome (r .number) (r .count) (r .answers) cells
+abbrev pub outcomeOf : Called → Cells → Outcome
+outcomeOf r cells = outcome (r .number) (r .count) (r .answers) cells

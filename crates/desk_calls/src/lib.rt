@@ -1,4 +1,5 @@
 // The desk's calls: one request on plain numbers, and a message's connections.
+use base_casts::index;
 use desk_connections::asked_at;
 use desk_crosspoints::Figures;
 use desk_crosspoints::SIDE;
@@ -17,7 +18,7 @@ ghost use Rattle.desk_crosspoints.specs.Figures.{cellsOf};
 ghost use Rattle.desk_crosspoints.specs.Crosspoints.{clear, count, takenFrom, withRow, legal};
 ghost use Rattle.desk_crosspoints.specs.Desk.{deskAt, answer};
 ghost use Rattle.desk_requests.specs.Request.{request, named, others, requested};
-ghost use Rattle.desk_calls.specs.Calls.{outcome, called, told};
+ghost use Rattle.desk_calls.specs.Calls.{outcome, called, outcomeOf};
 ghost use Rattle.desk_calls.specs.Steps.{askedOf, answeredAt, servedIn, Takes};
 
 // What the call answers: 0, or 1 SETUP; how many connections were answered; and their answers in order, then zeros.
@@ -25,12 +26,6 @@ pub struct Called {
     pub number: u64,
     pub count: usize,
     pub answers: [u8; 256],
-}
-
-fn index(x: u64) -> usize
-    ensures { λ r. ⌜ r ≡ x ⌝ }
-{
-    x as usize
 }
 
 // The first source named, 0 if there is none.
@@ -267,7 +262,7 @@ pub fn call(
     crosspoints: &mut [u8],
 ) -> Called
     ensures { λ r. ⌜ called (deskAt f (now (path .entry)) (now (crosspoints .entry))) root (now (rows .entry)) count (now (s .entry))
-        ≡ told r (now (crosspoints .exit)) ⌝ }
+        ≡ outcomeOf r (now (crosspoints .exit)) ⌝ }
 {
     if 256 < rows.len() {
         return unready();

@@ -7,10 +7,10 @@ use native.Mathlib.Omega.{arith}
 use borrow.Author.Tests.{leb-true, eqb-true}
 use lib.IntN.{pos, negsuc}
 use lib.Dec.{leb, ltb, eqb}
-use Rattle.ber_integers.specs.Digits.{pick}
+use Rattle.base_choices.specs.Choices.{pick, both}
 use Rattle.glow_grammar.specs.Grammar.{members, ruleOf, contentsRows, children, connections}
 use Rattle.glow_grammar.specs.Grammar as grammar
-use Rattle.glow_grammar.specs.Leaf.{both, least, most, inRange, expects}
+use Rattle.glow_grammar.specs.Leaf.{least, most, inRange, expects}
 use Rattle.glow_trees.specs.Content.{Content, nothing, word, bytes, wrong, intOf, isWord}
 use Rattle.glow_trees.specs.Trees.{Trees, none, tree}
 use Rattle.glow_trees.specs.Legal.{ruleAt, wordSuits, suits, suited, pathAfter, legal, legalRoot, isNone, isRoot, isReal}

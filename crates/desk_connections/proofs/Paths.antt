@@ -10,11 +10,11 @@ use borrow.Author.Tests.{leb-true, eqb-true}
 use lib.ListN.{length, drop, getD, length-append}
 use lib.Seq.{drop-drop}
 use lib.Dec.{leb, ltb, eqb}
-use Rattle.ber_integers.specs.Digits.{pick}
+use Rattle.base_choices.specs.Choices.{pick, both}
 use Rattle.ber_identifiers.specs.Identifier.{Arcs, bad, over, numbers, arcs}
 use Rattle.glow_grammar.specs.Grammar.{members, ruleOf, requirements, required, contentsRows, step, path, children, connections}
 use Rattle.glow_grammar.specs.Grammar as grammar
-use Rattle.glow_grammar.specs.Leaf.{both, expects}
+use Rattle.glow_grammar.specs.Leaf.{expects}
 use Rattle.glow_trees.specs.Content.{Content, nothing, word, bytes, wrong, isPart, isWord, Item, item}
 use Rattle.glow_trees.specs.Trees.{Trees, none, tree, count, flat, standsIn}
 use Rattle.glow_trees.specs.Legal.{ruleAt, suits, suited, complete, pathOf, pathAfter, lengthOf, legal, legalRoot, isNone, isRoot, empty, inner}

@@ -10,12 +10,13 @@ use borrow.Author.Tests.{leb-true, ltb-true, ltb-false, le-leb, lt-leb, lt-ltb, 
 use lib.ListN.{length, take, drop, getD, set, drop-of-length-le, length-drop}
 use lib.Seq.{drop-cons, length-take-le, take-suc-set, take-all}
 use lib.Dec.{leb, ltb, eqb}
-use Rattle.ber_integers.specs.Digits.{pick}
+use Rattle.base_choices.specs.Choices.{pick, both}
+use Rattle.base_choices.proofs.Laws.{both-left, both-right}
 use Rattle.ber_integers.proofs.Radix.{lt-or-le}
 use Rattle.desk_crosspoints.specs.declared.Limit.{Limit}
 use Rattle.desk_crosspoints.specs.declared.Limit.the-variants.{Absent, Most}
 use Rattle.desk_crosspoints.specs.declared.Figures.{Figures}
-use Rattle.desk_crosspoints.specs.Figures.{side, both, isCount, isLimit, figuresFit, cellsOf, sizeOf, limitOr, mostEach, mostTotal}
+use Rattle.desk_crosspoints.specs.Figures.{side, isCount, isLimit, figuresFit, cellsOf, sizeOf, limitOr, mostEach, mostTotal}
 use Rattle.desk_crosspoints.specs.Crosspoints.{Cells, bit, count, allBits, clear, rowAt, holders, rowsFit, sourcesFit}
 use Rattle.desk_crosspoints.specs.Crosspoints.{kindFits, cellsFit, legal}
 use Rattle.desk_crosspoints.specs.Desk.{Desk, pathFits, answer, deskOpened}
@@ -200,13 +201,6 @@ module _ (w : ℕ) (cells : Cells) where
   holders-more s t n k = rw k
 
 -- what figures that fit tell
-pub both-left : (a b : Bool) → both a b ≡ true → a ≡ true
-both-left true b h = refl
-both-left false b h = h
-
-pub both-right : (a b : Bool) → both a b ≡ true → b ≡ true
-both-right true b h = h
-both-right false b h = absurd (true≢false (sym h))
 
 pub count-bound : (n : ℕ) → isCount n ≡ true → n ≤ side
 unfolding isCount

@@ -7,9 +7,10 @@ use borrow.Author.Tests.{eqb-true}
 use lib.ListN.{length}
 use lib.Dec.{eqb}
 use Rattle.desk_crosspoints.specs.declared.Figures.{Figures}
-use Rattle.desk_crosspoints.specs.Figures.{both, figuresFit, cellsOf, mostEach}
+use Rattle.base_choices.specs.Choices.{both}
+use Rattle.base_choices.proofs.Laws.{both-left, both-right}
+use Rattle.desk_crosspoints.specs.Figures.{figuresFit, cellsOf, mostEach}
 use Rattle.desk_crosspoints.specs.Crosspoints.{Cells, allBits, rowsFit, kindFits, cellsFit, legal}
-use Rattle.desk_crosspoints.proofs.Laws.{both-left, both-right}
 use Rattle.desk_crosspoints.proofs.Under.{rows-apart}
 
 module _ (f : Figures) (cells : Cells) (h : legal f cells ≡ true) where

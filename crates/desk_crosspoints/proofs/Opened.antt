@@ -6,12 +6,13 @@ use native.Mathlib.Omega.{arith}
 use borrow.Author.Tests.{le-leb, eqb-true, eqb-false}
 use lib.ListN.{length}
 use lib.Dec.{eqb}
-use Rattle.ber_integers.specs.Digits.{pick}
+use Rattle.base_choices.specs.Choices.{pick, both}
+use Rattle.base_choices.proofs.Laws.{both-right}
 use Rattle.desk_crosspoints.specs.declared.Figures.{Figures}
-use Rattle.desk_crosspoints.specs.Figures.{both, figuresFit, cellsOf, mostEach, mostTotal}
+use Rattle.desk_crosspoints.specs.Figures.{figuresFit, cellsOf, mostEach, mostTotal}
 use Rattle.desk_crosspoints.specs.Crosspoints.{Cells, count, clear, rowAt, kindFits, legal}
 use Rattle.desk_crosspoints.specs.Desk.{Desk, withCells, pathFits, deskLegal, Answer, answer, deskOpened}
-use Rattle.desk_crosspoints.proofs.Laws.{both-right, cells-rest, legal-cells, kind-one, kind-many, kind-other}
+use Rattle.desk_crosspoints.proofs.Laws.{cells-rest, legal-cells, kind-one, kind-many, kind-other}
 use Rattle.desk_crosspoints.proofs.Under.{Under, under-count, row-under, bits-from, rows-from, sources-from, holders-none}
 use Rattle.desk_crosspoints.proofs.Counts.{clear-cell, clear-length, clear-count}
 

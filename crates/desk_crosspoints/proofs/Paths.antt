@@ -8,10 +8,11 @@ use borrow.Author.Tests.{le-leb, lt-leb, leb-true}
 use lib.ListN.{length, drop, getD, drop-of-length-le}
 use lib.Seq.{drop-cons}
 use lib.Dec.{leb}
-use Rattle.desk_crosspoints.specs.Figures.{both}
+use Rattle.base_choices.specs.Choices.{both}
+use Rattle.base_choices.proofs.Laws.{both-left, both-right}
 use Rattle.desk_crosspoints.specs.Crosspoints.{legal}
 use Rattle.desk_crosspoints.specs.Desk.{Desk, allNumbers, pathFits, deskLegal}
-use Rattle.desk_crosspoints.proofs.Laws.{both-left, both-right, both-no, both-yes}
+use Rattle.desk_crosspoints.proofs.Laws.{both-no, both-yes}
 
 -- a path's numbers from i on
 module _ (path : List ℕ) (i : ℕ) where

@@ -8,9 +8,8 @@ use borrow.Author.Tests.{leb-true, le-leb, eqb-true, eqb-false}
 use lib.ListN.{length, take, drop, getD, set, length-set, take-append-drop, List·getD-eq-default}
 use lib.Seq.{drop-drop, getD-set-same, getD-set-other}
 use lib.Dec.{leb, eqb}
-use Rattle.ber_integers.specs.Digits.{pick}
+use Rattle.base_choices.specs.Choices.{pick, both}
 use Rattle.ber_integers.proofs.Radix.{lt-or-le}
-use Rattle.desk_crosspoints.specs.Figures.{both}
 use Rattle.desk_crosspoints.specs.Crosspoints.{Cells, bit, count, allBits, clear, holders, sourcesFit}
 use Rattle.desk_crosspoints.proofs.Laws.{part-one, bit-le, bit-clear, bits-end, row-is, holders-more}
 use Rattle.desk_crosspoints.proofs.Laws.{count-append}

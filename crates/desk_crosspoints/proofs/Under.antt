@@ -9,11 +9,12 @@ use borrow.Author.Tests.{leb-true, eqb-true, eqb-false, le-leb}
 use lib.ListN.{length, take, drop, getD, set, List·getD-eq-default, List·getD-append, length-drop, length-append}
 use lib.Seq.{getD-take, getD-drop, getD-append-add, length-take-le}
 use lib.Dec.{leb, eqb}
-use Rattle.ber_integers.specs.Digits.{pick}
+use Rattle.base_choices.specs.Choices.{pick}
+use Rattle.base_choices.proofs.Laws.{both-left, both-right}
 use Rattle.ber_integers.proofs.Radix.{lt-or-le}
 use Rattle.desk_crosspoints.specs.Figures.{side, mostCells}
 use Rattle.desk_crosspoints.specs.Crosspoints.{Cells, bit, count, allBits, rowAt, withRow, holders, rowsFit, sourcesFit}
-use Rattle.desk_crosspoints.proofs.Laws.{bit-le, bit-set, bit-clear, both-left, both-right}
+use Rattle.desk_crosspoints.proofs.Laws.{bit-le, bit-set, bit-clear}
 
 -- a's cells are set only where b's are
 abbrev pub Under : Cells → Cells → Type 0

@@ -5,9 +5,9 @@ use mathlib.Core.List.{List, [], _∷_, _++_}
 use mathlib.Core.Bool.{Bool, true, false}
 use lib.ListN.{length, take, drop, getD, set}
 use lib.Dec.{leb, eqb}
-use Rattle.ber_integers.specs.Digits.{pick}
+use Rattle.base_choices.specs.Choices.{pick, both}
 use Rattle.desk_crosspoints.specs.declared.Figures.{Figures}
-use Rattle.desk_crosspoints.specs.Figures.{oneToOne, nToN, both, figuresFit, cellsOf, mostEach, mostTotal}
+use Rattle.desk_crosspoints.specs.Figures.{oneToOne, nToN, figuresFit, cellsOf, mostEach, mostTotal}
 
 abbrev pub Cells : Type 0
 Cells = List ℕ

@@ -4,9 +4,9 @@ use mathlib.Core.List.{List, [], _∷_}
 use mathlib.Core.Bool.{Bool, true, false}
 use lib.ListN.{length}
 use lib.Dec.{leb, eqb}
-use Rattle.ber_integers.specs.Digits.{pick}
+use Rattle.base_choices.specs.Choices.{pick, both}
 use Rattle.desk_crosspoints.specs.declared.Figures.{Figures}
-use Rattle.desk_crosspoints.specs.Figures.{both, figuresFit, cellsOf}
+use Rattle.desk_crosspoints.specs.Figures.{figuresFit, cellsOf}
 use Rattle.desk_crosspoints.specs.Crosspoints.{Cells, clear, legal}
 
 pub record Desk : Type 0 where

@@ -2,7 +2,7 @@
 use Prim.Native.Nat.{ℕ, _*_}
 use mathlib.Core.Bool.{Bool, true, false}
 use lib.Dec.{leb, eqb}
-use Rattle.ber_integers.specs.Digits.{pick}
+use Rattle.base_choices.specs.Choices.{pick, both}
 use Rattle.desk_crosspoints.specs.declared.Limit.{Limit}
 use Rattle.desk_crosspoints.specs.declared.Limit.the-variants.{Absent, Most}
 use Rattle.desk_crosspoints.specs.declared.Figures.{Figures}
@@ -24,10 +24,6 @@ oneToOne = 1
 
 abbrev pub nToN : ℕ
 nToN = 2
-
-abbrev pub both : Bool → Bool → Bool
-both true b = b
-both false b = false
 
 unfoldable pub isCount : ℕ → Bool
 isCount n = both (leb 1 n) (leb n side)

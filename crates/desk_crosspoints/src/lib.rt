@@ -1,9 +1,12 @@
 // The desk's figures and crosspoints, which of them are legal, and opening.
+use base_casts::index;
+use base_casts::wide;
 ghost use mathlib.Core.Path.{_≡_};
 ghost use Prim.Native.Nat.{ℕ, _+_, _*_, _≤_, _<_, min};
 ghost use lib.Dec.{leb};
 ghost use lib.ListN.{length, getD};
-ghost use Rattle.desk_crosspoints.specs.Figures.{side, both, isCount, isLimit, figuresFit, cellsOf, sizeOf, limitOr, mostEach, mostTotal};
+ghost use Rattle.base_choices.specs.Choices.{both};
+ghost use Rattle.desk_crosspoints.specs.Figures.{side, isCount, isLimit, figuresFit, cellsOf, sizeOf, limitOr, mostEach, mostTotal};
 ghost use Rattle.desk_crosspoints.specs.Crosspoints.{bit, count, allBits, clear, rowsFit, sourcesFit, kindFits, cellsFit, legal};
 ghost use Rattle.desk_crosspoints.specs.Desk.{deskAt, pathFits, deskLegal, answer, deskOpened};
 
@@ -23,12 +26,6 @@ pub struct Figures {
     pub sources: u64,
     pub total: Limit,
     pub each: Limit,
-}
-
-fn index(x: u64) -> usize
-    ensures { λ r. ⌜ r ≡ x ⌝ }
-{
-    x as usize
 }
 
 fn is_count(n: u64) -> bool
@@ -104,12 +101,6 @@ fn bit(c: u8) -> u8
         return 0;
     }
     1
-}
-
-fn wide(n: u8) -> u64
-    ensures { λ r. ⌜ r ≡ n ⌝ }
-{
-    n as u64
 }
 
 // How many of a few cells are set: a sum of bytes, of which a processor adds many at a time.

@@ -6,9 +6,9 @@ use mathlib.Core.Bool.{Bool, true, false, not}
 use native.Mathlib.Omega.{arith}
 use borrow.Author.Tests.{leb-true, leb-false, eqb-true, lt-leb, le-leb, lt-ltb, le-ltb, eq-eqb, ne-eqb}
 use lib.Dec.{leb, ltb, eqb}
-use Rattle.ber_integers.specs.Digits.{pick}
+use Rattle.base_choices.specs.Choices.{pick, both}
 use Rattle.desk_crosspoints.specs.declared.Figures.{Figures}
-use Rattle.desk_crosspoints.specs.Figures.{both, mostEach, mostTotal}
+use Rattle.desk_crosspoints.specs.Figures.{mostEach, mostTotal}
 use Rattle.desk_crosspoints.specs.Crosspoints.{Cells, count, rowAt, withRow, legal}
 use Rattle.desk_crosspoints.specs.Desk.{Desk, answer}
 use Rattle.desk_requests.specs.Request.{Request, named, allBelow, becomes, others, rowAfter, result}

@@ -9,13 +9,14 @@ use native.Mathlib.Omega.{arith}
 use borrow.Author.Tests.{leb-true, leb-false, ltb-false, eqb-true, eqb-false, lt-ltb, eq-eqb, ne-eqb, not-false}
 use lib.ListN.{length, drop, getD}
 use lib.Dec.{leb, ltb, eqb}
-use Rattle.ber_integers.specs.Digits.{pick}
+use Rattle.base_choices.specs.Choices.{pick, both}
+use Rattle.base_choices.proofs.Laws.{both-left, both-right}
 use Rattle.ber_integers.proofs.Radix.{lt-or-le}
 use Rattle.desk_crosspoints.specs.declared.Figures.{Figures}
-use Rattle.desk_crosspoints.specs.Figures.{both, mostEach, mostTotal}
+use Rattle.desk_crosspoints.specs.Figures.{mostEach, mostTotal}
 use Rattle.desk_crosspoints.specs.Crosspoints.{Cells, count, rowAt, withRow, takenFrom, legal}
 use Rattle.desk_crosspoints.specs.Desk.{Desk, Answer, answer}
-use Rattle.desk_crosspoints.proofs.Laws.{both-left, both-right, both-yes, fit-kind-le, fit-sources-some, each-one, kind-many}
+use Rattle.desk_crosspoints.proofs.Laws.{both-yes, fit-kind-le, fit-sources-some, each-one, kind-many}
 use Rattle.desk_crosspoints.proofs.Under.{Under, under-count, row-cell, row-past, row-length, bits-tell}
 use Rattle.desk_crosspoints.proofs.Under.{rows-tell, with-inside}
 use Rattle.desk_crosspoints.proofs.Counts.{count-none}

@@ -9,7 +9,7 @@ use lib.ListN.{length, take, drop, getD, set}
 use lib.Seq.{take-suc, take-suc-set, take-all}
 use lib.Dec.{ltb, eqb}
 use Rattle.desk_crosspoints.specs.declared.Figures.{Figures}
-use Rattle.desk_crosspoints.specs.Figures.{both}
+use Rattle.base_choices.specs.Choices.{both}
 use Rattle.desk_crosspoints.specs.Crosspoints.{Cells, count, clear, takenFrom}
 use Rattle.desk_crosspoints.proofs.Laws.{part-none, part-one, both-no, both-yes}
 use Rattle.desk_requests.specs.Request.{marked, named, allBelow, replaces, becomes}

@@ -8,7 +8,7 @@ use borrow.Author.Tests.{lt-ltb, le-ltb, ne-eqb, ltb-true}
 use lib.ListN.{length, take, drop, getD, take-append-drop}
 use lib.Seq.{drop-drop}
 use lib.Dec.{ltb}
-use Rattle.ber_integers.specs.Digits.{pick}
+use Rattle.base_choices.specs.Choices.{pick}
 use Rattle.desk_crosspoints.specs.declared.Figures.{Figures}
 use Rattle.desk_crosspoints.specs.Crosspoints.{Cells, count, rowAt, withRow, takenFrom}
 use Rattle.desk_crosspoints.proofs.Laws.{count-le, count-append}

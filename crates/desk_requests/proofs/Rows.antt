@@ -9,7 +9,7 @@ use borrow.Author.Tests.{ltb-true}
 use lib.ListN.{length, getD, set, length-set}
 use lib.Seq.{getD-set-same}
 use lib.Dec.{ltb}
-use Rattle.ber_integers.specs.Digits.{pick}
+use Rattle.base_choices.specs.Choices.{pick}
 use Rattle.ber_integers.proofs.Radix.{lt-or-le}
 use Rattle.desk_crosspoints.specs.Crosspoints.{Cells, count, clear, takenFrom}
 use Rattle.desk_crosspoints.proofs.Under.{Under}

@@ -8,14 +8,13 @@ use borrow.Author.Tests.{ltb-true, ltb-false, eqb-true, eqb-false, eq-eqb}
 use lib.ListN.{length, getD, set}
 use lib.Seq.{getD-set-same, getD-set-other, set-set, ext-getD}
 use lib.Dec.{ltb, leb, eqb}
-use Rattle.ber_integers.specs.Digits.{pick}
+use Rattle.base_choices.specs.Choices.{pick, both}
+use Rattle.base_choices.proofs.Laws.{both-right}
 use Rattle.desk_crosspoints.specs.declared.Figures.{Figures}
-use Rattle.desk_crosspoints.specs.Figures.{both}
 use Rattle.desk_crosspoints.specs.Crosspoints.{Cells, count, clear, rowAt, takenFrom, legal}
 use Rattle.desk_crosspoints.specs.Desk.{Desk, Answer, answer}
 use Rattle.desk_requests.specs.Request.{Request, request, marked, named, allBelow, replaces, becomes, takes, others, rowAfter, result}
 use Rattle.desk_requests.specs.Request.{firstOf, many, overTotal, checks, judged, asked, requested}
-use Rattle.desk_crosspoints.proofs.Laws.{both-right}
 use Rattle.desk_requests.proofs.Rows.{marked-length, named-other, named-one}
 use Rattle.desk_requests.specs.Lists.{has}
 

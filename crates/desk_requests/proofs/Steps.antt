@@ -8,13 +8,14 @@ use native.Mathlib.Omega.{arith}
 use borrow.Author.Tests.{eqb-true, le-leb, lt-leb, eq-eqb, ne-eqb}
 use lib.ListN.{length, getD}
 use lib.Dec.{eqb}
-use Rattle.ber_integers.specs.Digits.{pick}
+use Rattle.base_choices.specs.Choices.{pick, both}
+use Rattle.base_choices.proofs.Laws.{both-left, both-right}
 use Rattle.ber_integers.proofs.Radix.{lt-or-le}
 use Rattle.desk_crosspoints.specs.declared.Figures.{Figures}
-use Rattle.desk_crosspoints.specs.Figures.{both, isCount, figuresFit, cellsOf, sizeOf}
+use Rattle.desk_crosspoints.specs.Figures.{isCount, figuresFit, cellsOf, sizeOf}
 use Rattle.desk_crosspoints.specs.Crosspoints.{Cells, count, rowAt, withRow, legal}
 use Rattle.desk_crosspoints.specs.Desk.{Desk, deskAt, answer}
-use Rattle.desk_crosspoints.proofs.Laws.{both-left, both-right, count-some, fit-counts, fit-sources-some}
+use Rattle.desk_crosspoints.proofs.Laws.{count-some, fit-counts, fit-sources-some}
 use Rattle.desk_crosspoints.proofs.Under.{rows-apart, rows-le}
 use Rattle.desk_crosspoints.proofs.Legal.{legal-fit, legal-length}
 use Rattle.desk_requests.specs.Request.{Request, named, others, rowAfter, result, many, overTotal, checks, judged, asked, requested}

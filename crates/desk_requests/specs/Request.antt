@@ -4,9 +4,9 @@ use mathlib.Core.List.{List, [], _∷_}
 use mathlib.Core.Bool.{Bool, true, false, not}
 use lib.ListN.{getD, set}
 use lib.Dec.{leb, ltb, eqb}
-use Rattle.ber_integers.specs.Digits.{pick}
+use Rattle.base_choices.specs.Choices.{pick, both}
 use Rattle.desk_crosspoints.specs.declared.Figures.{Figures}
-use Rattle.desk_crosspoints.specs.Figures.{oneToOne, nToN, both, mostEach, mostTotal}
+use Rattle.desk_crosspoints.specs.Figures.{oneToOne, nToN, mostEach, mostTotal}
 use Rattle.desk_crosspoints.specs.Crosspoints.{Cells, count, clear, rowAt, withRow, takenFrom, legal}
 use Rattle.desk_crosspoints.specs.Desk.{Desk, Answer, answer}
 

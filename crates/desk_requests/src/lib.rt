@@ -1,5 +1,6 @@
 // The checks of a request in their order, for a desk that is known to be legal. Nothing here changes a crosspoint: the request itself, which judges the desk
 // first, is in desk_calls.
+use base_casts::index;
 use desk_crosspoints::Figures;
 ghost use mathlib.Core.Path.{_≡_};
 ghost use mathlib.Core.List.{[]};
@@ -7,8 +8,8 @@ ghost use mathlib.Core.Bool.{true};
 ghost use Prim.Native.Nat.{_+_, _-_, _*_, _≤_};
 ghost use lib.Dec.{ltb, eqb};
 ghost use lib.ListN.{length, set};
-ghost use Rattle.ber_integers.specs.Digits.{pick};
-ghost use Rattle.desk_crosspoints.specs.Figures.{side, mostCells, both, cellsOf, mostEach, mostTotal};
+ghost use Rattle.base_choices.specs.Choices.{pick, both};
+ghost use Rattle.desk_crosspoints.specs.Figures.{side, mostCells, cellsOf, mostEach, mostTotal};
 ghost use Rattle.desk_crosspoints.specs.Crosspoints.{count, rowAt};
 ghost use Rattle.desk_crosspoints.specs.Desk.{deskAt};
 ghost use Rattle.desk_requests.specs.Request.{request, marked, named, becomes, allBelow, rowAfter, judged};
@@ -91,12 +92,6 @@ fn become_row(f: Figures, sources: &[u64], operation: u64, ones: u64, row: &mut 
         return;
     }
     mark(row, sources, 1);
-}
-
-fn index(x: u64) -> usize
-    ensures { λ r. ⌜ r ≡ x ⌝ }
-{
-    x as usize
 }
 
 // Whether a target has too many: for N:N its cells are over its limit, else the list is over one.

@@ -1,4 +1,5 @@
 // A desk's entries as rows: its qualified matrix, and a connection for a target.
+use base_casts::index;
 use desk_crosspoints::Figures;
 use desk_crosspoints::Limit;
 use glow_entries::Connection;
@@ -12,12 +13,6 @@ ghost use Rattle.glow_rows.specs.Cell.{numbers};
 ghost use Rattle.glow_rows.specs.Entry.{row};
 ghost use Rattle.glow_entries.specs.Member as members;
 ghost use Rattle.desk_rows.specs.Rows.{numberCell, limitCell, listCell, matrixEntry, linkEntry};
-
-fn count(x: u64) -> usize
-    ensures { λ r. ⌜ r ≡ x ⌝ }
-{
-    x as usize
-}
 
 // A number, by its word.
 fn number(w: u64) -> Number
@@ -44,8 +39,8 @@ pub fn list_of(start: u64, len: u64) -> Part
         return Part::Absent;
     }
     Part::At {
-        start: count(start),
-        len: count(len),
+        start: index(start),
+        len: index(len),
     }
 }
 
@@ -55,7 +50,7 @@ pub fn matrix_row(f: Figures, len: u64) -> [u64; 50]
 {
     let most = f.total;
     let most_each = f.each;
-    let path = count(len);
+    let path = index(len);
     let matrix_type = number(f.kind);
     let targets = number(f.targets);
     let sources = number(f.sources);

@@ -1,4 +1,5 @@
 // The sources that a connection names, each once, for a request.
+use base_casts::index;
 use desk_crosspoints::SIDE;
 ghost use mathlib.Core.Path.{_≡_};
 ghost use Prim.Native.Nat.{_≤_, _<_};
@@ -8,12 +9,6 @@ ghost use Rattle.desk_crosspoints.specs.Crosspoints.{clear};
 ghost use Rattle.desk_requests.specs.Lists.{once};
 ghost use Rattle.glow_paths.specs.Paths.{numbersIn};
 ghost use Rattle.desk_sources.specs.Gathered.{Handed, Kept};
-
-fn index(x: u64) -> usize
-    ensures { λ r. ⌜ r ≡ x ⌝ }
-{
-    x as usize
-}
 
 // One more source: kept if it is not among the first k already; how many there are then.
 fn keep(list: &mut [u64], marks: &mut [u8], k: usize, x: u64) -> usize

@@ -12,7 +12,7 @@ use lib.ListN.{take}
 use Rattle.glow_rows.specs.Entry.{Rows}
 use Rattle.desk_crosspoints.specs.Crosspoints.{Cells}
 use Rattle.framing_c.specs.Calls.{Called, calls}
-use Rattle.ember.specs.Calls.{Turn, turns}
+use Rattle.ember.specs.Calls.{Turned, turns}
 use Rattle.ember.specs.Rounds.{Round, Rounds, round, refused}
 use Rattle.ember.proofs.ember_feed
 use Rattle.ember.proofs.ember_feed.Kinds as feed-kinds
@@ -71,7 +71,7 @@ feed-called ws t c a r e =
     }
 
 -- `ember_turn` was called with these words, bytes and rows, answered x .number and left the rest of x: what its contract has it ensure.
-pub record Call (ws t c : List ℕ) (table : Rows) (fs path : List ℕ) (cells : Cells) (lent a : List ℕ) (x : Turn) : Type 0 where
+pub record Call (ws t c : List ℕ) (table : Rows) (fs path : List ℕ) (cells : Cells) (lent a : List ℕ) (x : Turned) : Type 0 where
   pub κs : Lfts 9
   pub args : World.ArgsD ember_turn.signature κs
   pub exits : Clauses.AtExit (K.endedOf 9 turn-kinds.ps turn-kinds.r) κs
@@ -92,11 +92,11 @@ pub record Call (ws t c : List ℕ) (table : Rows) (fs path : List ℕ) (cells :
   pub answer-left : now (exits .1 .1 .1 .1 .1 .1 .1 .1 .0) ≡ x .answer
   pub ensured : turn-reads.Post κs args (x .number) exits
 
-abbrev whole : ℕ → List ℕ → List ℕ → Rows → Cells → List ℕ → List ℕ → Turn
+abbrev whole : ℕ → List ℕ → List ℕ → Rows → Cells → List ℕ → List ℕ → Turned
 whole n ws t table cells answers a =
     record { number = n; session = ws; store = t; table = table; crosspoints = cells; answers = answers; answer = a }
 
-turn-again : {y : Turn} (x : Turn) {ws t : List ℕ} {table : Rows} {cells : Cells} {answers a : List ℕ} → y ≡ whole (x .number) ws t table cells answers a
+turn-again : {y : Turned} (x : Turned) {ws t : List ℕ} {table : Rows} {cells : Cells} {answers a : List ℕ} → y ≡ whole (x .number) ws t table cells answers a
     → ws ≡ x .session → t ≡ x .store → table ≡ x .table → cells ≡ x .crosspoints → answers ≡ x .answers → a ≡ x .answer → y ≡ x
 turn-again x {ws} {t} {table} {cells} {answers} {a} e p q o m l k =
     e
@@ -108,7 +108,7 @@ turn-again x {ws} {t} {table} {cells} {answers} {a} e p q o m l k =
     ∙ ap (λ (v : List ℕ). whole (x .number) (x .session) (x .store) (x .table) (x .crosspoints) (x .answers) v) k
 
 -- What a call gives is what `turns` says, and nothing else.
-pub turn-says : {ws t c : List ℕ} {table : Rows} {fs path : List ℕ} {cells : Cells} {lent a : List ℕ} {x : Turn}
+pub turn-says : {ws t c : List ℕ} {table : Rows} {fs path : List ℕ} {cells : Cells} {lent a : List ℕ} {x : Turned}
     → Call ws t c table fs path cells lent a x → turns ws t c table fs path cells lent a ≡ x
 turn-says {ws} {t} {c} {table} {fs} {path} {cells} {lent} {a} {x} k =
     let e : turns ws t c table fs path cells lent a
@@ -116,7 +116,7 @@ turn-says {ws} {t} {c} {table} {fs} {path} {cells} {lent} {a} {x} k =
     (now (k .exits .1 .1 .1 .1 .1 .1 .1 .0)) (now (k .exits .1 .1 .1 .1 .1 .1 .1 .1 .0)) = cc (k .ensured) in
     turn-again x e (k .session-left) (k .store-left) (k .table-left) (k .cells-left) (k .answers-left) (k .answer-left)
 
-module _ (ws t c : List ℕ) (table : Rows) (fs path : List ℕ) (cells : Cells) (lent a : List ℕ) (x : Turn) where
+module _ (ws t c : List ℕ) (table : Rows) (fs path : List ℕ) (cells : Cells) (lent a : List ℕ) (x : Turned) where
   pub turn-called : turns ws t c table fs path cells lent a ≡ x → Call ws t c table fs path cells lent a x
   unfolding lent-slice
   turn-called e =
@@ -196,7 +196,7 @@ pub record CallOf (r : Round) : Type 0 where
   pub answer : List ℕ
   pub call : Call session store (r .offered) table figures path cells lent answer (r .left)
 
-call-of : {ws t c : List ℕ} {table : Rows} {fs path : List ℕ} {cells : Cells} {lent a : List ℕ} {x : Turn} → Call ws t c table fs path cells lent a x
+call-of : {ws t c : List ℕ} {table : Rows} {fs path : List ℕ} {cells : Cells} {lent a : List ℕ} {x : Turned} → Call ws t c table fs path cells lent a x
     → CallOf (record { offered = c; left = x })
 call-of {ws} {t} {c} {table} {fs} {path} {cells} {lent} {a} k =
     record { session = ws; store = t; table = table; figures = fs; path = path; cells = cells; lent = lent; answer = a; call = k }

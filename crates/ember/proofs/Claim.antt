@@ -9,7 +9,7 @@ use borrow.Author.Tests.{eqb-true, eqb-false}
 use native.Mathlib.Omega.{arith}
 use lib.Dec.{eqb}
 use lib.ListN.{length, getD, take, drop, take-append-drop}
-use Rattle.ber_integers.specs.Digits.{pick}
+use Rattle.base_choices.specs.Choices.{pick, both}
 use Rattle.ber_integers.proofs.Radix.{Below}
 use Rattle.framing_session.specs.declared.Event.{Event}
 use Rattle.framing_session.specs.declared.Event.the-variants as ev
@@ -21,10 +21,10 @@ use Rattle.framing_session.specs.Session.{sessionOf, saidBy, legal, Legal, Whol
 use Rattle.framing.proofs.Calls.{some-call}
 use Rattle.framing_words.specs.Words.{wordsOf, sessionAt, isSession}
 use Rattle.framing_answers.specs.Answers.{accepts}
-use Rattle.framing_c.specs.Calls.{Called, told as framed, calls}
+use Rattle.framing_c.specs.Calls.{Called, calledOf as framed, calls}
 use Rattle.framing_words.proofs.Laws.{words-back}
 use Rattle.glow_rows.specs.Entry.{Rows}
-use Rattle.desk_crosspoints.specs.Figures.{both, sizeOf}
+use Rattle.desk_crosspoints.specs.Figures.{sizeOf}
 use Rattle.desk_crosspoints.specs.Crosspoints.{Cells}
 use Rattle.desk_crosspoints.specs.Desk.{Desk, deskLegal}
 use Rattle.turns.specs.declared.After.{After}
@@ -36,7 +36,7 @@ use Rattle.framing.proofs.Sayable.{legal-answered}
 use Rattle.turns.proofs.Comes.{said-at, function-turn}
 use Rattle.turns.proofs.Claim.{claim as rules-claim}
 use Rattle.ember.specs.Words.{figuresAt, deskIn, isFigures}
-use Rattle.ember.specs.Calls.{lengthsFit, next, Turn, turn, told, turnAfter, turned, turns}
+use Rattle.ember.specs.Calls.{lengthsFit, next, Turned, turn, turnOf, turnAfter, turned, turns}
 use Rattle.ember.specs.Rounds.{Round, Rounds, none, round, refused, Tells, AllTell, more, silent, Claimed}
 use Rattle.ember.specs.Rounds as rounds
 
@@ -68,7 +68,7 @@ module _ (d : Desk) (c : List ℕ) (table : Rows) (r : Fed) (t′ : List ℕ) wh
   abbrev pub comes-after : After
   comes-after = said-at d (r .event) t′ table .0
 
-  pub tells-told : Tells (record { offered = c; left = told (framed (answers r t′)) comes })
+  pub tells-told : Tells (record { offered = c; left = turnOf (framed (answers r t′)) comes })
       (record { offered = c; fed = r; store = t′; later = laterOf comes-after (comes .answers) (comes .table) (comes .crosspoints) })
   unfolding framed
   tells-told =
@@ -77,13 +77,13 @@ module _ (d : Desk) (c : List ℕ) (table : Rows) (r : Fed) (t′ : List ℕ) wh
         store-is = refl;
         number-is = refl;
         later-is = (comes-after, refl);
-        words-are = ap (λ (w : Left). told (framed (answers r t′)) w .answer) (said-at d (r .event) t′ table .1);
+        words-are = ap (λ (w : Left). turnOf (framed (answers r t′)) w .answer) (said-at d (r .event) t′ table .1);
       }
 
 -- ---- "1 leaves everything as it was"
 
 module _ (ws t c : List ℕ) (table : Rows) (fs path : List ℕ) (cells : Cells) (lent a : List ℕ) where
-  pub record AsWas (x : Turn) : Type 0 where
+  pub record AsWas (x : Turned) : Type 0 where
     pub session-is : x .session ≡ ws
     pub store-is : x .store ≡ t
     pub table-is : x .table ≡ table
@@ -91,18 +91,18 @@ module _ (ws t c : List ℕ) (table : Rows) (fs path : List ℕ) (cells : Cells)
     pub answers-are : x .answers ≡ lent
     pub words-are : x .answer ≡ a
 
-  abbrev untouched : Turn
+  abbrev untouched : Turned
   untouched = record { number = 1; session = ws; store = t; table = table; crosspoints = cells; answers = lent; answer = a }
 
-  all-same : {x : Turn} → untouched ≡ x → AsWas x
+  all-same : {x : Turned} → untouched ≡ x → AsWas x
   all-same e =
       record {
-        session-is = sym (ap (λ (w : Turn). w .session) e);
-        store-is = sym (ap (λ (w : Turn). w .store) e);
-        table-is = sym (ap (λ (w : Turn). w .table) e);
-        cells-are = sym (ap (λ (w : Turn). w .crosspoints) e);
-        answers-are = sym (ap (λ (w : Turn). w .answers) e);
-        words-are = sym (ap (λ (w : Turn). w .answer) e);
+        session-is = sym (ap (λ (w : Turned). w .session) e);
+        store-is = sym (ap (λ (w : Turned). w .store) e);
+        table-is = sym (ap (λ (w : Turned). w .table) e);
+        cells-are = sym (ap (λ (w : Turned). w .crosspoints) e);
+        answers-are = sym (ap (λ (w : Turned). w .answers) e);
+        words-are = sym (ap (λ (w : Turned). w .answer) e);
       }
 
 -- ---- a call that is not answered with 1 is a turn, and one that is leaves everything as it was
@@ -111,7 +111,7 @@ module _ (ws t c : List ℕ) (table : Rows) (fs path : List ℕ) (cells : Cells)
   abbrev d : Desk
   d = deskIn fs path cells
 
-  record Taken (x : Turn) : Type 0 where
+  record Taken (x : Turned) : Type 0 where
     pub fed : Fed
     pub after : After
     pub feeds-is : feeds (sessionAt ws) t c ≡ answers fed (x .store)
@@ -127,7 +127,7 @@ module _ (ws t c : List ℕ) (table : Rows) (fs path : List ℕ) (cells : Cells)
     abbrev y : Left
     y = laterAt d (r .event) t′ table
 
-    taken-told : Taken (told called y)
+    taken-told : Taken (turnOf called y)
     unfolding framed
     taken-told =
         record {
@@ -139,7 +139,7 @@ module _ (ws t c : List ℕ) (table : Rows) (fs path : List ℕ) (cells : Cells)
           tells = tells-told d c table r t′;
         }
 
-    taken-after : {x : Turn} → turnAfter called d table lent a ≡ x → (x .number ≡ 1 → ⊥) → Taken x
+    taken-after : {x : Turned} → turnAfter called d table lent a ≡ x → (x .number ≡ 1 → ⊥) → Taken x
     unfolding framed
     taken-after {x} g n = by (eqb (called .number) 1) refl g
       where
@@ -154,10 +154,10 @@ module _ (ws t c : List ℕ) (table : Rows) (fs path : List ℕ) (cells : Cells)
               answers = lent;
               answer = a;
             })
-            (told called (next (called .number) (take (getD (called .answer) 2 0) (called .store)) d table)) ≡ x
+            (turnOf called (next (called .number) (take (getD (called .answer) 2 0) (called .store)) d table)) ≡ x
             → Taken x
-        by true e k = absurd (n (sym (ap (λ (w : Turn). w .number) k) ∙ eqb-true _ _ e))
-        by false e k = subst Taken (ap (told called) (sym (next-later d t′ table (r .event))) ∙ k) taken-told
+        by true e k = absurd (n (sym (ap (λ (w : Turned). w .number) k) ∙ eqb-true _ _ e))
+        by false e k = subst Taken (ap (turnOf called) (sym (next-later d t′ table (r .event))) ∙ k) taken-told
 
   -- the session's call, which is not answered with 1 where words and lengths are right
   accepted-legal : accepts ws (length t) 3 ≡ true → Legal (sessionAt ws) t
@@ -173,32 +173,32 @@ module _ (ws t c : List ℕ) (table : Rows) (fs path : List ℕ) (cells : Cells)
   after-number w = go (eqb (w .said .number) 1)
     where
       go : (b : Bool) → pick b (turn (framed w) (left no-more lent table cells) a)
-          (told (framed w) (next (framed w .number) (take (getD (framed w .answer) 2 0) (framed w .store)) d table)) .number ≡ w .said .number
+          (turnOf (framed w) (next (framed w .number) (take (getD (framed w .answer) 2 0) (framed w .store)) d table)) .number ≡ w .said .number
       go true = refl
       go false = refl
 
   abbrev refusal : Called
   refusal = record { number = 1; session = ws; store = t; answer = 0 ∷ 0 ∷ 0 ∷ [] }
 
-  by-call : {x : Turn} → turned ws t c d table lent a ≡ x → ((x .number ≡ 1 → ⊥) → Taken x) × (x .number ≡ 1 → AsWas ws t c table fs path cells lent a x)
+  by-call : {x : Turned} → turned ws t c d table lent a ≡ x → ((x .number ≡ 1 → ⊥) → Taken x) × (x .number ≡ 1 → AsWas ws t c table fs path cells lent a x)
   unfolding turned calls
   by-call {x} g = by (accepts ws (length t) 3) refl g
     where
       by : (b : Bool) → accepts ws (length t) 3 ≡ b → turnAfter (pick b (framed (feeds (sessionAt ws) t c)) refusal) d table lent a ≡ x
           → ((x .number ≡ 1 → ⊥) → Taken x) × (x .number ≡ 1 → AsWas ws t c table fs path cells lent a x)
-      by false e k = (λ n. absurd (n (sym (ap (λ (w : Turn). w .number) k))), λ n. all-same ws t c table fs path cells lent a k)
+      by false e k = (λ n. absurd (n (sym (ap (λ (w : Turned). w .number) k))), λ n. all-same ws t c table fs path cells lent a k)
       by true e k =
           let s = some-call (sessionAt ws) t c in
           let h = s .1 .1 .1 in (
             λ n. taken-after (s .0) (s .1 .0) h (ap (λ (w : Whole). turnAfter (framed w) d table lent a) (sym h) ∙ k) n,
             λ n. absurd (eqb-false _ _ (legal-answered (sessionAt ws) t c (accepted-legal e))
-                (sym (after-number (feeds (sessionAt ws) t c)) ∙ ap (λ (w : Turn). w .number) k ∙ n)),
+                (sym (after-number (feeds (sessionAt ws) t c)) ∙ ap (λ (w : Turned). w .number) k ∙ n)),
           )
 
   abbrev fit : Bool
   fit = lengthsFit (length table) (sizeOf (figuresAt fs)) (length cells) (length path) (length a)
 
-  by-turn : (x : Turn) → turns ws t c table fs path cells lent a ≡ x
+  by-turn : (x : Turned) → turns ws t c table fs path cells lent a ≡ x
       → ((x .number ≡ 1 → ⊥) → Taken x) × (x .number ≡ 1 → AsWas ws t c table fs path cells lent a x)
   unfolding turns
   by-turn x g = by (both (isFigures fs) fit) g
@@ -207,11 +207,11 @@ module _ (ws t c : List ℕ) (table : Rows) (fs path : List ℕ) (cells : Cells)
           → pick b (turned ws t c d table lent a)
           (record { number = 1; session = ws; store = t; table = table; crosspoints = cells; answers = lent; answer = a }) ≡ x
           → ((x .number ≡ 1 → ⊥) → Taken x) × (x .number ≡ 1 → AsWas ws t c table fs path cells lent a x)
-      by false k = (λ n. absurd (n (sym (ap (λ (w : Turn). w .number) k))), λ n. all-same ws t c table fs path cells lent a k)
+      by false k = (λ n. absurd (n (sym (ap (λ (w : Turned). w .number) k))), λ n. all-same ws t c table fs path cells lent a k)
       by true k = by-call k
 
   -- "1 leaves everything as it was, 0 consumed"
-  pub turn-as-was : (x : Turn) → turns ws t c table fs path cells lent a ≡ x → x .number ≡ 1 → AsWas ws t c table fs path cells lent a x
+  pub turn-as-was : (x : Turned) → turns ws t c table fs path cells lent a ≡ x → x .number ≡ 1 → AsWas ws t c table fs path cells lent a x
   turn-as-was x g n = by-turn x g .1 n
 
 -- ---- every list of calls

@@ -7,21 +7,21 @@ use native.Mathlib.Omega.{arith}
 use borrow.Author.Tests.{eq-eqb, ne-eqb, le-leb, lt-leb, eqb-true}
 use lib.Dec.{leb, eqb}
 use lib.ListN.{length, getD, set, take}
-use Rattle.ber_integers.specs.Digits.{pick}
+use Rattle.base_choices.specs.Choices.{both}
 use Rattle.glow_rows.specs.Entry.{Rows}
 use Rattle.glow_reader.specs.declared.Answer as tree
 use Rattle.glow_reader.specs.declared.Answer.the-variants as trees
-use Rattle.glow_reader.specs.Message.{saidBy}
+use Rattle.glow_reader.specs.Message.{replyBy}
 use Rattle.framing_c.specs.Calls.{calls}
 use Rattle.desk_crosspoints.specs.declared.Figures.{Figures}
 use Rattle.desk_crosspoints.specs.declared.Limit.{Limit}
 use Rattle.desk_crosspoints.specs.declared.Limit.the-variants.{Absent, Most}
-use Rattle.desk_crosspoints.specs.Figures.{both, sizeOf}
+use Rattle.desk_crosspoints.specs.Figures.{sizeOf}
 use Rattle.desk_crosspoints.specs.Crosspoints.{Cells}
 use Rattle.desk_crosspoints.specs.Desk.{Desk, deskAt, deskLegal, Answer, answer, deskOpened}
 use Rattle.desk_requests.specs.Request.{request, requested}
 use Rattle.desk_calls.specs.declared.Called as asked
-use Rattle.desk_calls.specs.Calls.{Outcome, called, told as answered}
+use Rattle.desk_calls.specs.Calls.{Outcome, called, outcomeOf as answered}
 use Rattle.turns.specs.declared.After.{After}
 use Rattle.turns.specs.declared.After.the-variants as after
 use Rattle.turns.specs.Turns.{none}
@@ -29,15 +29,15 @@ use Rattle.turns.specs.Whole.{Left, left, unasked, readTo, laterOf, gave}
 use Rattle.framing_packets.specs.Written.{Outcome as Wrote}
 use Rattle.sheet_writer.specs.declared.Answer as written
 use Rattle.sheet_writer.specs.declared.Answer.the-variants as writtens
-use Rattle.sheet_writer.specs.Calls.{writesSheet, told as wroteAs}
+use Rattle.sheet_writer.specs.Calls.{writesSheet, outcomeOf as wroteAs}
 use Rattle.sheet_reader.specs.declared.Sheet.{Sheet}
 use Rattle.sheet_reader.specs.declared.Sheet.the-variants as sheets
 use Rattle.sheet_reader.specs.Calls as sheet
-use Rattle.sheet_reader.specs.Calls.{sheetRead, told as readAs}
+use Rattle.sheet_reader.specs.Calls.{sheetRead, outcomeOf as readAs}
 use Rattle.ember.specs.declared.after.Six.{Six}
 use Rattle.ember.specs.Words.{wordsOf, givenWord, limitWord, limitAt, figuresAt, isLimit, isFigures}
 use Rattle.ember.specs.Calls.{sizes, opens, legals, requests, DeskCall, deskCall, counted, deskCalls, lengthsFit, laterWords, treeWords, next}
-use Rattle.ember.specs.Calls.{Turn, turned, turns}
+use Rattle.ember.specs.Calls.{Turned, turned, turns}
 use Rattle.ember.specs.Calls.{SheetPut, sheetPut, measured, sheetWrites, SheetCall, sheetCall, given, sheetReads}
 use Rattle.ember.specs.Steps.{wordsIn, Words}
 
@@ -171,27 +171,27 @@ module _ (c : asked.Called) (lent a : List ℕ) (cells : Cells) where
 -- ---- what came after
 
 module _ {a : tree.Answer} {r : Six} where
-  pub tree-setup : a ≡ trees.Setup → r ≡ record { tree = 1; place = 0; count = 0; root = 0; desk = 0; answers = 0 } → treeWords (saidBy a) ≡ wordsIn r
+  pub tree-setup : a ≡ trees.Setup → r ≡ record { tree = 1; place = 0; count = 0; root = 0; desk = 0; answers = 0 } → treeWords (replyBy a) ≡ wordsIn r
   tree-setup e k = rw (e, k) refl
 
   module _ {x : ℕ} where
     pub tree-refused : {number place : ℕ} → a ≡ trees.Refused number place → x ≡ place
-        → r ≡ record { tree = number; place = x; count = 0; root = 0; desk = 0; answers = 0 } → treeWords (saidBy a) ≡ wordsIn r
+        → r ≡ record { tree = number; place = x; count = 0; root = 0; desk = 0; answers = 0 } → treeWords (replyBy a) ≡ wordsIn r
     tree-refused e p k = rw (e, k, p) refl
 
     pub tree-room : {count : ℕ} → a ≡ trees.Room count → x ≡ count
-        → r ≡ record { tree = 38; place = 0; count = x; root = 0; desk = 0; answers = 0 } → treeWords (saidBy a) ≡ wordsIn r
+        → r ≡ record { tree = 38; place = 0; count = x; root = 0; desk = 0; answers = 0 } → treeWords (replyBy a) ≡ wordsIn r
     tree-room e p k = rw (e, k, p) refl
 
     pub tree-read : {root count : ℕ} → a ≡ trees.Read root count → x ≡ count
-        → r ≡ record { tree = 0; place = 0; count = x; root = root; desk = 0; answers = 0 } → treeWords (saidBy a) ≡ wordsIn r
+        → r ≡ record { tree = 0; place = 0; count = x; root = root; desk = 0; answers = 0 } → treeWords (replyBy a) ≡ wordsIn r
     tree-read e p k = rw (e, k, p) refl
 
 module _ {x : After} {r : Six} where
   pub later-nothing : x ≡ after.Nothing → r ≡ record { tree = 0; place = 0; count = 0; root = 0; desk = 0; answers = 0 } → Words x r
   later-nothing e k answers table cells = rw (e, k) refl
 
-  pub later-refused : {a : tree.Answer} → x ≡ after.Refused a → treeWords (saidBy a) ≡ wordsIn r → Words x r
+  pub later-refused : {a : tree.Answer} → x ≡ after.Refused a → treeWords (replyBy a) ≡ wordsIn r → Words x r
   later-refused e k answers table cells = rw e k
 
   pub later-served : {root count number answered v w : ℕ} → x ≡ after.Served root count number answered → v ≡ count → w ≡ answered
@@ -290,7 +290,7 @@ module _ (ws t bytes : List ℕ) (table : Rows) (fs path cells lent a : List ℕ
     unfolding turns
     turns-lengths z = rw (sym i ∙ y, sym fit-is ∙ z) refl
 
-    pub turns-on : {x : Turn} → k ≡ true → turned ws t bytes (deskAt f path cells) table lent a ≡ x
+    pub turns-on : {x : Turned} → k ≡ true → turned ws t bytes (deskAt f path cells) table lent a ≡ x
         → turns ws t bytes table fs path cells lent a ≡ x
     unfolding turns
     turns-on g h = rw (sym i ∙ y, sym fit-is ∙ g, ← e) h

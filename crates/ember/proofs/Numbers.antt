@@ -7,13 +7,13 @@ use mathlib.Core.Bool.{Bool, true, false}
 use types.Run.{OneOf, hit}
 use lib.Dec.{eqb}
 use lib.ListN.{length, getD, take}
-use Rattle.ber_integers.specs.Digits.{pick}
-use Rattle.ber_containers.proofs.Heads.{pick-by}
+use Rattle.base_choices.specs.Choices.{pick, both}
+use Rattle.base_choices.proofs.Laws.{pick-by}
 use Rattle.glow_rows.specs.Entry.{Rows}
 use Rattle.framing_content.specs.Numbers.{feedNumbers}
 use Rattle.framing_c.specs.Calls.{Called, calls}
 use Rattle.framing_c.proofs.Calls.{feed-numbers}
-use Rattle.desk_crosspoints.specs.Figures.{both, sizeOf}
+use Rattle.desk_crosspoints.specs.Figures.{sizeOf}
 use Rattle.desk_crosspoints.specs.Crosspoints.{Cells}
 use Rattle.desk_crosspoints.specs.Desk.{Desk, Answer}
 use Rattle.desk_requests.specs.Request.{request}
@@ -27,7 +27,7 @@ use Rattle.sheet_writer.proofs.Numbers.{sheet-put-numbers}
 use Rattle.sheet_reader.specs.Calls.{sheetNumbers}
 use Rattle.sheet_reader.proofs.Numbered.{sheet-numbers}
 use Rattle.ember.specs.Words.{figuresAt, deskIn, isFigures}
-use Rattle.ember.specs.Calls.{opens, requests, DeskCall, deskCall, counted, deskCalls, lengthsFit, next, Turn, turn, told, turnAfter, turned, turns}
+use Rattle.ember.specs.Calls.{opens, requests, DeskCall, deskCall, counted, deskCalls, lengthsFit, next, Turned, turn, turnOf, turnAfter, turned, turns}
 use Rattle.ember.specs.Calls.{SheetPut, measured, sheetWrites, SheetCall, given, sheetReads}
 
 -- `ember_desk_open`: 0, 1, 45
@@ -63,7 +63,7 @@ after-number : (r : Called) (d : Desk) (table : Rows) (lent a : List ℕ) → tu
 after-number r d table lent a = go (eqb (r .number) 1)
   where
     go : (b : Bool)
-        → pick b (turn r (left none lent table (d .crosspoints)) a) (told r (next (r .number) (take (getD (r .answer) 2 0) (r .store)) d table)) .number
+        → pick b (turn r (left none lent table (d .crosspoints)) a) (turnOf r (next (r .number) (take (getD (r .answer) 2 0) (r .store)) d table)) .number
         ≡ r .number
     go true = refl
     go false = refl
@@ -72,7 +72,7 @@ pub turn-numbers : (ws t c : List ℕ) (table : Rows) (fs path : List ℕ) (cell
     → OneOf feedNumbers (turns ws t c table fs path cells lent a .number)
 unfolding turns turned
 turn-numbers ws t c table fs path cells lent a =
-    pick-by (λ (x : Turn). OneOf feedNumbers (x .number))
+    pick-by (λ (x : Turned). OneOf feedNumbers (x .number))
     (both (isFigures fs) (lengthsFit (length table) (sizeOf (figuresAt fs)) (length cells) (length path) (length a)))
     (λ e.
     subst (OneOf feedNumbers) (sym (after-number (calls ws t c (0 ∷ 0 ∷ 0 ∷ [])) (deskIn fs path cells) table lent a))

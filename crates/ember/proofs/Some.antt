@@ -20,13 +20,13 @@ use Rattle.framing.proofs.Chunks.{call-ran, fresh-legal}
 use Rattle.framing.proofs.Calls as framing
 use Rattle.framing_words.specs.Words.{wordsOf, sessionAt}
 use Rattle.framing_answers.specs.Answers.{accepts}
-use Rattle.framing_c.specs.Calls.{told as framed, calls}
+use Rattle.framing_c.specs.Calls.{calledOf as framed, calls}
 use Rattle.framing_words.proofs.Laws.{words-back, words-session}
 use Rattle.glow_rows.specs.Entry.{Rows}
-use Rattle.desk_crosspoints.specs.Figures.{both, sizeOf}
+use Rattle.base_choices.proofs.Laws.{both-left}
+use Rattle.desk_crosspoints.specs.Figures.{sizeOf}
 use Rattle.desk_crosspoints.specs.Crosspoints.{Cells}
 use Rattle.desk_crosspoints.specs.Desk.{Desk, allNumbers, pathFits, deskLegal}
-use Rattle.desk_crosspoints.proofs.Laws.{both-left}
 use Rattle.desk_crosspoints.proofs.Legal.{legal-fit, legal-length}
 use Rattle.desk_crosspoints.proofs.Paths.{path-short, desk-fits, desk-legal}
 use Rattle.turns.specs.Rules.{keep, tells, after}
@@ -36,7 +36,7 @@ use Rattle.turns.proofs.Follows.{comes-legal}
 use Rattle.turns.proofs.Comes.{comes-at, said-at, function-turn}
 use Rattle.turns.proofs.Claim.{claim as rules-claim}
 use Rattle.ember.specs.Words.{figuresAt, deskIn, isFigures}
-use Rattle.ember.specs.Calls.{lengthsFit, Turn, told, turnAfter, turned, turns}
+use Rattle.ember.specs.Calls.{lengthsFit, Turned, turnOf, turnAfter, turned, turns}
 use Rattle.ember.specs.Rounds.{Round, Rounds, none, round, AllTell, more}
 use Rattle.ember.specs.Rounds as rounds
 use Rattle.ember.proofs.Claim.{next-later, comes, comes-after, tells-told}
@@ -75,12 +75,12 @@ module _ (s : Session) (t c : List ℕ) (table : Rows) (fs path : List ℕ) (cel
   not-one : eqb (saidBy (r .event) t′ .number) 1 ≡ false
   not-one = subst (λ (w : Whole). eqb (w .said .number) 1 ≡ false) e (legal-answered s t c l)
 
-  after-is : turnAfter (framed (answers r t′)) d table lent a ≡ told (framed (answers r t′)) (comes d c table r t′)
+  after-is : turnAfter (framed (answers r t′)) d table lent a ≡ turnOf (framed (answers r t′)) (comes d c table r t′)
   unfolding framed
   after-is = rw (not-one, next-later d t′ table (r .event)) refl
 
   made-told : isFigures fs ≡ true → lengthsFit (length table) (sizeOf (figuresAt fs)) (length cells) (length path) (length a) ≡ true
-      → turns (wordsOf s) t c table fs path cells lent a ≡ told (framed (answers r t′)) (comes d c table r t′)
+      → turns (wordsOf s) t c table fs path cells lent a ≡ turnOf (framed (answers r t′)) (comes d c table r t′)
   unfolding turns turned
   made-told g h = rw (g, h, calls-are) after-is
 
@@ -117,7 +117,7 @@ module _ (rows : ℕ) (most : rows ≤ 256) (tables : ℕ → Rows) (sized : (i 
       let d = desk cells in
       let y = comes d c (tables i) r t′ in
       let z = comes-after d c (tables i) r t′ in
-      let x = told (framed (answers r t′)) y in
+      let x = turnOf (framed (answers r t′)) y in
       let q = made-told s t c (tables i) fs path cells (lents i) (words i) r t′ l e figures (lengths i cells g) in
       let n = not-one s t c (tables i) fs path cells (lents i) (words i) r t′ l e in
       let legal′ = comes-legal (comes-at rows d t′ (tables i) (sized i) (r .event)) g in

@@ -9,29 +9,27 @@ use borrow.Author.Tests.{eqb-true, eqb-false, leb-true}
 use types.Run.{OneOf, hit}
 use lib.Dec.{leb, eqb}
 use lib.ListN.{length, getD, take, length-take}
-use Rattle.ber_integers.specs.Digits.{pick}
-use Rattle.ber_containers.proofs.Heads.{pick-by}
+use Rattle.base_choices.specs.Choices.{pick, both}
+use Rattle.base_choices.proofs.Laws.{pick-by, both-left, both-right}
 use Rattle.framing_session.specs.declared.Session.{Session}
 use Rattle.framing_content.specs.Numbers.{storeLength, messageLimit}
 use Rattle.framing_session.specs.Rules.{State, Step, step}
 use Rattle.framing_session.specs.Session.{stateOf, Legal, legal, Whole, run, feeds, kept}
-use Rattle.framing_session.proofs.Laws as framing-laws
 use Rattle.framing_session.proofs.Laws.{Bounded, within-step, bounded-next, bounded-state, true-legal, legal-true}
 use Rattle.sheet_stream.proofs.Ways.{said-short}
 use Rattle.framing_words.specs.Words.{sessionAt, isSession}
 use Rattle.framing_answers.specs.Answers.{accepts}
-use Rattle.framing_c.specs.Calls.{Called, told as framed, calls}
+use Rattle.framing_c.specs.Calls.{Called, calledOf as framed, calls}
 use Rattle.glow_rows.specs.Entry.{Rows}
-use Rattle.desk_crosspoints.specs.Figures.{both, sizeOf}
+use Rattle.desk_crosspoints.specs.Figures.{sizeOf}
 use Rattle.desk_crosspoints.specs.Crosspoints.{Cells}
-use Rattle.desk_crosspoints.proofs.Laws.{both-left, both-right}
 use Rattle.desk_crosspoints.specs.Desk.{Desk, deskLegal}
 use Rattle.desk_calls.specs.Numbers.{callNumbers, answerNumbers, AllOneOf}
 use Rattle.turns.specs.Turns.{Later, none, read, desk}
 use Rattle.turns.specs.Whole.{Left, left, unasked, readTo}
 use Rattle.turns.proofs.Numbers.{treeNumbers, treeNumber, deskNumber, all-clear, later-tree, later-desk, later-answers}
 use Rattle.ember.specs.Words.{figuresAt, deskIn, isFigures}
-use Rattle.ember.specs.Calls.{legals, lengthsFit, laterWords, next, Turn, turn, told, turnAfter, turned, turns}
+use Rattle.ember.specs.Calls.{legals, lengthsFit, laterWords, next, Turned, turn, turnOf, turnAfter, turned, turns}
 
 -- `ember_desk_is_legal`: no, or yes
 abbrev pub legalNumbers : List ℕ
@@ -49,7 +47,7 @@ unfolding run
 run-short [] s t i h = λ e. omega arith
 run-short (b ∷ bs) s t i h =
     let o = step s b in
-    framing-laws.pick-by (λ (x : Whole). x .said .number ≡ 3 → length (x .said .message) ≤ messageLimit) (eqb (o .said .number) 0)
+    pick-by (λ (x : Whole). x .said .number ≡ 3 → length (x .said .message) ≤ messageLimit) (eqb (o .said .number) 0)
     (λ e. run-short bs (o .next) (kept o t) (i + 1) (bounded-next o (within-step s b h))) (λ e q. said-short s b h q)
 
 pub feed-short : (s : Session) (t c : List ℕ) → Legal s t → feeds s t c .said .number ≡ 3 → length (feeds s t c .said .message) ≤ messageLimit
@@ -59,13 +57,13 @@ feed-short s t c l = rw (true-legal s t l) (run-short c (stateOf s t) t 0 (bound
 -- ---- the words
 
 -- what a turn's call leaves: six words after three, and the answers
-pub record Words (x : Turn) : Type 0 where
+pub record Words (x : Turned) : Type 0 where
   pub tree : OneOf treeNumbers (getD (x .answer) 3 0)
   pub desk : OneOf callNumbers (getD (x .answer) 7 0)
   pub answers : AllOneOf answerNumbers (x .answers)
 
 later-words : (w : Whole) (y : Left) → OneOf treeNumbers (treeNumber (y .later)) → OneOf callNumbers (deskNumber (y .later))
-    → AllOneOf answerNumbers (y .answers) → Words (told (framed w) y)
+    → AllOneOf answerNumbers (y .answers) → Words (turnOf (framed w) y)
 unfolding framed
 later-words w y a b c = record { tree = three (y .later) a; desk = seven (y .later) b; answers = c }
   where
@@ -80,7 +78,7 @@ later-words w y a b c = record { tree = three (y .later) a; desk = seven (y .lat
     seven (desk root count table o) h = h
 
 module _ (w : Whole) (short : w .said .number ≡ 3 → length (w .said .message) ≤ messageLimit) (d : Desk) (table : Rows) (rows : length table ≤ 256) where
-  next-words : Words (told (framed w) (next (w .said .number) (take (length (w .said .message)) (w .store)) d table))
+  next-words : Words (turnOf (framed w) (next (w .said .number) (take (length (w .said .message)) (w .store)) d table))
   unfolding next
   next-words = go (eqb (w .said .number) 3) refl
     where
@@ -88,7 +86,7 @@ module _ (w : Whole) (short : w .said .number ≡ 3 → length (w .said .message
       m = take (length (w .said .message)) (w .store)
 
       go : (u : Bool) → eqb (w .said .number) 3 ≡ u
-          → Words (told (framed w) (pick u (readTo d m table) (unasked none table (d .crosspoints))))
+          → Words (turnOf (framed w) (pick u (readTo d m table) (unasked none table (d .crosspoints))))
       go true e =
           let s = short (eqb-true _ 3 e) in
           let l = length-take (length (w .said .message)) (w .store) in
@@ -107,9 +105,9 @@ module _ (ws t c : List ℕ) (table : Rows) (fs path : List ℕ) (cells : Cells)
     where
       go : (u : Bool) → eqb (w .said .number) 1 ≡ u
           → (pick u (turn (framed w) (left none lent table cells) a)
-          (told (framed w) (next (w .said .number) (take (length (w .said .message)) (w .store)) d table)) .number ≡ 1 → ⊥)
+          (turnOf (framed w) (next (w .said .number) (take (length (w .said .message)) (w .store)) d table)) .number ≡ 1 → ⊥)
           → Words (pick u (turn (framed w) (left none lent table cells) a)
-          (told (framed w) (next (w .said .number) (take (length (w .said .message)) (w .store)) d table)))
+          (turnOf (framed w) (next (w .said .number) (take (length (w .said .message)) (w .store)) d table)))
       go true e k = absurd (k (eqb-true _ 1 e))
       go false e k = next-words w short d table rows
 

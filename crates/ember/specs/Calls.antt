@@ -6,11 +6,11 @@ use mathlib.Core.Path.{_≡_}
 use mathlib.Core.List.{List, [], _∷_, _++_}
 use lib.Dec.{leb, eqb}
 use lib.ListN.{length, getD, take}
-use Rattle.ber_integers.specs.Digits.{pick}
+use Rattle.base_choices.specs.Choices.{pick, both}
 use Rattle.glow_rows.specs.Entry.{Rows}
-use Rattle.glow_reader.specs.Message.{saidBy, Said}
+use Rattle.glow_reader.specs.Message.{replyBy, Reply}
 use Rattle.framing_c.specs.Calls.{Called, calls}
-use Rattle.desk_crosspoints.specs.Figures.{both, sizeOf}
+use Rattle.desk_crosspoints.specs.Figures.{sizeOf}
 use Rattle.desk_crosspoints.specs.Crosspoints.{Cells}
 use Rattle.desk_crosspoints.specs.Desk.{Desk, deskLegal, Answer, answer, deskOpened}
 use Rattle.desk_requests.specs.Request.{request, requested}
@@ -75,7 +75,7 @@ lengthsFit rows size cells path words =
     (both (leb 1 path) (leb path 16))))
 
 -- What came after the session's call, in six words: the tree's number, its place, its count and Root's kind, the desk's number, and its count of answers.
-abbrev pub treeWords : Said → List ℕ
+abbrev pub treeWords : Reply → List ℕ
 treeWords e = e .number ∷ e .place ∷ e .count ∷ e .root ∷ 0 ∷ 0 ∷ []
 
 abbrev pub deskWords : ℕ → ℕ → Outcome → List ℕ
@@ -83,7 +83,7 @@ deskWords root count o = 0 ∷ 0 ∷ count ∷ root ∷ o .number ∷ o .count �
 
 abbrev pub laterWords : Later → List ℕ
 laterWords none = 0 ∷ 0 ∷ 0 ∷ 0 ∷ 0 ∷ 0 ∷ []
-laterWords (read a table) = treeWords (saidBy a)
+laterWords (read a table) = treeWords (replyBy a)
 laterWords (desk root count table o) = deskWords root count o
 
 -- "Only a finished message goes on to the tree reader": the store's first bytes
@@ -91,7 +91,7 @@ unfoldable pub next : ℕ → List ℕ → Desk → Rows → Left
 next number m d table = pick (eqb number 3) (readTo d m table) (unasked none table (d .crosspoints))
 
 -- A turn: the number and all that is lent, after it. The 256 bytes for answers hold those of this turn in order, then zeros.
-pub record Turn : Type 0 where
+pub record Turned : Type 0 where
   pub number : ℕ
   pub session : List ℕ
   pub store : List ℕ
@@ -100,7 +100,7 @@ pub record Turn : Type 0 where
   pub answers : List ℕ
   pub answer : List ℕ
 
-abbrev pub turn : Called → Left → List ℕ → Turn
+abbrev pub turn : Called → Left → List ℕ → Turned
 turn c x words =
     record {
       number = c .number;
@@ -113,19 +113,19 @@ turn c x words =
     }
 
 -- what the session's call tells, in three words, and then the six
-abbrev pub told : Called → Left → Turn
-told c x = turn c x (c .answer ++ laterWords (x .later))
+abbrev pub turnOf : Called → Left → Turned
+turnOf c x = turn c x (c .answer ++ laterWords (x .later))
 
 -- after the session's call: "1 leaves everything as it was"
-abbrev pub turnAfter : Called → Desk → Rows → List ℕ → List ℕ → Turn
+abbrev pub turnAfter : Called → Desk → Rows → List ℕ → List ℕ → Turned
 turnAfter c d table lent a =
     pick (eqb (c .number) 1) (turn c (left none lent table (d .crosspoints)) a)
-    (told c (next (c .number) (take (getD (c .answer) 2 0) (c .store)) d table))
+    (turnOf c (next (c .number) (take (getD (c .answer) 2 0) (c .store)) d table))
 
-unfoldable pub turned : List ℕ → List ℕ → List ℕ → Desk → Rows → List ℕ → List ℕ → Turn
+unfoldable pub turned : List ℕ → List ℕ → List ℕ → Desk → Rows → List ℕ → List ℕ → Turned
 turned ws t bytes d table lent a = turnAfter (calls ws t bytes (0 ∷ 0 ∷ 0 ∷ [])) d table lent a
 
-unfoldable pub turns : List ℕ → List ℕ → List ℕ → Rows → List ℕ → List ℕ → Cells → List ℕ → List ℕ → Turn
+unfoldable pub turns : List ℕ → List ℕ → List ℕ → Rows → List ℕ → List ℕ → Cells → List ℕ → List ℕ → Turned
 turns ws t bytes table fs path cells lent a =
     pick (both (isFigures fs) (lengthsFit (length table) (sizeOf (figuresAt fs)) (length cells) (length path) (length a)))
     (turned ws t bytes (deskIn fs path cells) table lent a)

@@ -13,12 +13,12 @@ use Rattle.turns.specs.declared.After.{After}
 use Rattle.turns.specs.Turns as claim
 use Rattle.turns.specs.Whole.{laterOf}
 use Rattle.ember.specs.Words.{deskIn}
-use Rattle.ember.specs.Calls.{laterWords, Turn, turns}
+use Rattle.ember.specs.Calls.{laterWords, Turned, turns}
 
 -- A call: what was offered, and what it answered and left.
 pub record Round : Type 0 where
   pub offered : List ℕ
-  pub left : Turn
+  pub left : Turned
 
 -- A list of calls on one desk: each takes the session's words, the store and the crosspoints that the call before it left, and is offered bytes from the first
 -- not yet consumed. The table's content, the answers lent and the answer's words may be any at each.
@@ -26,12 +26,12 @@ pub record Round : Type 0 where
 -- figures and path. It consumed nothing: the bytes that it was offered come again.
 pub data Rounds (rows : ℕ) (fs path : List ℕ) : List ℕ → List ℕ → Cells → List ℕ → List Round → List ℕ → List ℕ → Cells → List ℕ → Type 0 where
   none : {ws t : List ℕ} {cells : Cells} {rest : List ℕ} → Rounds rows fs path ws t cells rest [] ws t cells rest
-  round : {ws ws″ t t″ : List ℕ} {cells cells″ : Cells} {rest″ : List ℕ} {xs : List Round} (c later : List ℕ) (table : Rows) (lent a : List ℕ) (x : Turn)
+  round : {ws ws″ t t″ : List ℕ} {cells cells″ : Cells} {rest″ : List ℕ} {xs : List Round} (c later : List ℕ) (table : Rows) (lent a : List ℕ) (x : Turned)
       → turns ws t c table fs path cells lent a ≡ x → (x .number ≡ 1 → ⊥) → length table ≡ rows
       → Rounds rows fs path (x .session) (x .store) (x .crosspoints) (drop (getD (x .answer) 1 0) (c ++ later)) xs ws″ t″ cells″ rest″
       → Rounds rows fs path ws t cells (c ++ later) (record { offered = c; left = x } ∷ xs) ws″ t″ cells″ rest″
   refused : {ws ws″ t t″ : List ℕ} {cells cells″ : Cells} {rest″ : List ℕ} {xs : List Round} (i j k : ℕ) (c later : List ℕ) (table : Rows)
-      (figures numbers lent a : List ℕ) (x : Turn) → turns (take i ws) (take j t) c table figures numbers (take k cells) lent a ≡ x → x .number ≡ 1
+      (figures numbers lent a : List ℕ) (x : Turned) → turns (take i ws) (take j t) c table figures numbers (take k cells) lent a ≡ x → x .number ≡ 1
       → Rounds rows fs path (x .session ++ drop i ws) (x .store ++ drop j t) (x .crosspoints ++ drop k cells) (c ++ later) xs ws″ t″ cells″ rest″
       → Rounds rows fs path ws t cells (c ++ later) (record { offered = c; left = x } ∷ xs) ws″ t″ cells″ rest″
 

@@ -2,7 +2,7 @@
 use glow_reader::Answer;
 use turns::After;
 ghost use mathlib.Core.Path.{_≡_};
-ghost use Rattle.glow_reader.specs.Message.{saidBy};
+ghost use Rattle.glow_reader.specs.Message.{replyBy};
 ghost use Rattle.ember.specs.Calls.{treeWords};
 ghost use Rattle.ember.specs.Steps.{wordsIn, Words};
 
@@ -30,13 +30,13 @@ fn make(tree: u64, place: u64, count: u64, root: u64, desk: u64, answers: u64) -
 
 // The tree reader's answer.
 fn refused(a: Answer) -> Six
-    ensures { λ r. ⌜ treeWords (saidBy a) ≡ wordsIn r ⌝ }
+    ensures { λ r. ⌜ treeWords (replyBy a) ≡ wordsIn r ⌝ }
 {
     match a {
         Answer::Setup => make(1, 0, 0, 0, 0, 0),
-        Answer::Refused { number, place } => make(number, framing_words::word(place), 0, 0, 0, 0),
-        Answer::Room { count } => make(38, 0, framing_words::word(count), 0, 0, 0),
-        Answer::Read { root, count } => make(0, 0, framing_words::word(count), root, 0, 0),
+        Answer::Refused { number, place } => make(number, base_casts::word(place), 0, 0, 0, 0),
+        Answer::Room { count } => make(38, 0, base_casts::word(count), 0, 0, 0),
+        Answer::Read { root, count } => make(0, 0, base_casts::word(count), root, 0, 0),
     }
 }
 
@@ -54,10 +54,10 @@ pub(crate) fn later(x: After) -> Six
         } => make(
             0,
             0,
-            framing_words::word(count),
+            base_casts::word(count),
             root,
             number,
-            framing_words::word(answered),
+            base_casts::word(answered),
         ),
     }
 }

@@ -17,7 +17,7 @@ ghost use Rattle.framing_c.specs.Calls.{starts, calls, puts};
 ghost use Rattle.glow_c.specs.Calls.{call, calls as readCalls, writing, writeCalls, acceptCalls};
 ghost use Rattle.desk_crosspoints.specs.Crosspoints.{Cells};
 ghost use Rattle.desk_crosspoints.specs.Desk.{deskAt, answer as answered};
-ghost use Rattle.desk_calls.specs.Calls.{told};
+ghost use Rattle.desk_calls.specs.Calls.{outcomeOf};
 ghost use Rattle.turns.specs.Whole.{gave};
 ghost use Rattle.ember.specs.Calls.{sizes, opens, legals, requests, counted, deskCall, deskCalls, lengthsFit, next, turned, turns};
 ghost use Rattle.ember.specs.Calls.{sheetPut, sheetWrites, sheetCall, sheetReads};
@@ -125,7 +125,7 @@ pub extern "C" fn ember_desk_size(figures: &[u64]) -> u64
     ensures { λ r. ⌜ sizes (now (figures .entry)) ≡ r ⌝ }
 {
     if words::is_figures(figures) {
-        return framing_words::word(desk_crosspoints::size(words::figures_at(figures)));
+        return base_casts::word(desk_crosspoints::size(words::figures_at(figures)));
     }
     0
 }
@@ -187,7 +187,7 @@ pub extern "C" fn ember_desk_request(
 // What the desk's call answered: 0, the answers and how many there are; or 1.
 fn put_answers(called: Called, answers: &mut [u8; 256], answer: &mut [u64]) -> u64
     requires { ⌜ length (now answer) ≡ 1 ⌝ }
-    ensures { λ r. ⌜ ((cells : Cells) → counted (told called cells) (now (answers .entry)) (now (answer .entry))
+    ensures { λ r. ⌜ ((cells : Cells) → counted (outcomeOf called cells) (now (answers .entry)) (now (answer .entry))
         ≡ deskCall r (now (answers .exit)) cells (now (answer .exit))) ⌝ }
 {
     if called.number != 0 {
@@ -195,7 +195,7 @@ fn put_answers(called: Called, answers: &mut [u8; 256], answer: &mut [u64]) -> u
     }
     let given = called.answers;
     *answers = given;
-    answer[0] = framing_words::word(called.count);
+    answer[0] = base_casts::word(called.count);
     0
 }
 

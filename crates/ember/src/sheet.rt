@@ -6,8 +6,8 @@ ghost use mathlib.Core.List.{List};
 ghost use Prim.Native.Nat.{ℕ};
 ghost use lib.ListN.{length};
 ghost use Rattle.desk_crosspoints.specs.Crosspoints.{Cells};
-ghost use Rattle.sheet_writer.specs.Calls.{told as wroteAs};
-ghost use Rattle.sheet_reader.specs.Calls.{told as readAs};
+ghost use Rattle.sheet_writer.specs.Calls.{outcomeOf as wroteAs};
+ghost use Rattle.sheet_reader.specs.Calls.{outcomeOf as readAs};
 ghost use Rattle.ember.specs.Calls.{measured, sheetPut, given, sheetCall};
 
 // 0 and how many bytes the sheet has, 46, or 1.
@@ -22,7 +22,7 @@ pub(crate) fn wrote(a: Answer, answer: &mut [u64]) -> u64
             46
         }
         Answer::Done { length } => {
-            answer[0] = framing_words::word(length);
+            answer[0] = base_casts::word(length);
             0
         }
     }
@@ -43,7 +43,7 @@ pub(crate) fn read(x: Sheet, figures: &mut [u64], answer: &mut [u64]) -> u64
         }
         Sheet::Read { figures: f, length } => {
             crate::words::put_figures(figures, f);
-            answer[0] = framing_words::word(length);
+            answer[0] = base_casts::word(length);
             0
         }
     }

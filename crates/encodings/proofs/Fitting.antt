@@ -12,7 +12,8 @@ use lib.IntN.{pos, negsuc}
 use lib.Ieee as Ieee
 use lib.Ieee.{Float, binary64}
 use lib.Ieee.Bits.{ofBits-toBits, toBits-lt, nanBits-is}
-use Rattle.ber_integers.specs.Digits.{pick}
+use Rattle.base_choices.specs.Choices.{pick}
+use Rattle.base_choices.proofs.Laws.{both-left, both-right}
 use Rattle.ber_integers.specs.Integer.{signed}
 use Rattle.ber_integers.proofs.Radix.{Below, lt-or-le}
 use Rattle.ber_integers.proofs.RoundTrip.{read-fits}
@@ -25,7 +26,7 @@ use Rattle.ber_identifiers.specs.Identifier.{Arcs, bad, over, numbers, arcs}
 use Rattle.glow_grammar.specs.Leaf.{expects, least, most, inRange, isName, isPath}
 use Rattle.glow_trees.specs.Content.{Content, nothing, word, bytes, wrong, isWord, isPart, intOf}
 use Rattle.glow_trees.specs.Legal.{isFormed, isReal, wordSuits, pathSuits, listSuits, partSuits, suits, lengthOf, pathOf}
-use Rattle.trees_read_back.proofs.Bools.{never, both-left, both-right, unless, part-kinds, word-kinds}
+use Rattle.trees_read_back.proofs.Bools.{never, unless, part-kinds, word-kinds}
 use Rattle.trees_accepted.proofs.Leaves.{word-low, form-no-nan}
 use Rattle.encodings.specs.Says.{Says, untrue, truth, integer, octets, real, text, identifier, Numbers}
 use Rattle.encodings.specs.Encodes.{Fits, a-name, a-text, a-flag, any-word, any-text, any-octets, a-number, a-path, sources, in-range}

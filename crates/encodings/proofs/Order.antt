@@ -13,7 +13,8 @@ use Rattle.glow_steps.specs.Members.{column}
 use Rattle.glow_trees.specs.Content.{Content, nothing}
 use Rattle.glow_trees.specs.Trees.{Trees}
 use Rattle.glow_trees.specs.Legal.{present, complete}
-use Rattle.trees_accepted.proofs.Bools.{never, both-left, both-right}
+use Rattle.base_choices.proofs.Laws.{both-left, both-right}
+use Rattle.trees_accepted.proofs.Bools.{never}
 use Rattle.trees_accepted.proofs.Tables.{Kind, body-at, required-at, required-some, is-set, inner-rule}
 use Rattle.trees_accepted.proofs.Parts.{seq-column}
 use Rattle.trees_accepted.proofs.Lists.{get-set, get-other, complete-by, nothings, nothings-get}

@@ -15,16 +15,16 @@ use borrow.Fn.World as World
 use borrow.Fn.Kinds as K
 use lib.ListN.{length}
 use lib.Dec.{ltb}
-use Rattle.ber_integers.specs.Digits.{pick}
+use Rattle.base_choices.specs.Choices.{pick}
+use Rattle.base_choices.proofs.Laws.{pick-by}
 use Rattle.ber_integers.proofs.Radix.{Below, lt-or-le}
 use Rattle.ber_containers.specs.declared.Onto.{Onto}
 use Rattle.ber_containers.specs.declared.Onto.the-variants.{Next, Refused as Stopped}
-use Rattle.ber_containers.proofs.Heads.{pick-by}
 use Rattle.glow_rows.specs.Entry.{Entries, Rows, overlay}
 use Rattle.glow_walk.specs.Walk.{walk}
 use Rattle.glow_reader.specs.declared.Answer.{Answer}
 use Rattle.glow_reader.specs.declared.Answer.the-variants.{Room, Read}
-use Rattle.glow_reader.specs.Message.{Said, saidBy, refusals, Result, result, setup, readOf, readAt}
+use Rattle.glow_reader.specs.Message.{Reply, replyBy, refusals, Result, result, setup, readOf, readAt}
 use Rattle.glow_reader.proofs.Answers.{past-untouched, refusal-numbers}
 use Rattle.glow_reader.proofs.read
 use Rattle.glow_reader.proofs.read.Kinds as read-kinds
@@ -56,7 +56,7 @@ module _ (s : List ℕ) (below : Below 256 s) (few : length s ≤ 16384) (rows :
       let n : length es ≡ count t = flat-count s es t got in
       let fit : length es ≤ length rows = omega arith in
       record {
-        says = ap (λ (y : Result). saidBy (y .answer)) q;
+        says = ap (λ (y : Result). replyBy (y .answer)) q;
         stands = items-stood (e .says);
         holds = ap (λ (y : Result). itemsIn s (y .rows) (count t)) q ∙ ap (itemsIn s (overlay es rows)) (sym n)
             ∙ rows-items s es rows (tree-sixteen s es root t (encoded-legal s below few root t e) got) fit ∙ got;
@@ -69,7 +69,7 @@ module _ (s : List ℕ) (below : Below 256 s) (few : length s ≤ 16384) (rows :
       let r = encoding-answered s below few rows most root t e in
       let q : x ≡ result (Room (count t)) rows =
       r .1 .0 ∙ ap (λ (b : Bool). pick b (result (Room (count t)) rows) (result (Read root (count t)) (overlay (r .0) rows))) (lt-ltb _ _ l) in
-      record { says = ap (λ (y : Result). saidBy (y .answer)) q; same = ap (λ (y : Result). y .rows) q }
+      record { says = ap (λ (y : Result). replyBy (y .answer)) q; same = ap (λ (y : Result). y .rows) q }
 
   -- a message is one of these, or refused
   by-cases : (P : Type 0) → ((root : ℕ) (t : Trees) → Encodes s root t → count t ≤ length rows → P)
@@ -84,31 +84,31 @@ module _ (s : List ℕ) (below : Below 256 s) (few : length s ≤ 16384) (rows :
           (lt-or-le (length rows) (count (r .0)))
       by (Stopped e) q =
           let r = refused-by s below few rows most e q in
-          let n : saidBy (x .answer) .number ≡ e .0 = ap (λ (y : Result). saidBy (y .answer) .number) r in
+          let n : replyBy (x .answer) .number ≡ e .0 = ap (λ (y : Result). replyBy (y .answer) .number) r in
           let f = refusal-numbers s rows (ap (λ (y : Result). y .answer) r) in
           refused (record { number = subst (OneOf refusals) (sym n) f; same = ap (λ (y : Result). y .rows) r })
 
   read-encodes : (root : ℕ) (t : Trees) → ReadAs s rows root t (x .answer) (x .rows) → Encodes s root t × (count t ≤ length rows)
   read-encodes root t r =
-      let zero : saidBy (x .answer) .number ≡ 0 = ap (λ (y : Said). y .number) (r .says) in
+      let zero : replyBy (x .answer) .number ≡ 0 = ap (λ (y : Reply). y .number) (r .says) in
       by-cases (Encodes s root t × (count t ≤ length rows))
       (λ root′ t′ e l.
       let r′ = reads-it root′ t′ e l in
-      let w : root′ ≡ root = sym (ap (λ (y : Said). y .root) (r′ .says)) ∙ ap (λ (y : Said). y .root) (r .says) in
-      let c : count t′ ≡ count t = sym (ap (λ (y : Said). y .count) (r′ .says)) ∙ ap (λ (y : Said). y .count) (r .says) in
+      let w : root′ ≡ root = sym (ap (λ (y : Reply). y .root) (r′ .says)) ∙ ap (λ (y : Reply). y .root) (r .says) in
+      let c : count t′ ≡ count t = sym (ap (λ (y : Reply). y .count) (r′ .says)) ∙ ap (λ (y : Reply). y .count) (r .says) in
       let f : flat 0 0 t′ ≡ flat 0 0 t = sym (r′ .holds) ∙ ap (itemsIn s (x .rows)) c ∙ r .holds in
       let q : t′ ≡ t = stood-once root t′ t (subst (λ (i : ℕ). Stood i t′) w (r′ .stands)) (r .stands) f in
       (subst (Encodes s root) q (subst (λ (i : ℕ). Encodes s i t′) w e), omega arith))
-      (λ root′ t′ e l. let y : saidBy (x .answer) .number ≡ 38 = ap (λ (y : Said). y .number) (lacks-it root′ t′ e l .says) in absurd (omega arith))
+      (λ root′ t′ e l. let y : replyBy (x .answer) .number ≡ 38 = ap (λ (y : Reply). y .number) (lacks-it root′ t′ e l .says) in absurd (omega arith))
       (λ n. absurd (miss refusals 0 tt (subst (OneOf refusals) zero (n .number))))
 
   room-encodes : (n : ℕ) → LacksRoom rows n (x .answer) (x .rows) → (root : ℕ) × ((t : Trees) × (Encodes s root t × ((count t ≡ n) × (length rows < n))))
   room-encodes n r =
-      let room : saidBy (x .answer) .number ≡ 38 = ap (λ (y : Said). y .number) (r .says) in
+      let room : replyBy (x .answer) .number ≡ 38 = ap (λ (y : Reply). y .number) (r .says) in
       by-cases ((root : ℕ) × ((t : Trees) × (Encodes s root t × ((count t ≡ n) × (length rows < n)))))
-      (λ root t e l. let y : saidBy (x .answer) .number ≡ 0 = ap (λ (y : Said). y .number) (reads-it root t e l .says) in absurd (omega arith))
+      (λ root t e l. let y : replyBy (x .answer) .number ≡ 0 = ap (λ (y : Reply). y .number) (reads-it root t e l .says) in absurd (omega arith))
       (λ root t e l.
-      let q : count t ≡ n = sym (ap (λ (y : Said). y .count) (lacks-it root t e l .says)) ∙ ap (λ (y : Said). y .count) (r .says) in
+      let q : count t ≡ n = sym (ap (λ (y : Reply). y .count) (lacks-it root t e l .says)) ∙ ap (λ (y : Reply). y .count) (r .says) in
       (root, (t, (e, (q, omega arith)))))
       (λ n. absurd (miss refusals 38 tt (subst (OneOf refusals) room (n .number))))
 
@@ -116,9 +116,9 @@ module _ (s : List ℕ) (below : Below 256 s) (few : length s ≤ 16384) (rows :
   refused-none r root t e =
       ⊎-elim
       (λ (l : length rows < count t).
-      miss refusals 38 tt (subst (OneOf refusals) (ap (λ (y : Said). y .number) (lacks-it root t e l .says)) (r .number)))
+      miss refusals 38 tt (subst (OneOf refusals) (ap (λ (y : Reply). y .number) (lacks-it root t e l .says)) (r .number)))
       (λ (l : count t ≤ length rows).
-      miss refusals 0 tt (subst (OneOf refusals) (ap (λ (y : Said). y .number) (reads-it root t e l .says)) (r .number)))
+      miss refusals 0 tt (subst (OneOf refusals) (ap (λ (y : Reply). y .number) (reads-it root t e l .says)) (r .number)))
       (lt-or-le (length rows) (count t))
 
   none-refused : ((root : ℕ) (t : Trees) → Encodes s root t → ⊥) → Refuses rows (x .answer) (x .rows)

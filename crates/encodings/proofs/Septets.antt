@@ -8,7 +8,8 @@ use native.Mathlib.Omega.{arith}
 use borrow.Author.Tests.{le-leb, leb-true}
 use lib.ListN.{length, getD, take}
 use lib.Dec.{leb}
-use Rattle.ber_integers.specs.Digits.{pick, horner, digits, count}
+use Rattle.base_choices.specs.Choices.{pick}
+use Rattle.ber_integers.specs.Digits.{horner, digits, count}
 use Rattle.ber_integers.proofs.Radix.{Below, horner-append, digits-below}
 use Rattle.ber_tags.specs.Write.{marked, septets}
 use Rattle.ber_tags.proofs.Septets.{septets-value}

@@ -24,7 +24,7 @@ use Rattle.glow_trees.specs.Content.{Content, nothing, intOf}
 use Rattle.glow_trees.specs.Trees.{Trees, none, tree}
 use Rattle.glow_trees.specs.Legal.{inner}
 use Rattle.glow_trees.specs.Written.{tagged, spelled, memberOctets, membersOctets, wrapped, own, treesOctets, rootNumber, messageOctets}
-use Rattle.ber_containers.proofs.Heads.{pick-by}
+use Rattle.base_choices.proofs.Laws.{pick-by}
 use Rattle.trees_accepted.proofs.Sizes.{lengthSize, length-more, length-few, around, tagged-size, outer-size, wrapped-size, kindly, member-size}
 use Rattle.trees_accepted.proofs.Leaves.{word-back}
 use Rattle.trees_accepted.proofs.Sizes as sizes

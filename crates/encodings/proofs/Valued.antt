@@ -17,7 +17,7 @@ use Rattle.ber_tags.specs.Write.{tagOctets, lengthOctets}
 use Rattle.ber_reals.specs.Write.{form}
 use Rattle.ber_reals.specs.Means.{Plain}
 use Rattle.ber_reals.proofs.RoundTrip.{written-plain}
-use Rattle.ber_containers.proofs.Heads.{pick-by}
+use Rattle.base_choices.proofs.Laws.{pick-by, both-left, both-right}
 use Rattle.glow_grammar.specs.Grammar.{ruleOf, contentsOf, applications}
 use Rattle.glow_grammar.specs.Leaf.{expects}
 use Rattle.glow_trees.specs.Content.{Content, nothing, word, bytes, wrong, isWord, isPart}
@@ -25,7 +25,7 @@ use Rattle.glow_trees.specs.Trees.{Trees, none, tree}
 use Rattle.glow_trees.specs.Legal.{isReal, wordSuits, suits, suited, ruleAt, inner, pathAfter, isRoot, legal, legalRoot}
 use Rattle.glow_trees.specs.Written.{tagged, outer, spelled, memberOctets, membersOctets, wrapped, own, treesOctets, rootNumber, messageOctets, formOctets}
 use Rattle.glow_trees.specs.Written.{writtenReal}
-use Rattle.trees_read_back.proofs.Bools.{both-left, both-right, unless, word-kinds, part-kinds}
+use Rattle.trees_read_back.proofs.Bools.{unless, word-kinds, part-kinds}
 use Rattle.trees_read_back.proofs.Growth.{right}
 use Rattle.trees_accepted.proofs.Sizes.{around, tagged-size}
 use Rattle.trees_accepted.proofs.Tables.{stands-kind, application-short}

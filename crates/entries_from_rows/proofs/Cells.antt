@@ -16,13 +16,13 @@ use Rattle.ber_integers.proofs.Radix.{lt-or-le}
 use Rattle.ber_values.specs.declared.Value.{Value}
 use Rattle.ber_values.specs.declared.Value.the-variants.{Absent, Int, Real, Text, Bool as Truth, Octets}
 use Rattle.ber_values.specs.Value.{isListed}
-use Rattle.ber_containers.proofs.Heads.{pick-by}
+use Rattle.base_choices.proofs.Laws.{pick-by, both-left, both-right}
 use Rattle.glow_rows.specs.declared.Cell.{Cell}
 use Rattle.glow_rows.specs.Cell.{cell, absent, wordOf, bitOf, cellOf}
 use Rattle.glow_grammar.specs.Leaf.{expects}
 use Rattle.glow_trees.specs.Content.{Content, isPart, isWord, contentOf}
 use Rattle.glow_trees.specs.Legal.{suits, present, wordSuits, isReal}
-use Rattle.trees_read_back.proofs.Bools.{never, both-left, both-right, unless, word-kinds, part-kinds}
+use Rattle.trees_read_back.proofs.Bools.{never, unless, word-kinds, part-kinds}
 use Rattle.glow_entries.specs.declared.Number.{Number}
 use Rattle.glow_entries.specs.declared.Number.the-variants.{Absent as NoNumber, Is as IsNumber}
 use Rattle.glow_entries.specs.declared.Flag.{Flag}

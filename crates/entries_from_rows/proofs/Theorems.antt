@@ -19,7 +19,7 @@ use Rattle.glow_reader.specs.Message.{readAt}
 use Rattle.glow_trees.specs.Content.{Content, nothing, contentOf, contentsOf, Item, itemOf, itemsOf}
 use Rattle.glow_trees.specs.Trees.{Trees, none, tree, count, flat}
 use Rattle.glow_trees.specs.Legal.{ruleAt, suits, suited, present, complete, pathAfter, isRoot, legal, legalRoot}
-use Rattle.trees_read_back.proofs.Bools.{both-left, both-right}
+use Rattle.base_choices.proofs.Laws.{both-left, both-right}
 use Rattle.trees_read_back.proofs.Growth.{right}
 use Rattle.trees_accepted.proofs.Tables.{Kind, stands-kind, required-some}
 use Rattle.trees_accepted.proofs.Lists.{flat-length}

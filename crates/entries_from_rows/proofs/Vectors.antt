@@ -48,7 +48,7 @@ use Rattle.glow_entries.specs.declared.ReadStream.the-variants.{Entry as Stream
 use Rattle.glow_rows.specs.Cell.{intOf, valueOf, numberIn}
 use Rattle.glow_rows.specs.Row.{cellIn, same}
 use Rattle.glow_entries.specs.Member.{intIn, numberOf, flagOf, partOf, keyOf, parentOf}
-use Rattle.glow_entries.specs.Record.{told, filled, parameterRow, parameterOf, parameterRead, nodeRow, nodeOf, nodeRead, matrixRow, matrixOf, matrixRead}
+use Rattle.glow_entries.specs.Record.{readAs, filled, parameterRow, parameterOf, parameterRead, nodeRow, nodeOf, nodeRead, matrixRow, matrixOf, matrixRead}
 use Rattle.glow_entries.specs.Record.{commandRow, commandOf, commandRead, connectionRow, connectionOf, connectionRead, streamRow, streamOf, streamRead}
 
 pub data Sample : Type 0 where
@@ -181,7 +181,7 @@ unfolding headAt tagNumber longNumber stop cut lengthAt sized horner signed nine
     members ruleOf requirements required isSet contentsRows contentsOf applications holds kindAmong kindIn innerClass innerNumber collectionOf rootOf
     expects least most inRange isLetter noSlash isName allPositive isPath numberLeaf textLeaf numbersAt leafAt blanks withCell putCell words overlay
     marked mark due inOrder again afterListed afterOther column plainAt innerAt listedAt ruledAt memberAt kindOf itemAt closed membersBy itemsBy
-    rootKind topAt finished walk setup readAt intOf intIn numberIn numberOf flagOf partOf valueOf cellIn filled keyOf parentOf same told
+    rootKind topAt finished walk setup readAt intOf intIn numberIn numberOf flagOf partOf valueOf cellIn filled keyOf parentOf same readAs
     parameterRow parameterOf parameterRead nodeRow nodeOf nodeRead matrixRow matrixOf matrixRead commandRow commandOf commandRead
     connectionRow connectionOf connectionRead
 elements-read r = (refl, (refl, (refl, (refl, (refl, (refl, (refl, (refl, (refl, tt)))))))))
@@ -192,6 +192,6 @@ unfolding headAt tagNumber longNumber stop cut lengthAt sized horner signed nine
     members ruleOf requirements required isSet contentsRows contentsOf applications holds kindAmong kindIn innerClass innerNumber collectionOf rootOf
     expects least most inRange numberLeaf textLeaf numbersAt leafAt blanks withCell putCell words overlay
     marked mark due inOrder again afterListed afterOther column plainAt innerAt listedAt ruledAt memberAt kindOf itemAt closed membersBy itemsBy
-    rootKind topAt finished walk setup readAt intOf intIn numberIn valueOf cellIn filled parentOf same told streamRow streamOf streamRead
+    rootKind topAt finished walk setup readAt intOf intIn numberIn valueOf cellIn filled parentOf same readAs streamRow streamOf streamRead
     Ieee.toBits Ieee.ofBits Ieee.ofFields Ieee.odd Ieee.nanBits Ieee.isNan
 streams-read r = (refl, (refl, (refl, tt)))

@@ -8,7 +8,7 @@ use lib.Dec.{eqb}
 use lib.ListN.{length}
 use Rattle.framing_session.specs.declared.Event.the-variants as ev
 use Rattle.framing_session.specs.declared.Session.{Session}
-use Rattle.framing_content.specs.Numbers.{pick}
+use Rattle.base_choices.specs.Choices.{pick}
 use Rattle.framing_session.specs.Rules.{State, step}
 use Rattle.framing_session.specs.Session.{saidBy, stateOf, legal, kept, Whole, whole, run, feeds}
 

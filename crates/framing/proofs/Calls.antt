@@ -24,11 +24,13 @@ use Rattle.framing_session.proofs.start.Reads as start-reads
 use Rattle.framing_session.specs.declared.Event.the-variants as ev
 use Rattle.framing_session.specs.declared.Fed.{Fed}
 use Rattle.framing_session.specs.declared.Session.{Session}
-use Rattle.framing_content.specs.Numbers.{storeLength, feedNumbers, pick}
+use Rattle.base_choices.specs.Choices.{pick}
+use Rattle.base_choices.proofs.Laws.{pick-by}
+use Rattle.framing_content.specs.Numbers.{storeLength, feedNumbers}
 use Rattle.framing_session.specs.Rules.{State, Said, begin, Happening, noted, happens, after}
 use Rattle.framing_session.specs.Session.{saidBy, stateOf, sessionOf, legal, Legal, Whole, answers, run, feeds}
 use Rattle.framing.specs.Offers.{Turn, Turns, none, turn, eaten, told, joined, Serves, done, whole, part, Consumed}
-use Rattle.framing_session.proofs.Laws.{pick-by, legal-true, bounded-state, event-numbered}
+use Rattle.framing_session.proofs.Laws.{legal-true, bounded-state, event-numbered}
 use Rattle.framing.proofs.OneCall.{Ran}
 use Rattle.framing.proofs.Sayable.{Sayable, run-sayable, run-other}
 use Rattle.framing.proofs.Chunks.{call-ran, as-rules, fresh-legal}

@@ -7,7 +7,8 @@ use native.Mathlib.Omega.{arith}
 use lib.Dec.{eqb}
 use lib.ListN.{length, take}
 use Rattle.framing_session.specs.declared.Session.{Session}
-use Rattle.framing_content.specs.Numbers.{storeLength, pick}
+use Rattle.base_choices.specs.Choices.{pick}
+use Rattle.framing_content.specs.Numbers.{storeLength}
 use Rattle.framing_session.specs.Rules.{State, Said, Step, step, Happening, noted, happens, after, quiet}
 use Rattle.framing_session.specs.Session.{stateOf, sessionOf, Legal, kept, Whole, whole, run}
 use Rattle.framing.specs.Offers.{EndsWith}

@@ -15,11 +15,12 @@ use Rattle.framing_content.specs.declared.Fault.{Fault}
 use Rattle.framing_session.specs.declared.Session.{Session}
 use Rattle.framing_content.specs.declared.Fault.the-variants.{Stray, Cut, Byte, Long, Escape, Orphan, Big}
 use Rattle.framing_content.specs.Content.{contentOf, payload}
-use Rattle.framing_content.specs.Numbers.{BOF, EOF, CE, contentLimit, messageLimit, storeLength, number, pick}
+use Rattle.base_choices.proofs.Laws.{pick-by}
+use Rattle.framing_content.specs.Numbers.{BOF, EOF, CE, contentLimit, messageLimit, storeLength, number}
 use Rattle.framing_session.specs.Rules.{Place, outside, stray, inside, escaped, badByte, tooLong, Message, none, part, isOpen, State, Said, Step}
 use Rattle.framing_session.specs.Rules.{goes, refuses, adds, joins, pieces, reads, ends, faulted, cuts, inPlace, step}
 use Rattle.framing_session.specs.Session.{saidBy, stateOf, sessionOf, held, kept, Legal, Whole, run, feeds}
-use Rattle.framing_session.proofs.Laws.{pick-by, number-apart, true-legal, Bounded, Within, within-step, bounded-next, kept-length, kept-message}
+use Rattle.framing_session.proofs.Laws.{number-apart, true-legal, Bounded, Within, within-step, bounded-next, kept-length, kept-message}
 
 -- the message that a step leaves, or has finished
 abbrev messageAfter : Step → List ℕ

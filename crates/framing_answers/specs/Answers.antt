@@ -4,7 +4,7 @@ use mathlib.Core.Bool.{Bool, false, cond}
 use mathlib.Core.List.{List, [], _∷_}
 use lib.Dec.{eqb}
 use lib.ListN.{length}
-use Rattle.framing_content.specs.Numbers.{pick}
+use Rattle.base_choices.specs.Choices.{pick}
 use Rattle.framing_session.specs.declared.Event.{Event}
 use Rattle.framing_session.specs.Session.{saidBy, legal}
 use Rattle.framing_events.specs.Events.{lengthOf}

@@ -48,8 +48,8 @@ pub fn put_answer(answer: &mut [u64], event: Event, consumed: usize, n: usize)
         return;
     }
     answer[0] = bit(framing_events::is_discarded(event));
-    answer[1] = framing_words::word(consumed);
-    answer[2] = framing_words::word(least(framing_events::message_length(event), n));
+    answer[1] = base_casts::word(consumed);
+    answer[2] = base_casts::word(least(framing_events::message_length(event), n));
 }
 
 // What the writer answered: 0 and the count of bytes, or 46.
@@ -58,7 +58,7 @@ pub fn tell(result: Written, count: &mut u64) -> u64
 {
     match result {
         Written::Done { length } => {
-            *count = framing_words::word(length);
+            *count = base_casts::word(length);
             0
         }
         Written::Out => 46,

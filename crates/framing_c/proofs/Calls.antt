@@ -17,11 +17,13 @@ use lib.Seq.{take-all}
 use types.Run.{OneOf, hit}
 use Rattle.framing_session.specs.declared.Fed.{Fed}
 use Rattle.framing_session.specs.declared.Session.{Session}
-use Rattle.framing_content.specs.Numbers.{storeLength, messageLimit, feedNumbers, pick}
+use Rattle.base_choices.specs.Choices.{pick}
+use Rattle.base_choices.proofs.Laws.{pick-by}
+use Rattle.framing_content.specs.Numbers.{storeLength, messageLimit, feedNumbers}
 use Rattle.framing.specs.Offers as offers
 use Rattle.framing_session.specs.Rules.{begin, happens, after}
 use Rattle.framing_session.specs.Session.{saidBy, stateOf, sessionOf, legal, Legal, Whole, answers, feeds}
-use Rattle.framing_session.proofs.Laws.{true-legal, pick-by}
+use Rattle.framing_session.proofs.Laws.{true-legal}
 use Rattle.framing.proofs.Sayable.{legal-answered}
 use Rattle.framing.proofs.Chunks as chunks
 use Rattle.framing.proofs.Calls as framing
@@ -31,7 +33,7 @@ use Rattle.framing_read_back.proofs.Calls as writer
 use Rattle.framing_packets.proofs.Sizes.{frame-fits, message-fits}
 use Rattle.framing_words.specs.Words.{wordsOf, sessionAt}
 use Rattle.framing_answers.specs.Answers.{accepts}
-use Rattle.framing_c.specs.Calls.{Started, starts, Called, told as toldBy, calls, Put, puts}
+use Rattle.framing_c.specs.Calls.{Started, starts, Called, calledOf as toldBy, calls, Put, puts}
 use Rattle.framing_c.specs.Offers.{startNumbers, Turn, consumed, Turns, none, turn, eaten, told, Serves, done, whole, part}
 use Rattle.framing_answers.proofs.Laws.{accepts-legal}
 use Rattle.framing_c.proofs.Laws.{calls-setup, calls-words}

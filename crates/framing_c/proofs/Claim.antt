@@ -14,7 +14,8 @@ use Rattle.framing_session.specs.declared.Event.{Event}
 use Rattle.framing_session.specs.declared.Event.the-variants as ev
 use Rattle.framing_session.specs.declared.Fed.{Fed}
 use Rattle.framing_session.specs.declared.Session.{Session}
-use Rattle.framing_content.specs.Numbers.{storeLength, pick}
+use Rattle.base_choices.specs.Choices.{pick}
+use Rattle.framing_content.specs.Numbers.{storeLength}
 use Rattle.framing.specs.Offers as offers
 use Rattle.framing.specs.Offers.{EndsWith}
 use Rattle.framing_session.specs.Rules.{State, Said, Happening, quiet, begin, noted, happens, after}
@@ -26,7 +27,7 @@ use Rattle.framing.proofs.Calls as framing
 use Rattle.framing_words.specs.Words.{wordsOf, sessionAt}
 use Rattle.framing_words.proofs.Laws.{words-back}
 use Rattle.framing_answers.specs.Answers.{accepts}
-use Rattle.framing_c.specs.Calls.{Started, starts, Called, told as toldBy, calls}
+use Rattle.framing_c.specs.Calls.{Started, starts, Called, calledOf as toldBy, calls}
 use Rattle.framing_c.specs.Offers.{Turn, consumed, taken, says, Turns, none, turn, eaten, told, Stopped, Stops, AsRules}
 use Rattle.framing_answers.proofs.Laws.{accepts-session, accepts-legal, accepts-words}
 

@@ -4,7 +4,7 @@ use mathlib.Core.Bool.{cond}
 use mathlib.Core.List.{List, [], _∷_}
 use lib.Dec.{eqb}
 use lib.ListN.{length}
-use Rattle.framing_content.specs.Numbers.{pick}
+use Rattle.base_choices.specs.Choices.{pick}
 use Rattle.framing_session.specs.Rules.{begin}
 use Rattle.framing_session.specs.Session.{Whole, sessionOf, feeds}
 use Rattle.framing_packets.specs.Written.{Outcome}
@@ -28,8 +28,8 @@ pub record Called : Type 0 where
   pub answer : List ℕ
 
 -- the answer: whether an unfinished message was thrown away, the bytes consumed, the length of a finished message
-unfoldable pub told : Whole → Called
-told w =
+unfoldable pub calledOf : Whole → Called
+calledOf w =
     record {
       number = w .said .number;
       session = wordsOf (w .session);
@@ -40,7 +40,7 @@ told w =
 -- "1 leaves everything as it was"
 unfoldable pub calls : List ℕ → List ℕ → List ℕ → List ℕ → Called
 calls ws t bytes a =
-    pick (accepts ws (length t) (length a)) (told (feeds (sessionAt ws) t bytes)) (record { number = 1; session = ws; store = t; answer = a })
+    pick (accepts ws (length t) (length a)) (calledOf (feeds (sessionAt ws) t bytes)) (record { number = 1; session = ws; store = t; answer = a })
 
 -- What a call of the writer answers, and leaves in the output and the count.
 pub record Put : Type 0 where

@@ -6,7 +6,7 @@ use mathlib.Core.List.{List, [], _∷_, _++_}
 use mathlib.Core.Path.{_≡_}
 use lib.Dec.{eqb}
 use lib.ListN.{length, getD, take, drop}
-use Rattle.framing_content.specs.Numbers.{pick}
+use Rattle.base_choices.specs.Choices.{pick}
 use Rattle.framing.specs.Offers.{EndsWith}
 use Rattle.framing_session.specs.Rules.{State, Said, Happening, quiet, noted, happens, after}
 use Rattle.framing_session.specs.Session.{stateOf}

@@ -9,7 +9,7 @@ use Rattle.framing_content.specs.declared.Fault.the-variants.{Short, Crc
 use Rattle.framing_content.specs.declared.Content.{Content}
 use Rattle.framing_content.specs.declared.Content.the-variants.{Refused, Request, Response, Piece}
 use Rattle.framing_checksum.specs.Checksum.{checksum}
-use Rattle.framing_content.specs.Numbers.{pick}
+use Rattle.base_choices.specs.Choices.{pick}
 
 -- "Flags: 80 first, 40 last, 20 empty, .. the low five bits are zero."
 abbrev pub isFirst : ℕ → Bool

@@ -52,8 +52,3 @@ faultNumbers = 10 ∷ 11 ∷ 12 ∷ 13 ∷ 14 ∷ 15 ∷ 16 ∷ 20 ∷ 21 ∷ 22
 -- "0: done, or more bytes needed"; "1 SETUP"; "2, 3, 4, 5: piece, message, keep-alive request, response"; and the faults
 abbrev pub feedNumbers : List ℕ
 feedNumbers = 0 ∷ 1 ∷ 2 ∷ 3 ∷ 4 ∷ 5 ∷ faultNumbers
-
--- A choice by a test.
-abbrev pub pick : {A : Type 0} → Bool → A → A → A
-pick true a b = a
-pick false a b = b

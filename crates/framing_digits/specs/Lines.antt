@@ -4,7 +4,7 @@ use mathlib.Core.Bool.{Bool, true, false}
 use mathlib.Core.List.{List, [], _∷_}
 use lib.Dec.{ltb, eqb}
 use lib.ListN.{set}
-use Rattle.framing_content.specs.Numbers.{pick}
+use Rattle.base_choices.specs.Choices.{pick}
 use Rattle.framing_digits.specs.declared.Scanned.{Scanned}
 use Rattle.framing_digits.specs.declared.Stop.{Stop}
 use Rattle.framing_digits.specs.declared.Stop.the-variants.{Input, Line, Fault}

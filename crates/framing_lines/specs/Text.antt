@@ -11,7 +11,8 @@ use Rattle.framing_session.specs.declared.Frame.the-variants.{Outside, Stray, I
 use Rattle.framing_session.specs.declared.Pending.{Pending}
 use Rattle.framing_session.specs.declared.Pending.the-variants.{Nothing, Part}
 use Rattle.framing_session.specs.declared.Session.{Session}
-use Rattle.framing_content.specs.Numbers.{pick, storeLength}
+use Rattle.base_choices.specs.Choices.{pick}
+use Rattle.framing_content.specs.Numbers.{storeLength}
 use Rattle.framing_session.specs.Rules.{Said}
 use Rattle.framing_session.specs.Session.{saidBy}
 

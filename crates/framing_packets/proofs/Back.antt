@@ -15,7 +15,8 @@ use Rattle.framing_content.specs.declared.Fault.the-variants.{Short, Big}
 use Rattle.framing_session.proofs.Laws.{number-not-zero}
 use Rattle.framing_checksum.specs.Checksum.{checksum, octetsOf}
 use Rattle.framing_content.specs.Content.{isFirst, isLast, emptyBit, packetOf, commandOf, bodyOf, body, crcOf, contentOf, payload}
-use Rattle.framing_content.specs.Numbers.{BOF, EOF, messageLimit, number, pick}
+use Rattle.base_choices.specs.Choices.{pick}
+use Rattle.framing_content.specs.Numbers.{BOF, EOF, messageLimit, number}
 use Rattle.framing_session.specs.Rules.{outside, inside, Message, none, part, State, Step, begin, isOpen, refuses, joins, pieces, reads, ends}
 use Rattle.framing_packets.specs.Written.{escapes, sealed, frame, bodyLimit, requestBody, responseBody, flags, header, packetBody, packet, packets, payloadLimit, earlier, inPackets}
 use Rattle.framing_packets.specs.Read.{Bytes, Opens, Gives, happening, packetEvents, messageEvents}
@@ -170,9 +171,9 @@ flags-read false false true q = rw q (omega arith, (refl, (refl, (refl, refl))))
 flags-read false false false q = rw q (omega arith, (refl, (refl, (refl, refl))))
 
 empty-read : (n k : ℕ) → n ≡ 9 + k → emptyBit n ≡ pick (eqb k 0) 1 0
-empty-read n zero e = ap (λ (t : Bool). pick {A = ℕ} t 1 0) (eq-eqb n 9 (omega arith))
+empty-read n zero e = ap (λ (t : Bool). pick {X = ℕ} t 1 0) (eq-eqb n 9 (omega arith))
 empty-read n (suc k) e =
-    ap (λ (t : Bool). pick {A = ℕ} t 1 0) (ne-eqb n 9 (λ q. omega arith) ∙ sym (ne-eqb (suc k) 0 (λ q. omega arith)))
+    ap (λ (t : Bool). pick {X = ℕ} t 1 0) (ne-eqb n 9 (λ q. omega arith) ∙ sym (ne-eqb (suc k) 0 (λ q. omega arith)))
 
 module _ (first last : Bool) (p : List ℕ) where
   piece-read : bodyOf (packetBody first last p) ≡ Piece first last

@@ -12,7 +12,8 @@ use lib.ListN.{length, getD, set, take, drop, length-append, length-drop, drop-o
 use lib.Seq.{sets, sets-eq, set-out, take-all, take-append-seam, drop-cons, drop-drop}
 use Rattle.framing_checksum.specs.Checksum.{crcFrom, checksum}
 use Rattle.framing_session.proofs.Lists.{sets-append}
-use Rattle.framing_content.specs.Numbers.{BOF, EOF, CE, pick}
+use Rattle.base_choices.specs.Choices.{pick}
+use Rattle.framing_content.specs.Numbers.{BOF, EOF, CE}
 use Rattle.framing_packets.specs.declared.Written.the-variants.{Done, Out}
 use Rattle.framing_packets.specs.Written.{escape, escapes, frame, flags, header, packet, packets, payloadLimit, earlier, Outcome, outcome, into, limited}
 use Rattle.framing_packets.specs.Stores.{Wrote, wrote}

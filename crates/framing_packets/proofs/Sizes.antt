@@ -9,7 +9,8 @@ use lib.Bits.{bitXor}
 use lib.Dec.{leb}
 use lib.ListN.{length, take, drop, length-append, take-append-drop}
 use Rattle.framing_checksum.specs.Checksum.{checksum, octetsOf}
-use Rattle.framing_content.specs.Numbers.{EOF, CE, messageLimit, pick}
+use Rattle.base_choices.specs.Choices.{pick}
+use Rattle.framing_content.specs.Numbers.{EOF, CE, messageLimit}
 use Rattle.framing_packets.specs.declared.Written.the-variants.{Done}
 use Rattle.framing_packets.specs.Written.{escape, escapes, sealed, frame, bodyLimit, requestBody, responseBody, packetBody, packet, packets, payloadLimit}
 use Rattle.framing_packets.specs.Written.{earlier, inPackets, outcome, into, frameInto, messageInto, frameRoom, messageRoom}

@@ -6,7 +6,8 @@ use lib.Bits.{bitXor}
 use lib.Dec.{leb, eqb}
 use lib.ListN.{length, take, drop}
 use Rattle.framing_checksum.specs.Checksum.{checksum, octetsOf}
-use Rattle.framing_content.specs.Numbers.{BOF, EOF, CE, contentLimit, messageLimit, pick}
+use Rattle.base_choices.specs.Choices.{pick}
+use Rattle.framing_content.specs.Numbers.{BOF, EOF, CE, contentLimit, messageLimit}
 use Rattle.framing_packets.specs.declared.Written.{Written}
 use Rattle.framing_packets.specs.declared.Written.the-variants.{Done, Out}
 

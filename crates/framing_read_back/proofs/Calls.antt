@@ -13,7 +13,7 @@ use Rattle.framing_content.specs.Numbers.{messageLimit, storeLength}
 use Rattle.framing_session.specs.Rules.{none, State, Said, Happening, begin, ends}
 use Rattle.framing_session.specs.Session.{sessionOf}
 use Rattle.framing.specs.Offers.{Turns, joined, Consumed}
-use Rattle.framing_session.proofs.Laws.{pick-by}
+use Rattle.base_choices.proofs.Laws.{pick-by}
 use Rattle.framing.proofs.Chunks.{fresh-legal}
 use Rattle.framing.proofs.Calls.{some-turns}
 use Rattle.framing_packets.specs.declared.Written.{Written}

@@ -13,7 +13,7 @@ use Rattle.framing_packets.specs.declared.Written.{Written}
 use Rattle.framing_packets.specs.declared.Written.the-variants.{Done, Out}
 use Rattle.framing_words.specs.Words.{frameAt, pendingAt, isFrame, isPending, isSession}
 use Rattle.framing_answers.specs.Answers.{accepts, Told, tells}
-use Rattle.framing_c.specs.Calls.{Started, starts, Called, told, calls, Put, puts}
+use Rattle.framing_c.specs.Calls.{Started, starts, Called, calledOf, calls, Put, puts}
 
 abbrev four : ℕ → ℕ → ℕ → ℕ → List ℕ
 four a b c d = a ∷ b ∷ c ∷ d ∷ []
@@ -59,7 +59,7 @@ pub v-keep-alive : calls outside (sevens 17408) (0xfe ∷ 0x00 ∷ 0x0e ∷ 0x01
       store = sevens 16384 ++ 0x00 ∷ 0x0e ∷ 0x01 ∷ 0x01 ∷ 0x94 ∷ 0xe4 ∷ sevens 1018;
       answer = 0 ∷ 8 ∷ 0 ∷ [];
     }
-unfolding isFrame isPending isSession frameAt pendingAt accepts told calls feeds run kept
+unfolding isFrame isPending isSession frameAt pendingAt accepts calledOf calls feeds run kept
     step inPlace adds ends cuts pieces contentOf bodyOf commandOf packetOf checksum crcFrom crcStep table
 v-keep-alive = refl
 
@@ -73,14 +73,14 @@ pub v-message : calls (four 0 0 1 3) (sevens 17408)
           ++ 0x00 ∷ 0x0e ∷ 0x00 ∷ 0x01 ∷ 0xc0 ∷ 0x01 ∷ 0x02 ∷ 0x14 ∷ 0x02 ∷ 0x0a ∷ 0x0b ∷ 0x7e ∷ 0x1b ∷ sevens 1011);
       answer = 1 ∷ 15 ∷ 2 ∷ [];
     }
-unfolding isFrame isPending isSession frameAt pendingAt accepts told calls feeds run kept
+unfolding isFrame isPending isSession frameAt pendingAt accepts calledOf calls feeds run kept
     step inPlace adds ends cuts pieces contentOf bodyOf commandOf packetOf checksum crcFrom crcStep table
 v-message = refl
 
 -- "later bytes of that frame are neither counted nor stored"
 pub v-fault : calls (four 0 0 1 3) (sevens 17408) (0xfe ∷ 0x01 ∷ 0xf8 ∷ 0x02 ∷ []) (9 ∷ 9 ∷ 9 ∷ [])
     ≡ record { number = 0; session = four 4 1 1 3; store = sevens 16384 ++ 0x01 ∷ sevens 1023; answer = 0 ∷ 4 ∷ 0 ∷ [] }
-unfolding isFrame isPending isSession frameAt pendingAt accepts told calls feeds run kept step inPlace adds ends cuts faulted
+unfolding isFrame isPending isSession frameAt pendingAt accepts calledOf calls feeds run kept step inPlace adds ends cuts faulted
 v-fault = refl
 
 -- The writer: 0 and the count of bytes, or 46, which leaves the count.

@@ -25,7 +25,9 @@ use Rattle.framing_session.specs.declared.Pending.the-variants.{Nothing,
 use Rattle.framing_session.specs.declared.Session.{Session}
 use Rattle.framing_session.specs.declared.Stepped.{Stepped}
 use Rattle.framing_session.proofs.Lists.{sets-append, length-part, sets-same, take-sets-le, part-sets, drop-take}
-use Rattle.framing_content.specs.Numbers.{BOF, EOF, CE, contentLimit, messageLimit, storeLength, contentStart, number, faultNumbers, feedNumbers, pick}
+use Rattle.base_choices.specs.Choices.{pick}
+use Rattle.base_choices.proofs.Laws.{pick-by}
+use Rattle.framing_content.specs.Numbers.{BOF, EOF, CE, contentLimit, messageLimit, storeLength, contentStart, number, faultNumbers, feedNumbers}
 use Rattle.framing_session.specs.Rules.{Place, outside, stray, inside, escaped, badByte, tooLong, Message, none, part, State, Said, Step, begin, quiet, makes, goes, refuses, adds, joins, pieces, reads, ends, cuts, faulted, inPlace, step, isOpen}
 use Rattle.framing_content.specs.Content.{packetOf, commandOf, bodyOf, contentOf, body, crcOf, payload}
 use Rattle.framing_checksum.specs.Checksum.{checksum}
@@ -33,10 +35,6 @@ use Rattle.framing_session.specs.Session.{saidBy, contentIn, placeOf, me
 use Rattle.framing_session.specs.Steps.{gives, isPart, going, refusing, joining, pastFault, unlessSetup, Reaches, Stays}
 
 -- ---- a test and its two answers
-
-pub pick-by : {A : Type 0} (P : A → Type 0) {a b : A} (t : Bool) → (t ≡ true → P a) → (t ≡ false → P b) → P (pick t a b)
-pick-by P true f g = f refl
-pick-by P false f g = g refl
 
 pub gives-same : {r r′ : Stepped} {t t′ : List ℕ} → r ≡ r′ → t ≡ t′ → gives r t ≡ gives r′ t′
 gives-same {r′ = r′} {t = t} e f = ap (λ (x : Stepped). gives x t) e ∙ ap (λ (u : List ℕ). gives r′ u) f

@@ -6,7 +6,7 @@ use mathlib.Core.List.{List, [], _∷_, _++_}
 use native.Mathlib.Omega.{arith}
 use lib.Dec.{eqb}
 use lib.ListN.{length}
-use Rattle.framing_content.specs.Numbers.{pick}
+use Rattle.base_choices.specs.Choices.{pick}
 use Rattle.framing_session.specs.Rules.{State, Said, step, Happening, noted, happens, after}
 
 pub noted-append : (e : Said) (n : ℕ) (hs ks : List Happening) → noted e n (hs ++ ks) ≡ noted e n hs ++ ks

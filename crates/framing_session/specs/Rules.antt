@@ -11,7 +11,8 @@ use Rattle.framing_content.specs.declared.Fault.the-variants.{Stray, Cut, Byte,
 use Rattle.framing_content.specs.declared.Content.{Content}
 use Rattle.framing_content.specs.declared.Content.the-variants.{Refused, Request, Response, Piece}
 use Rattle.framing_content.specs.Content.{contentOf, payload}
-use Rattle.framing_content.specs.Numbers.{BOF, EOF, CE, contentLimit, messageLimit, number, pick}
+use Rattle.base_choices.specs.Choices.{pick}
+use Rattle.framing_content.specs.Numbers.{BOF, EOF, CE, contentLimit, messageLimit, number}
 
 -- Where the stream stands. In a frame: its content so far, and whether CE came last or what its first fault was.
 pub data Place : Type 0 where

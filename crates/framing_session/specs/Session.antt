@@ -14,7 +14,8 @@ use Rattle.framing_session.specs.declared.Frame.the-variants.{Outside, S
 use Rattle.framing_session.specs.declared.Pending.{Pending}
 use Rattle.framing_session.specs.declared.Pending.the-variants.{Nothing, Part}
 use Rattle.framing_session.specs.declared.Session.{Session}
-use Rattle.framing_content.specs.Numbers.{contentLimit, messageLimit, storeLength, contentStart, number, pick}
+use Rattle.base_choices.specs.Choices.{pick}
+use Rattle.framing_content.specs.Numbers.{contentLimit, messageLimit, storeLength, contentStart, number}
 use Rattle.framing_session.specs.Rules.{Place, outside, stray, inside, escaped, badByte, tooLong, Message, none, part, State, Said, Step, quiet, step}
 
 -- For each case of the event enum: its number and values. The message is the store's first bytes.

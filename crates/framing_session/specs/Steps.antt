@@ -14,7 +14,8 @@ use Rattle.framing_session.specs.declared.Pending.{Pending}
 use Rattle.framing_session.specs.declared.Pending.the-variants.{Nothing, Part}
 use Rattle.framing_session.specs.declared.Session.{Session}
 use Rattle.framing_session.specs.declared.Stepped.{Stepped}
-use Rattle.framing_content.specs.Numbers.{BOF, EOF, pick}
+use Rattle.base_choices.specs.Choices.{pick}
+use Rattle.framing_content.specs.Numbers.{BOF, EOF}
 use Rattle.framing_session.specs.Rules.{step}
 use Rattle.framing_session.specs.Session.{Kept, saidBy, stateOf, legal, Legal, keeps, run}
 

@@ -12,7 +12,7 @@ use Rattle.framing_session.specs.declared.Frame.the-variants.{Outside, Stray, I
 use Rattle.framing_session.specs.declared.Pending.{Pending}
 use Rattle.framing_session.specs.declared.Pending.the-variants.{Nothing, Part}
 use Rattle.framing_session.specs.declared.Session.{Session}
-use Rattle.framing_content.specs.Numbers.{pick}
+use Rattle.base_choices.specs.Choices.{pick}
 use Rattle.framing_session.specs.Session.{frameLength, messageLength}
 use Rattle.framing_words.specs.Words.{placeWord, openWord, wordsOf, frameAt, pendingAt, sessionAt, isFrame, isPending, isSession, sessionPut}
 

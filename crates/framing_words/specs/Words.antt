@@ -10,7 +10,7 @@ use Rattle.framing_session.specs.declared.Frame.the-variants.{Outside, Stray, I
 use Rattle.framing_session.specs.declared.Pending.{Pending}
 use Rattle.framing_session.specs.declared.Pending.the-variants.{Nothing, Part}
 use Rattle.framing_session.specs.declared.Session.{Session}
-use Rattle.framing_content.specs.Numbers.{pick}
+use Rattle.base_choices.specs.Choices.{pick}
 use Rattle.framing_session.specs.Session.{frameLength, messageLength}
 
 abbrev pub placeWord : Frame → ℕ

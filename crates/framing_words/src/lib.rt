@@ -1,4 +1,6 @@
 // A session as four words of a lent slice, and back.
+use base_casts::index;
+use base_casts::word;
 use framing_session::Frame;
 use framing_session::Pending;
 use framing_session::Session;
@@ -26,19 +28,6 @@ fn open_word(message: Pending) -> u64
         Pending::Nothing => 0,
         Pending::Part { length: _ } => 1,
     }
-}
-
-// A number as a word.
-pub fn word(n: usize) -> u64
-    ensures { λ r. ⌜ r ≡ n ⌝ }
-{
-    n as u64
-}
-
-fn size(n: u64) -> usize
-    ensures { λ r. ⌜ r ≡ n ⌝ }
-{
-    n as usize
 }
 
 // A word of a lent slice, 0 past its end.
@@ -115,8 +104,8 @@ pub fn session_at(words: &[u64]) -> Session
     ensures { λ r. ⌜ r ≡ sessionAt (now (words .entry)) ⌝ }
 {
     Session {
-        frame: frame_at(word_at(words, 0), size(word_at(words, 1))),
-        message: pending_at(word_at(words, 2), size(word_at(words, 3))),
+        frame: frame_at(word_at(words, 0), index(word_at(words, 1))),
+        message: pending_at(word_at(words, 2), index(word_at(words, 3))),
     }
 }
 

@@ -10,7 +10,8 @@ ghost use mathlib.Core.Path.{_≡_};
 ghost use Prim.Native.Nat.{_+_, _*_, _/_, _%_, _≤_, _<_};
 ghost use mathlib.Core.List.{[], _∷_, _++_};
 ghost use lib.ListN.{length};
-ghost use Rattle.framing_content.specs.Numbers.{messageLimit, pick};
+ghost use Rattle.base_choices.specs.Choices.{pick};
+ghost use Rattle.framing_content.specs.Numbers.{messageLimit};
 ghost use Rattle.framing_packets.specs.Written.{escape, escapes, frame, bodyLimit, requestBody, responseBody, flags, packet, payloadLimit, inPackets, outcome, into, frameInto, messageInto};
 ghost use Rattle.framing_packets.specs.Stores.{wrote, room};
 

@@ -8,10 +8,10 @@ use lib.ListN.{length, set}
 use Rattle.glow_rows.specs.Entry.{Rows}
 use Rattle.glow_reader.specs.declared.Answer.{Answer}
 use Rattle.glow_reader.specs.declared.Answer.the-variants.{Refused, Room, Read}
-use Rattle.glow_reader.specs.Message.{saidBy, result, readAt}
+use Rattle.glow_reader.specs.Message.{replyBy, result, readAt}
 use Rattle.ber_integers.specs.declared.Wrote.{Wrote}
 use Rattle.ber_integers.specs.declared.Wrote.the-variants.{Next, Out}
-use Rattle.ber_integers.specs.Digits.{pick, Put, wrote, outcome}
+use Rattle.ber_integers.specs.Digits.{Put, wrote, outcome}
 use Rattle.glow_trees.specs.Rows.{itemsIn}
 use Rattle.glow_member_sizes.specs.Spelling.{leastReal}
 use Rattle.glow_sizes.specs.Accepted.{fits}
@@ -28,7 +28,7 @@ set-three (x ∷ y ∷ z ∷ w ∷ ws) a b c h = absurd (omega arith)
 
 -- the number and the words of each answer
 abbrev Told : Answer → ℕ → List ℕ → List ℕ → Type 0
-Told a number words answer = (number ≡ saidBy a .number) × (words ≡ wordsOf a answer)
+Told a number words answer = (number ≡ replyBy a .number) × (words ≡ wordsOf a answer)
 
 module _ (answer : List ℕ) {a : Answer} {words : List ℕ} {x y z : ℕ} where
   pub tell-refused : {number place : ℕ} → a ≡ Refused number place → words ≡ x ∷ y ∷ z ∷ [] → x ≡ place → y ≡ 0 → z ≡ 0 → Told a number words answer
@@ -46,7 +46,7 @@ module _ (s : List ℕ) (rows : Rows) (answer : List ℕ) where
   call-other h = simp (ne-eqb _ _ h)
 
   pub call-read : {a : Answer} {rows′ : Rows} {answer′ : List ℕ} {r : ℕ} → length answer ≡ 3 → readAt s rows ≡ result a rows′
-      → r ≡ saidBy a .number → answer′ ≡ wordsOf a answer → calls s rows answer ≡ call r rows′ answer′
+      → r ≡ replyBy a .number → answer′ ≡ wordsOf a answer → calls s rows answer ≡ call r rows′ answer′
   unfolding calls
   call-read {a} {rows′} {answer′} {r} h e n w = simp (eq-eqb _ _ h) (ap (λ x. called x answer) e ∙ rw (n, w))
 

@@ -8,7 +8,7 @@ use lib.ListN.{length}
 use types.Run.{OneOf, hit}
 use Rattle.ber_integers.specs.Numbers.{putNumbers}
 use Rattle.ber_integers.proofs.Numbers.{widen}
-use Rattle.ber_containers.proofs.Heads.{pick-by}
+use Rattle.base_choices.proofs.Laws.{pick-by}
 use Rattle.glow_rows.specs.Entry.{Rows}
 use Rattle.glow_trees.specs.Rows.{itemsIn}
 use Rattle.glow_member_sizes.specs.Spelling.{leastReal}

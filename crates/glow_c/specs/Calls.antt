@@ -3,7 +3,7 @@ use Prim.Native.Nat.{ℕ}
 use mathlib.Core.List.{List, [], _∷_}
 use lib.ListN.{length}
 use lib.Dec.{eqb}
-use Rattle.ber_integers.specs.Digits.{pick}
+use Rattle.base_choices.specs.Choices.{pick}
 use Rattle.glow_rows.specs.Entry.{Rows}
 use Rattle.ber_integers.specs.declared.Wrote.{Wrote}
 use Rattle.ber_integers.specs.declared.Wrote.the-variants.{Next, Out}
@@ -14,7 +14,7 @@ use Rattle.glow_sizes.specs.Accepted.{fits}
 use Rattle.glow_writer.specs.Writes.{writes}
 use Rattle.glow_reader.specs.declared.Answer.{Answer}
 use Rattle.glow_reader.specs.declared.Answer.the-variants.{Setup, Refused, Room, Read}
-use Rattle.glow_reader.specs.Message.{Said, saidBy, Result, readAt}
+use Rattle.glow_reader.specs.Message.{Reply, replyBy, Result, readAt}
 
 pub record Call : Type 0 where
   pub number : ℕ

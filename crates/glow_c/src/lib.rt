@@ -1,10 +1,11 @@
 // The C interface of the tree reader and the tree writer: numbers and lent slices (include/glow.h).
+use base_casts::word;
 use ber_integers::Wrote;
 use glow_reader::Answer;
 ghost use mathlib.Core.Path.{_≡_};
 ghost use mathlib.Core.List.{[], _∷_};
 ghost use lib.ListN.{length};
-ghost use Rattle.glow_reader.specs.Message.{saidBy};
+ghost use Rattle.glow_reader.specs.Message.{replyBy};
 ghost use Rattle.glow_c.specs.Calls.{call, wordsOf, calls, lengthWord, writing, writeCalls, acceptCalls};
 ghost use Rattle.ber_integers.specs.Digits.{wrote};
 
@@ -17,16 +18,10 @@ fn put(answer: &mut [u64], place: u64, count: u64, root: u64)
     answer[2] = root;
 }
 
-fn word(x: usize) -> u64
-    ensures { λ r. ⌜ r ≡ x ⌝ }
-{
-    x as u64
-}
-
 // The number of an answer, and its words.
 fn tell(a: Answer, answer: &mut [u64]) -> u64
     requires { ⌜ length (now answer) ≡ 3 ⌝ }
-    ensures { λ r. ⌜ r ≡ saidBy a .number ⌝ }
+    ensures { λ r. ⌜ r ≡ replyBy a .number ⌝ }
     ensures { λ r. ⌜ now (answer .exit) ≡ wordsOf a (now (answer .entry)) ⌝ }
 {
     match a {

@@ -6,7 +6,6 @@ use mathlib.Core.List.{List}
 use borrow.Author.Tests.{lt-ltb, le-leb, lt-leb, eq-eqb, ne-eqb}
 use lib.Dec.{T, ltb, ltb→lt}
 use lib.ListN.{getD, set}
-use Rattle.ber_integers.specs.Digits.{pick}
 use Rattle.glow_rows.specs.declared.Cell.{Cell}
 use Rattle.glow_rows.specs.Cell.{intOf, numberIn}
 use Rattle.glow_rows.specs.Row.{putIn, cellIn, same}
@@ -18,7 +17,7 @@ use Rattle.glow_entries.specs.declared.Part.the-variants.{Absent as NoPa
 use Rattle.glow_entries.specs.declared.Key.the-variants.{Number as ByNumber, Path as ByPath}
 use Rattle.glow_entries.specs.declared.Parent.the-variants.{Root, At}
 use Rattle.glow_entries.specs.Member.{intIn, numberOf, flagOf, partOf, keyOf, parentOf}
-use Rattle.glow_entries.specs.Record.{told}
+use Rattle.glow_entries.specs.Record.{readAs}
 use Rattle.glow_entries.proofs.Cells.{entry}
 
 -- a cell that stands for a number, a flag or a part
@@ -95,10 +94,10 @@ module _ {E R : Type 0} (of : List ℕ → E) (made : E → List ℕ) (is : E �
   again : (e : E) (l : List ℕ) → e ≡ of r → l ≡ made e → same r (made (of r)) ≡ same r l
   again e l p q = sym (ap (same r) (q ∙ ap made p))
 
-  pub told-is : {e : E} {l : List ℕ} {b : Bool} → e ≡ of r → l ≡ made e → b ≡ same r l → b ≡ true → is e ≡ told of made is other r
-  unfolding told
+  pub told-is : {e : E} {l : List ℕ} {b : Bool} → e ≡ of r → l ≡ made e → b ≡ same r l → b ≡ true → is e ≡ readAs of made is other r
+  unfolding readAs
   told-is {e} {l} {b} p q s t = rw (again e l p q ∙ sym s ∙ t) (ap is p)
 
-  pub told-other : {e : E} {l : List ℕ} {b : Bool} → e ≡ of r → l ≡ made e → b ≡ same r l → b ≡ false → other ≡ told of made is other r
-  unfolding told
+  pub told-other : {e : E} {l : List ℕ} {b : Bool} → e ≡ of r → l ≡ made e → b ≡ same r l → b ≡ false → other ≡ readAs of made is other r
+  unfolding readAs
   told-other {e} {l} {b} p q s t = rw (again e l p q ∙ sym s ∙ t)

@@ -11,7 +11,7 @@ use lib.ListN.{getD}
 use lib.Ieee as Ieee
 use lib.Ieee.{binary64}
 use lib.Ieee.Bits.{ofBits-toBits, nanBits-is, is-false}
-use Rattle.ber_integers.specs.Digits.{pick}
+use Rattle.base_choices.specs.Choices.{pick}
 use Rattle.ber_values.specs.declared.Value.{Value}
 use Rattle.ber_values.specs.declared.Value.the-variants.{Absent, Int, Real, Text, Bool as Truth, Octets}
 use Rattle.glow_rows.specs.declared.Cell.{Cell}
@@ -31,7 +31,7 @@ use Rattle.glow_entries.specs.declared.Parent.the-variants.{Root, At}
 use Rattle.glow_entries.specs.Held.{HeldInt, HeldNumber, HeldKey, HeldParent, HeldValue, Present}
 use Rattle.glow_entries.specs.Member.{numberCell, intIn, numberOf, flagCell, flagOf, partCell, partOf, keyKind, keyCell, keyOf}
 use Rattle.glow_entries.specs.Member.{parentWord, parentOf}
-use Rattle.glow_entries.specs.Record.{told}
+use Rattle.glow_entries.specs.Record.{readAs}
 use Rattle.glow_entries.proofs.Cells.{entry}
 
 int-back : (z : ℤ) → HeldInt z → intOf (wordOf z) ≡ z
@@ -158,15 +158,15 @@ same-is (x ∷ xs) (y ∷ ys) e = go (same-is xs ys) (eqb x y) refl e
     go f true q s = ap (λ (n : ℕ). n ∷ xs) (eqb-true x y q) ∙ ap (λ (l : List ℕ). y ∷ l) (f s)
     go f false q s = let z : _≡_ {A = ℕ} 0 1 = cc in absurd (omega arith)
 
--- a kind of entry: what its answers hold is told by `opens`
+-- a kind of entry: what its answers hold is readAs by `opens`
 module _ {E R : Type 0} (of : List ℕ → E) (made : E → List ℕ) (is : E → R) (other : R) where
-  pub told-back : (e : E) → of (made e) ≡ e → told of made is other (made e) ≡ is e
-  unfolding told
+  pub told-back : (e : E) → of (made e) ≡ e → readAs of made is other (made e) ≡ is e
+  unfolding readAs
   told-back e h = rw (h, same-refl (made e))
 
   pub told-made : (opens : R → List E) → ((x : E) → opens (is x) ≡ x ∷ []) → opens other ≡ []
-      → (r : List ℕ) (e : E) → told of made is other r ≡ is e → r ≡ made e
-  unfolding told
+      → (r : List ℕ) (e : E) → readAs of made is other r ≡ is e → r ≡ made e
+  unfolding readAs
   told-made opens i o r e q = go (same r (made (of r))) refl q
     where
       go : (b : Bool) → same r (made (of r)) ≡ b → pick b (is (of r)) other ≡ is e → r ≡ made e

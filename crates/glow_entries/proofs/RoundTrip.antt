@@ -1,5 +1,5 @@
 -- Each kind of entry and its row, for all entries: the row made of an entry is read as that entry (`parameter-back`), a row that is read as an
--- entry is the row made of it (`parameter-made`), and a row that is told to be none's is no entry's (`parameter-none`); so for each kind.
+-- entry is the row made of it (`parameter-made`), and a row that is readAs to be none's is no entry's (`parameter-none`); so for each kind.
 use Prim.Native.Nat.{ℕ}
 use mathlib.Core.Path.{_≡_, refl, sym, ap, _∙_}
 use mathlib.Core.List.{List, [], _∷_, cons-ne-nil}
@@ -9,7 +9,7 @@ use Rattle.glow_rows.specs.declared.Cell.{Cell}
 use Rattle.glow_rows.specs.Entry.{row, words, blanks, withCell}
 use Rattle.glow_rows.specs.Row.{cellIn}
 use Rattle.glow_entries.specs.Member.{keyKind, parentWord}
-use Rattle.glow_entries.specs.Record.{told, filled}
+use Rattle.glow_entries.specs.Record.{readAs, filled}
 use Rattle.glow_entries.proofs.Cells.{entry, parameterCells, parameter-cells, nodeCells, node-cells, matrixCells, matrix-cells}
 use Rattle.glow_entries.proofs.Cells.{commandCells, command-cells, connectionCells, connection-cells, streamCells, stream-cells}
 use Rattle.glow_entries.proofs.Back.{number-at, flag-at, part-at, value-at, int-at, key-at, parent-at, told-back, told-made, stream-told, stream-there}
@@ -243,7 +243,7 @@ stream-back e h = rw (stream-there (e .value) (h .value) (h .present)) (told-bac
 pub stream-made : (r : List ℕ) (e : Stream) → streamRead r ≡ StreamEntry e → r ≡ streamRow e
 unfolding streamRead
 stream-made r e q = told-made streamOf streamRow StreamEntry StreamOther streamIn (λ x. refl) refl r e
-    (stream-told streamIn (eqb (cellIn r 1 .kind) 0) (told streamOf streamRow StreamEntry StreamOther r) StreamOther e refl refl q)
+    (stream-told streamIn (eqb (cellIn r 1 .kind) 0) (readAs streamOf streamRow StreamEntry StreamOther r) StreamOther e refl refl q)
 
 pub stream-none : (r : List ℕ) (e : Stream) → HeldStream e → streamRead r ≡ StreamOther → r ≡ streamRow e → ⊥
 stream-none r e h q s = none (sym (ap streamIn (sym q ∙ ap streamRead s ∙ stream-back e h)))

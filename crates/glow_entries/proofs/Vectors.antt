@@ -18,7 +18,7 @@ use Rattle.glow_entries.specs.declared.ReadNode.the-variants.{Other as N
 use Rattle.glow_entries.specs.declared.ReadMatrix.the-variants.{Other as MatrixOther}
 use Rattle.glow_entries.specs.declared.ReadStream.the-variants.{Other as StreamOther}
 use Rattle.glow_entries.specs.Member.{intIn, numberOf, flagOf, partOf, keyOf, parentOf}
-use Rattle.glow_entries.specs.Record.{told, filled, parameterRow, nodeRow, matrixRow, commandRow, connectionRow, streamRow}
+use Rattle.glow_entries.specs.Record.{readAs, filled, parameterRow, nodeRow, matrixRow, commandRow, connectionRow, streamRow}
 use Rattle.glow_entries.specs.Record.{parameterOf, parameterRead, nodeOf, nodeRead, matrixOf, matrixRead, streamOf, streamRead}
 
 -- "value 2, minimum 3, maximum 4, access 5, factor 8, online 9, step 11, stream identifier 14", behind identifier 0 and description 1
@@ -140,6 +140,6 @@ pub v-other :
     (nodeRead (1 ∷ 0 ∷ 2 ∷ 7 ∷ 0 ∷ words (blanks 15)) ≡ NodeOther) ×
     (matrixRead (7 ∷ 0 ∷ 13 ∷ 40 ∷ 2 ∷ words (blanks 14) ++ (0 ∷ 0 ∷ 1 ∷ [])) ≡ MatrixOther) ×
     (streamRead (9 ∷ 0 ∷ 2 ∷ 100 ∷ 0 ∷ words (blanks 15)) ≡ StreamOther)
-unfolding filled withCell blanks words intOf numberOf flagOf partOf valueOf cellIn keyOf parentOf same told parameterRow parameterOf parameterRead intIn numberIn
+unfolding filled withCell blanks words intOf numberOf flagOf partOf valueOf cellIn keyOf parentOf same readAs parameterRow parameterOf parameterRead intIn numberIn
     nodeRow nodeOf nodeRead matrixRow matrixOf matrixRead streamRow streamOf streamRead
 v-other = (refl, refl, refl, refl)

@@ -3,7 +3,7 @@ use Prim.Native.Nat.{ℕ}
 use mathlib.Core.Path.{_≡_}
 use mathlib.Core.List.{List, [], _∷_}
 use lib.Dec.{eqb}
-use Rattle.ber_integers.specs.Digits.{pick}
+use Rattle.base_choices.specs.Choices.{pick}
 use Rattle.glow_rows.specs.declared.Cell.{Cell}
 use Rattle.glow_rows.specs.Cell.{integer, text, numbers, cell, wordOf, cellOf, valueOf, numberIn}
 use Rattle.glow_rows.specs.Kind as kind
@@ -37,8 +37,8 @@ filled e [] = e
 filled e (m ∷ more) = filled (withCell e (m .0) (m .1)) more
 
 -- what a row is read as: it is an entry's of a kind exactly if it is the row of the entry that it stands for
-unfoldable pub told : {E R : Type 0} → (List ℕ → E) → (E → List ℕ) → (E → R) → R → List ℕ → R
-told of made is other r = pick (same r (made (of r))) (is (of r)) other
+unfoldable pub readAs : {E R : Type 0} → (List ℕ → E) → (E → List ℕ) → (E → R) → R → List ℕ → R
+readAs of made is other r = pick (same r (made (of r))) (is (of r)) other
 
 -- A parameter, with its value, its minimum and its maximum, of any kind each.
 unfoldable pub parameterRow : Parameter → List ℕ
@@ -75,7 +75,7 @@ parameterOf r =
     }
 
 unfoldable pub parameterRead : List ℕ → ReadParameter
-parameterRead r = told parameterOf parameterRow ParameterEntry ParameterOther r
+parameterRead r = readAs parameterOf parameterRow ParameterEntry ParameterOther r
 
 -- A node.
 unfoldable pub nodeRow : Node → List ℕ
@@ -100,7 +100,7 @@ nodeOf r =
     }
 
 unfoldable pub nodeRead : List ℕ → ReadNode
-nodeRead r = told nodeOf nodeRow NodeEntry NodeOther r
+nodeRead r = readAs nodeOf nodeRow NodeEntry NodeOther r
 
 -- A matrix.
 unfoldable pub matrixRow : Matrix → List ℕ
@@ -133,7 +133,7 @@ matrixOf r =
     }
 
 unfoldable pub matrixRead : List ℕ → ReadMatrix
-matrixRead r = told matrixOf matrixRow MatrixEntry MatrixOther r
+matrixRead r = readAs matrixOf matrixRow MatrixEntry MatrixOther r
 
 -- A command.
 unfoldable pub commandRow : Command → List ℕ
@@ -152,7 +152,7 @@ commandOf r =
     }
 
 unfoldable pub commandRead : List ℕ → ReadCommand
-commandRead r = told commandOf commandRow CommandEntry CommandOther r
+commandRead r = readAs commandOf commandRow CommandEntry CommandOther r
 
 -- A connection of a matrix.
 unfoldable pub connectionRow : Connection → List ℕ
@@ -173,7 +173,7 @@ connectionOf r =
     }
 
 unfoldable pub connectionRead : List ℕ → ReadConnection
-connectionRead r = told connectionOf connectionRow ConnectionEntry ConnectionOther r
+connectionRead r = readAs connectionOf connectionRow ConnectionEntry ConnectionOther r
 
 -- A stream entry.
 unfoldable pub streamRow : Stream → List ℕ
@@ -193,7 +193,7 @@ streamOf r =
 
 -- its value is never absent
 unfoldable pub streamRead : List ℕ → ReadStream
-streamRead r = pick (eqb (cellIn r place.streamValue .kind) 0) StreamOther (told streamOf streamRow StreamEntry StreamOther r)
+streamRead r = pick (eqb (cellIn r place.streamValue .kind) 0) StreamOther (readAs streamOf streamRow StreamEntry StreamOther r)
 
 -- The numbers of a connection and of a matrix have the words that stand in their cells, whatever row it is.
 pub record ConnectionWords (r : List ℕ) (e : Connection) : Type 0 where

@@ -1,4 +1,6 @@
 // The kinds of entry of the Glow tree, by value: each is made from a row of the lent table and put into one.
+use base_casts::index;
+use base_casts::word;
 use ber_values::Value;
 use glow_rows::Cell;
 use glow_rows::KIND;
@@ -55,18 +57,6 @@ pub enum Key {
 pub enum Parent {
     Root,
     At(u32),
-}
-
-fn word(x: usize) -> u64
-    ensures { λ r. ⌜ r ≡ x ⌝ }
-{
-    x as u64
-}
-
-fn count(x: u64) -> usize
-    ensures { λ r. ⌜ r ≡ x ⌝ }
-{
-    x as usize
 }
 
 fn number_cell(n: Number) -> Cell
@@ -169,8 +159,8 @@ fn part_at(row: &[u64; 50], tag: u64, c: usize) -> Part
     let v = cell_in(row, c);
     if v.kind == tag {
         return Part::At {
-            start: count(v.first),
-            len: count(v.second),
+            start: index(v.first),
+            len: index(v.second),
         };
     }
     Part::Absent
@@ -189,8 +179,8 @@ fn key_at(row: &[u64; 50], qualified: u64) -> Key
     let v = cell_in(row, places::KEY);
     if row[KIND] == qualified {
         return Key::Path {
-            start: count(v.first),
-            len: count(v.second),
+            start: index(v.first),
+            len: index(v.second),
         };
     }
     Key::Number(int_of(glow_rows::number_of(v)))

@@ -11,7 +11,8 @@ use lib.ListN.{length, take, drop}
 use lib.Dec.{leb, ltb, eqb}
 use lib.IntN.{ℤ}
 use lib.Ieee as Ieee
-use Rattle.ber_integers.specs.Digits.{pick}
+use Rattle.base_choices.specs.Choices.{pick, both}
+use Rattle.base_choices.proofs.Laws.{pick-by, both-left, both-right}
 use Rattle.ber_integers.specs.declared.Number.{Number}
 use Rattle.ber_integers.specs.declared.Number.the-variants.{Int as Whole, Refused as NoInt}
 use Rattle.ber_integers.specs.Integer.{integerAt}
@@ -31,21 +32,10 @@ use Rattle.glow_rows.specs.Cell.{cellOf, numbersCell}
 use Rattle.glow_grammar.specs.declared.Leaf.{Leaf}
 use Rattle.glow_grammar.specs.declared.Leaf.the-variants.{Kept, Refused as Not}
 use Rattle.glow_grammar.specs.Grammar.{any, step, path, name}
-use Rattle.glow_grammar.specs.Leaf.{both, expects, inRange, isName, allPositive, isPath, LeafBounded}
+use Rattle.glow_grammar.specs.Leaf.{expects, inRange, isName, allPositive, isPath, LeafBounded}
 use Rattle.glow_grammar.specs.Leaf.{numberLeaf, textLeaf, valueLeaf, judged, pathLeaf, listLeaf, numbersAt, leafAt}
 
 -- a fact about both answers of a test
-pick-by : {X : Type 0} (P : X → Type 0) (b : Bool) {l m : X} → (b ≡ true → P l) → (b ≡ false → P m) → P (pick b l m)
-pick-by P true h k = h refl
-pick-by P false h k = k refl
-
-both-left : (a b : Bool) → both a b ≡ true → a ≡ true
-both-left true b e = refl
-both-left false b e = e
-
-both-right : (a b : Bool) → both a b ≡ true → b ≡ true
-both-right true b e = e
-both-right false b e = let z : _≡_ {A = ℕ} 0 1 = cc in absurd (omega arith)
 
 pub path-some : (ns : List ℕ) → isPath ns ≡ true → 0 < length ns
 unfolding isPath

@@ -12,7 +12,7 @@ use lib.Dec.{leb, ltb, eqb}
 use lib.IntN.{ℤ, pos, negsuc}
 use mir.Syntax.{w64}
 use mir.Val.{SFits}
-use Rattle.ber_integers.specs.Digits.{pick}
+use Rattle.base_choices.specs.Choices.{pick, both}
 use Rattle.ber_integers.proofs.Radix.{lt-or-le}
 use Rattle.ber_values.specs.declared.Value.the-variants.{Int, Text}
 use Rattle.ber_values.specs.Value.{contentAt}
@@ -22,7 +22,7 @@ use Rattle.glow_rows.specs.declared.Cell.{Cell}
 use Rattle.glow_rows.specs.Cell.{cellOf, wordOf, numbersCell}
 use Rattle.glow_grammar.specs.declared.Leaf.{Leaf}
 use Rattle.glow_grammar.specs.declared.Leaf.the-variants.{Kept, Refused as Not}
-use Rattle.glow_grammar.specs.Leaf.{both, expects, least, most, inRange, wordIn, isLetter, noSlash, isName, allPositive, isPath}
+use Rattle.glow_grammar.specs.Leaf.{expects, least, most, inRange, wordIn, isLetter, noSlash, isName, allPositive, isPath}
 use Rattle.glow_grammar.specs.Leaf.{numberLeaf, textLeaf, judged, pathLeaf, listLeaf, oidLeaf, numbersAt, leafAt}
 
 -- ranges

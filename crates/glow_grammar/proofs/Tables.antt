@@ -9,7 +9,7 @@ use native.Mathlib.Omega.{arith}
 use borrow.Author.Tests.{eqb-true, eq-eqb, ne-eqb, le-leb, lt-leb}
 use lib.ListN.{getD}
 use lib.Dec.{eqb}
-use Rattle.ber_integers.specs.Digits.{pick}
+use Rattle.base_choices.specs.Choices.{pick}
 use Rattle.ber_integers.proofs.Radix.{lt-or-le}
 use Rattle.ber_values.specs.Value.{isListed}
 use Rattle.glow_grammar.specs.Grammar.{applications, kindAmong, holds, kindIn, members, ruleOf, requirements, required, contentsRows, contentsOf}

@@ -5,7 +5,7 @@ use mathlib.Core.List.{List, [], _∷_}
 use mathlib.Core.Bool.{Bool}
 use lib.ListN.{getD}
 use lib.Dec.{leb, eqb}
-use Rattle.ber_integers.specs.Digits.{pick}
+use Rattle.base_choices.specs.Choices.{pick}
 pub use Rattle.glow_rows.specs.Kind.{parameter, command, node, matrix, qualifiedParameter, qualifiedNode, qualifiedMatrix, connection, streamEntry}
 
 -- What stands at a member.

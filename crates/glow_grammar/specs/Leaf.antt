@@ -8,8 +8,8 @@ use mathlib.Core.Bool.{Bool, true, false}
 use lib.ListN.{length, take, drop}
 use lib.Dec.{leb, ltb, eqb}
 use lib.IntN.{ℤ, pos, negsuc}
-use Rattle.ber_integers.specs.Digits.{pick}
-use Rattle.ber_integers.specs.Said.{Said, done, refused}
+use Rattle.base_choices.specs.Choices.{pick, both}
+use Rattle.ber_integers.specs.Readings.{Reading, done, refused}
 use Rattle.ber_values.specs.declared.Value.{Value}
 use Rattle.ber_values.specs.declared.Value.the-variants.{Absent, Int, Real, Text, Bool as Truth, Octets}
 use Rattle.ber_values.specs.declared.Answer.{Answer}
@@ -23,10 +23,6 @@ use Rattle.glow_rows.specs.Cell as universal
 use Rattle.glow_grammar.specs.declared.Leaf.{Leaf}
 use Rattle.glow_grammar.specs.declared.Leaf.the-variants.{Kept, Refused as Not}
 use Rattle.glow_grammar.specs.Grammar.{name, text, flag, any, step, path, list, int32, to3, to2, to1}
-
-abbrev pub both : Bool → Bool → Bool
-both true b = b
-both false b = false
 
 -- the universal tag number that a member's value has; any of five for a value of any kind
 unfoldable pub expects : ℕ → ℕ → Bool
@@ -95,7 +91,7 @@ valueLeaf s at what above (Truth b) = Kept (cellOf (Truth b)) above
 valueLeaf s at what above (Octets start len) = Kept (cellOf (Octets start len)) above
 
 -- what was read, judged on; or the refusal, as the answer says it
-abbrev pub onSaid : {A : Type 0} → (A → Leaf) → Said A → Leaf
+abbrev pub onSaid : {A : Type 0} → (A → Leaf) → Reading A → Leaf
 onSaid leaf (done x) = leaf x
 onSaid leaf (refused number place) = Not number place
 

@@ -4,6 +4,7 @@ pub mod rows;
 pub mod rules;
 pub mod tags;
 
+use base_casts::word;
 use ber_identifiers::Arc;
 use ber_identifiers::Oid;
 use ber_integers::Number;
@@ -16,7 +17,7 @@ ghost use mathlib.Core.Path.{_≡_};
 ghost use Prim.Native.Nat.{_+_, _-_, _≤_};
 ghost use mathlib.Core.Bool.{true, false};
 ghost use lib.Dec.{leb, eqb};
-ghost use Rattle.ber_integers.specs.Digits.{pick};
+ghost use Rattle.base_choices.specs.Choices.{pick};
 ghost use lib.ListN.{length, take, drop};
 ghost use Rattle.glow_grammar.specs.Grammar.{ruleOf, required, isSet, contentsOf, kindIn};
 ghost use Rattle.ber_values.specs.Value.{isListed};
@@ -289,12 +290,6 @@ fn wide(n: u32) -> u64
     ensures { λ r. ⌜ r ≡ n ⌝ }
 {
     n as u64
-}
-
-fn word(x: usize) -> u64
-    ensures { λ r. ⌜ r ≡ x ⌝ }
-{
-    x as u64
 }
 
 // The least and the greatest number of a member that is not below zero.

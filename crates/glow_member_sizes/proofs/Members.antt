@@ -9,7 +9,8 @@ use borrow.Author.Tests.{eq-eqb, ne-eqb, le-leb, lt-leb, lt-ltb, eqb-true}
 use lib.Dec.{T, leb, ltb, eqb}
 use lib.ListN.{length, take, drop, length-append, length-drop, take-append-drop}
 use lib.Seq.{length-take-le}
-use Rattle.ber_integers.specs.Digits.{pick}
+use Rattle.base_choices.specs.Choices.{pick, both}
+use Rattle.base_choices.proofs.Laws.{pick-by}
 use Rattle.ber_tags.specs.Write.{tagOctets, lengthOctets}
 use Rattle.ber_values.specs.Value.{isListed}
 use Rattle.ber_values.proofs.Laws.{content-octets, content-text}
@@ -20,7 +21,7 @@ use Rattle.glow_rows.specs.declared.Cell.{Cell}
 use Rattle.glow_grammar.specs.declared.Leaf.{Leaf}
 use Rattle.glow_grammar.specs.declared.Leaf.the-variants.{Kept, Refused as Not}
 use Rattle.glow_grammar.specs.Grammar.{any, name, path}
-use Rattle.glow_grammar.specs.Leaf.{both, expects, isName, isPath, textLeaf, pathLeaf, listLeaf, numbersAt, leafAt, judged}
+use Rattle.glow_grammar.specs.Leaf.{expects, isName, isPath, textLeaf, pathLeaf, listLeaf, numbersAt, leafAt, judged}
 use Rattle.glow_trees.specs.Content.{Content, nothing, word, bytes, wrong, isPart, isWord, contentOf}
 use Rattle.glow_trees.specs.Legal.{isReal, wordSuits, pathSuits, listSuits, partSuits, suits}
 use Rattle.glow_trees.specs.Written.{tagged, spelled, memberOctets}
@@ -130,9 +131,6 @@ module _ (real : ℕ → List ℕ) (what : ℕ) where
         (λ bs. simp (ne-eqb _ _ h, e, both-false (isPart (v .kind))))
 
 -- ---- kinds
-pick-by : {A : Type 0} (P : A → Type 0) {a b : A} (t : Bool) → (t ≡ true → P a) → (t ≡ false → P b) → P (pick t a b)
-pick-by P true f g = f refl
-pick-by P false f g = g refl
 
 never : {P : Type 0} → false ≡ true → P
 never e = absurd (subst (λ (b : Bool). T (not b)) e tt)

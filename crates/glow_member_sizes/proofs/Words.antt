@@ -16,7 +16,7 @@ use Rattle.ber_integers.proofs.Signs.{minus-is}
 use lib.Ieee as Ieee
 use lib.Ieee.{Float, nan, inf, fin, binary64}
 use lib.Ieee.Bits.{ofBits-fits, nanBits-is}
-use Rattle.ber_integers.specs.Digits.{pick}
+use Rattle.base_choices.specs.Choices.{pick}
 use Rattle.ber_integers.specs.Integer.{shortest}
 use Rattle.ber_integers.proofs.Radix.{lt-or-le}
 use Rattle.ber_reals.specs.Write.{Form, unwritten, octets, form}

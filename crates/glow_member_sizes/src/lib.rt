@@ -1,4 +1,6 @@
 // The members of an entry: how many octets each takes with its tags, and whether it may stand where it does.
+use base_casts::index;
+use base_casts::word;
 use ber_integers::Wrote;
 use glow_grammar::Leaf;
 use glow_grammar::NO_WORD;
@@ -52,14 +54,7 @@ pub fn around(n: u64) -> u64
     if MESSAGE_LIMIT < n {
         return NO_SIZE;
     }
-    capped(1 + wide(ber_tags::length_size(n)) + n)
-}
-
-// A size as a u64.
-pub fn wide(x: usize) -> u64
-    ensures { λ r. ⌜ r ≡ x ⌝ }
-{
-    x as u64
+    capped(1 + word(ber_tags::length_size(n)) + n)
 }
 
 // The integer that a word stands for, in two's complement.
@@ -117,9 +112,9 @@ fn real_size(w: u64, least: bool) -> u64
     ensures { λ r. ⌜ (isReal w ≡ true → length (spelling least w) ≡ r) ⌝ }
 {
     if least {
-        return wide(ber_real_sizes::least_size(w));
+        return word(ber_real_sizes::least_size(w));
     }
-    wide(ber_real_sizes::written_size(w))
+    word(ber_real_sizes::written_size(w))
 }
 
 // Whether a boolean, an integer or a real, by its word, may stand at a member.
@@ -164,13 +159,6 @@ pub fn is_part(kind: u64) -> bool
     kind == tags::NUMBERS
 }
 
-// A word as a place.
-pub fn index(x: u64) -> usize
-    ensures { λ r. ⌜ r ≡ x ⌝ }
-{
-    x as usize
-}
-
 // Whether the reader keeps a part of the message at a member, by the part's universal tag number.
 fn part_fits(s: &[u8], kind: u64, start: usize, len: usize, what: u64) -> bool
     ensures { λ r. ⌜ isKept (leafAt (now (s .entry)) 0 kind start len what 0) ≡ r ⌝ }
@@ -189,7 +177,7 @@ fn part_size(s: &[u8], v: Cell, what: u64) -> u64
     requires { ⌜ (isPart (v .kind) ≡ true) × ((expects what (v .kind) ≡ true) × (what ≡ 0 → ⊥)) ⌝ }
     ensures { λ r. ⌜ ((real : ℕ → List ℕ) → memberSize real what (contentOf (now (s .entry)) v) ≡ r) ⌝ }
 {
-    let total = wide(s.len());
+    let total = word(s.len());
     if total < v.second {
         return NO_SIZE;
     }

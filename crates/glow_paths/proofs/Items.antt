@@ -8,7 +8,7 @@ use borrow.Author.Tests.{eqb-true, le-leb, lt-leb, lt-ltb}
 use lib.ListN.{length, take, drop, getD}
 use lib.Seq.{take-all, take-length}
 use lib.Dec.{leb, ltb, eqb}
-use Rattle.ber_integers.specs.Digits.{pick}
+use Rattle.base_choices.specs.Choices.{pick}
 use Rattle.glow_rows.specs.Entry.{Rows}
 use Rattle.glow_rows.specs.declared.Cell.{Cell}
 use Rattle.glow_rows.specs.Cell.{numberIn, octetsIn}

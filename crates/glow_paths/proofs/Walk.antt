@@ -8,7 +8,7 @@ use borrow.Author.Tests.{eq-eqb, ne-eqb, le-leb, lt-leb}
 use lib.ListN.{length, take, getD}
 use lib.Seq.{take-suc, take-all}
 use lib.Dec.{eqb}
-use Rattle.ber_integers.specs.Digits.{pick}
+use Rattle.base_choices.specs.Choices.{pick}
 use Rattle.glow_rows.specs.Entry.{Rows}
 use Rattle.glow_rows.specs.declared.Cell.{Cell}
 use Rattle.glow_trees.specs.Content.{Item, contentOf}

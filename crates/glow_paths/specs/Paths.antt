@@ -5,7 +5,7 @@ use mathlib.Core.List.{List, [], _∷_, _++_}
 use mathlib.Core.Bool.{Bool, true, false}
 use lib.ListN.{length, getD}
 use lib.Dec.{leb, ltb, eqb}
-use Rattle.ber_integers.specs.Digits.{pick}
+use Rattle.base_choices.specs.Choices.{pick, both}
 use Rattle.ber_identifiers.specs.declared.Arc.{Arc}
 use Rattle.ber_identifiers.specs.declared.Arc.the-variants.{Number, Range as Over, Refused as NoArc}
 use Rattle.ber_identifiers.specs.declared.Oid.{Oid}
@@ -13,7 +13,6 @@ use Rattle.ber_identifiers.specs.declared.Oid.the-variants.{Numbers, Range, Ref
 use Rattle.glow_paths.specs.declared.Step.{Step}
 use Rattle.ber_identifiers.specs.Identifier.{Arcs, bad, over, numbers, arcs, arcsFrom}
 use Rattle.glow_grammar.specs.Grammar.{qualifiedParameter, qualifiedMatrix}
-use Rattle.glow_grammar.specs.Leaf.{both}
 use Rattle.glow_rows.specs.Cell.{integer}
 use Rattle.glow_rows.specs.Cell as cell
 use Rattle.glow_rows.specs.Place as place

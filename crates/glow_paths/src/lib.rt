@@ -1,4 +1,6 @@
 // The numbers of relative identifiers, and the full paths of entries in rows.
+use base_casts::index;
+use base_casts::word;
 use ber_identifiers::Arc;
 use ber_identifiers::Oid;
 use glow_rows::Cell;
@@ -16,18 +18,6 @@ ghost use Rattle.glow_trees.specs.Content.{contentOf};
 ghost use Rattle.glow_trees.specs.Rows.{itemsIn};
 ghost use Rattle.ber_identifiers.specs.Identifier.{arcAt, oidAt};
 ghost use Rattle.glow_paths.specs.Paths.{numberOf, octetsOf, numbersIn, endOf, stepOf, Left, Goes, isQualified, fullPath, same, hasPath};
-
-fn wide(x: usize) -> u64
-    ensures { λ r. ⌜ r ≡ x ⌝ }
-{
-    x as u64
-}
-
-fn index(x: u64) -> usize
-    ensures { λ r. ⌜ r ≡ x ⌝ }
-{
-    x as usize
-}
 
 // The number of a member, 0 where it has none.
 fn number_of(v: Cell) -> u64
@@ -122,7 +112,7 @@ fn climbs(path: &[u64], rows: &[[u64; 50]], count: usize, s: &[u8], entry: u64) 
     let mut k = path.len();
     let mut p = entry;
     while 0 < p {
-        if wide(count) < p {
+        if word(count) < p {
             return k == 0;
         }
         let i = index(p - 1);

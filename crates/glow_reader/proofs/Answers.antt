@@ -9,17 +9,17 @@ use borrow.Author.Tests.{ltb-true, ltb-false, ne-eqb}
 use lib.ListN.{length, drop}
 use lib.Dec.{ltb, eqb}
 use types.Run.{OneOf, hit, miss}
-use Rattle.ber_integers.specs.Digits.{pick}
+use Rattle.base_choices.specs.Choices.{pick}
+use Rattle.base_choices.proofs.Laws.{pick-by}
 use Rattle.ber_containers.specs.declared.No.{No as Refusal}
 use Rattle.ber_containers.specs.declared.Onto.{Onto}
 use Rattle.ber_containers.specs.declared.Onto.the-variants.{Next, Refused as Stopped}
-use Rattle.ber_containers.proofs.Heads.{pick-by}
 use Rattle.glow_rows.specs.Entry.{Entries, Rows, overlay}
 use Rattle.glow_rows.proofs.Laws.{overlay-length}
 use Rattle.glow_reader.specs.declared.Answer.{Answer}
 use Rattle.glow_reader.specs.declared.Answer.the-variants.{Setup, Refused as No, Room, Read}
 use Rattle.glow_walk.specs.Walk.{walk}
-use Rattle.glow_reader.specs.Message.{Said, saidBy, refusals, readNumbers, Result, result, readOf, readAt, setup}
+use Rattle.glow_reader.specs.Message.{Reply, replyBy, refusals, readNumbers, Result, result, readOf, readAt, setup}
 use Rattle.glow_reader.proofs.Places.{OntoIn}
 use Rattle.glow_reader.proofs.Within.{EntriesIn, walk-in}
 
@@ -73,17 +73,17 @@ Ruled s rows rows′ (Room count) = (rows′ ≡ rows) × (length rows < count)
 Ruled s rows rows′ (Read root count) = Filled s rows rows′ count
 
 -- what is said is what the answer says
-said-by : (x y : Result) (b : Bool) → x .said ≡ saidBy (x .answer) → y .said ≡ saidBy (y .answer) → pick b x y .said ≡ saidBy (pick b x y .answer)
+said-by : (x y : Result) (b : Bool) → x .said ≡ replyBy (x .answer) → y .said ≡ replyBy (y .answer) → pick b x y .said ≡ replyBy (pick b x y .answer)
 said-by x y true e f = e
 said-by x y false e f = f
 
-said-of : (rows : Rows) (which : ℕ) (es : Entries) (a : Onto) → readOf rows which es a .said ≡ saidBy (readOf rows which es a .answer)
+said-of : (rows : Rows) (which : ℕ) (es : Entries) (a : Onto) → readOf rows which es a .said ≡ replyBy (readOf rows which es a .answer)
 said-of rows which es (Next next) =
     said-by (result (Room (length es)) rows) (result (Read which (length es)) (overlay es rows)) (ltb (length rows) (length es)) refl refl
 said-of rows which es (Stopped e) = refl
 
 module _ (s : List ℕ) (rows : Rows) where
-  pub said-is : readAt s rows .said ≡ saidBy (readAt s rows .answer)
+  pub said-is : readAt s rows .said ≡ replyBy (readAt s rows .answer)
   unfolding readAt
   said-is =
       said-by (result Setup rows) (readOf rows (walk s .which) (walk s .out .entries) (walk s .out .answer)) (setup (length s) (length rows)) refl
@@ -132,9 +132,9 @@ module _ (s : List ℕ) (rows : Rows) where
 
   -- .. and every call answers with one of document 01's numbers.
   pub read-numbers : OneOf readNumbers (readAt s rows .said .number)
-  read-numbers = subst (λ (x : Said). OneOf readNumbers (x .number)) (sym said-is) (go (readAt s rows .answer) ruled)
+  read-numbers = subst (λ (x : Reply). OneOf readNumbers (x .number)) (sym said-is) (go (readAt s rows .answer) ruled)
     where
-      go : (a : Answer) → Ruled s rows (readAt s rows .rows) a → OneOf readNumbers (saidBy a .number)
+      go : (a : Answer) → Ruled s rows (readAt s rows .rows) a → OneOf readNumbers (replyBy a .number)
       go Setup h = hit readNumbers 1 tt
       go (No number place) h = inr (inr (inr (h .1 .1)))
       go (Room count) h = hit readNumbers 38 tt

@@ -46,7 +46,8 @@ use Rattle.ber_containers.specs.declared.Crossing.the-variants.{Over as Ends, P
 use Rattle.ber_containers.specs.Ends.{ofHead, zeroAt, closingAt, standingAt, deep, counted, enterAt, firstOf, firstAt, lastOf, lastAt, isTag}
 use Rattle.ber_containers.specs.Passing.{skipped, pastOf, crossOf, crossAt, onCrossing, onwards, throughBy, passedAt}
 use Rattle.ber_containers.specs.Progress.{Ahead, Onward}
-use Rattle.ber_containers.proofs.Heads.{pick-by, stop-inside}
+use Rattle.base_choices.proofs.Laws.{pick-by}
+use Rattle.ber_containers.proofs.Heads.{stop-inside}
 use Rattle.ber_containers.proofs.Quick.{standing-onward}
 use Rattle.glow_rows.specs.declared.Cell.{Cell}
 use Rattle.glow_grammar.specs.declared.Leaf.{Leaf}

@@ -17,7 +17,7 @@ use Rattle.ber_containers.specs.declared.Found.the-variants.{Value, Refused as 
 use Rattle.ber_containers.specs.declared.Onto.{Onto}
 use Rattle.ber_containers.specs.declared.Onto.the-variants.{Next, Refused as Stopped}
 use Rattle.ber_containers.specs.Ends.{no, enterAt, firstAt, lastAt, isTag}
-use Rattle.ber_containers.proofs.Heads.{pick-by}
+use Rattle.base_choices.proofs.Laws.{pick-by}
 use Rattle.glow_rows.specs.declared.Cell.{Cell}
 use Rattle.glow_rows.specs.Entry.{Entry, Entries, blanks, blank, withCell, putCell}
 use Rattle.glow_grammar.specs.Grammar.{contentsOf}

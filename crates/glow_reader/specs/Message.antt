@@ -4,7 +4,7 @@ use mathlib.Core.List.{List, [], _∷_}
 use mathlib.Core.Bool.{Bool, true}
 use lib.ListN.{length}
 use lib.Dec.{ltb}
-use Rattle.ber_integers.specs.Digits.{pick}
+use Rattle.base_choices.specs.Choices.{pick}
 use Rattle.ber_containers.specs.declared.Onto.{Onto}
 use Rattle.ber_containers.specs.declared.Onto.the-variants.{Next, Refused as Stopped}
 use Rattle.glow_rows.specs.Entry.{Entries, Rows, overlay}
@@ -13,17 +13,17 @@ use Rattle.glow_reader.specs.declared.Answer.{Answer}
 use Rattle.glow_reader.specs.declared.Answer.the-variants.{Setup, Refused as No, Room, Read}
 
 -- What the reader answers, for each case document 01's number and values: "The answer names Root's kind."
-pub record Said : Type 0 where
+pub record Reply : Type 0 where
   pub number : ℕ
   pub place : ℕ  -- of a refusal from 30 to 37 (request 09)
   pub count : ℕ  -- of entries read, or "38 ROOM: .. says how many"
   pub root : ℕ  -- of a message that is read: 0 elements, 3 streams
 
-abbrev pub saidBy : Answer → Said
-saidBy Setup = record { number = 1; place = 0; count = 0; root = 0 }
-saidBy (No number place) = record { number = number; place = place; count = 0; root = 0 }
-saidBy (Room count) = record { number = 38; place = 0; count = count; root = 0 }
-saidBy (Read root count) = record { number = 0; place = 0; count = count; root = root }
+abbrev pub replyBy : Answer → Reply
+replyBy Setup = record { number = 1; place = 0; count = 0; root = 0 }
+replyBy (No number place) = record { number = number; place = place; count = 0; root = 0 }
+replyBy (Room count) = record { number = 38; place = 0; count = count; root = 0 }
+replyBy (Read root count) = record { number = 0; place = 0; count = count; root = root }
 
 -- The rows of "Numbers answered" for a refused message: "30 BER, 31 FORM, 32 DEPTH, 33 GLOW", "34 NUMBER, 35 REAL, 36 NAME, 37 PATH".
 abbrev pub refusals : List ℕ
@@ -36,11 +36,11 @@ readNumbers = 0 ∷ 1 ∷ 38 ∷ refusals
 -- the answer, and the lent table after it
 pub record Result : Type 0 where
   pub answer : Answer
-  pub said : Said
+  pub said : Reply
   pub rows : Rows
 
 abbrev pub result : Answer → Rows → Result
-result a rows = record { answer = a; said = saidBy a; rows = rows }
+result a rows = record { answer = a; said = replyBy a; rows = rows }
 
 -- "1 SETUP: .. table over 256 entries, message over 16,384 bytes"
 unfoldable pub setup : ℕ → ℕ → Bool

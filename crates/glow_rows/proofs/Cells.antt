@@ -15,7 +15,7 @@ use lib.Ieee.{Float, nan, inf, fin, binary64}
 use lib.Ieee.Compare.{differs-from-itself}
 use mir.Syntax.{w64}
 use mir.Val.{SFits, Fits, toZ, ofZ}
-use Rattle.ber_integers.specs.Digits.{pick}
+use Rattle.base_choices.specs.Choices.{pick}
 use Rattle.ber_integers.proofs.Signs.{negative, natural-sign, word}
 use Rattle.glow_rows.specs.declared.Cell.{Cell}
 use Rattle.glow_rows.specs.Cell.{cell, wordOf, bitOf, absent}

@@ -8,7 +8,7 @@ use lib.IntN.{ℤ, pos, negsuc}
 use lib.ListN.{length, take, drop}
 use lib.Ieee as Ieee
 use lib.Ieee.{binary64}
-use Rattle.ber_integers.specs.Digits.{pick}
+use Rattle.base_choices.specs.Choices.{pick}
 use Rattle.ber_values.specs.declared.Value.{Value}
 use Rattle.ber_values.specs.declared.Value.the-variants.{Absent, Int, Real, Text, Bool as Truth, Octets}
 use Rattle.glow_rows.specs.declared.Cell.{Cell}

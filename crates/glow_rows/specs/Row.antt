@@ -4,7 +4,7 @@ use mathlib.Core.Bool.{Bool, true, false}
 use mathlib.Core.List.{List, [], _∷_}
 use lib.ListN.{getD, set}
 use lib.Dec.{ltb, eqb}
-use Rattle.ber_integers.specs.Digits.{pick}
+use Rattle.base_choices.specs.Choices.{pick}
 use Rattle.glow_rows.specs.declared.Cell.{Cell}
 use Rattle.glow_rows.specs.Cell.{cell, absent}
 use Rattle.glow_rows.specs.Entry.{Entry, Entries, Rows, row, blank}

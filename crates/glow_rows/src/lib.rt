@@ -3,6 +3,8 @@ pub mod kinds;
 pub mod places;
 pub mod tags;
 
+use base_casts::index;
+use base_casts::word;
 use ber_values::Value;
 ghost use mathlib.Core.Path.{_≡_};
 ghost use Prim.Native.Nat.{_-_, _≤_};
@@ -151,18 +153,6 @@ pub fn absent() -> Cell
     }
 }
 
-fn word(x: usize) -> u64
-    ensures { λ r. ⌜ r ≡ x ⌝ }
-{
-    x as u64
-}
-
-fn count(x: u64) -> usize
-    ensures { λ r. ⌜ r ≡ x ⌝ }
-{
-    x as usize
-}
-
 // The cell of a value.
 pub fn cell_of(v: Value) -> Cell
     ensures { λ r. ⌜ r ≡ cellOf v ⌝ }
@@ -266,8 +256,8 @@ pub fn value_of(v: Cell) -> Value
     }
     if v.kind == tags::TEXT {
         return Value::Text {
-            start: count(v.first),
-            len: count(v.second),
+            start: index(v.first),
+            len: index(v.second),
         };
     }
     if v.kind == tags::BOOLEAN {
@@ -275,8 +265,8 @@ pub fn value_of(v: Cell) -> Value
     }
     if v.kind == tags::OCTETS {
         return Value::Octets {
-            start: count(v.first),
-            len: count(v.second),
+            start: index(v.first),
+            len: index(v.second),
         };
     }
     Value::Absent
@@ -322,8 +312,8 @@ pub fn span_of(s: &[u8], v: Cell) -> Span
     if total - v.second < v.first {
         return no_span();
     }
-    let start = count(v.first);
-    let len = count(v.second);
+    let start = index(v.first);
+    let len = index(v.second);
     Span {
         start,
         end: start + len,

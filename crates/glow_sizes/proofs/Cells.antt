@@ -8,9 +8,8 @@ use native.Mathlib.Omega.{arith}
 use borrow.Author.Tests.{eq-eqb, ne-eqb, le-leb, lt-leb, leb-true}
 use lib.Dec.{T, leb, eqb}
 use lib.ListN.{length, take, drop, getD, length-append}
-use Rattle.ber_integers.specs.Digits.{pick}
+use Rattle.base_choices.specs.Choices.{pick}
 use Rattle.glow_rows.specs.declared.Cell.{Cell}
-use Rattle.glow_grammar.specs.Leaf.{both}
 use Rattle.glow_trees.specs.Content.{Content, nothing, word, bytes, wrong, contentOf, contentsOf}
 use Rattle.glow_trees.specs.Rows.{cellAt, cellsFrom}
 use Rattle.glow_trees.specs.Legal.{suits, ruleAt, suited}

@@ -8,11 +8,11 @@ use native.Mathlib.Omega.{arith}
 use borrow.Author.Tests.{eq-eqb, ne-eqb, le-leb, lt-leb, lt-ltb, eqb-true}
 use lib.Dec.{T, leb, ltb, eqb}
 use lib.ListN.{length, take, drop, getD, length-append}
-use Rattle.ber_integers.specs.Digits.{pick}
+use Rattle.base_choices.specs.Choices.{pick, both}
+use Rattle.base_choices.proofs.Laws.{both-left, both-right}
 use Rattle.ber_tags.specs.Write.{tagOctets, lengthOctets}
 use Rattle.glow_grammar.specs.Grammar.{required}
 use Rattle.glow_grammar.specs.Grammar as grammar
-use Rattle.glow_grammar.specs.Leaf.{both}
 use Rattle.glow_trees.specs.Content.{Content, nothing, word, bytes, wrong, contentOf, contentsOf}
 use Rattle.glow_trees.specs.Rows.{cellAt, cellsFrom}
 use Rattle.glow_trees.specs.Legal.{suits, ruleAt, suited, present, complete, pathAfter, empty, inner}
@@ -84,14 +84,6 @@ member-empty real what n wrong h = never h
 sum-zero : (a b : ℕ) → eqb (a + b) 0 ≡ both (eqb a 0) (eqb b 0)
 sum-zero zero b = let e : zero + b ≡ b = omega arith in ap (λ (n : ℕ). eqb n 0) e
 sum-zero (suc a) b = let z : suc a ≡ 0 → ⊥ = λ e. omega arith in rw (ne-eqb (suc a) 0 z) (ne-eqb (suc a + b) 0 (λ e. omega arith))
-
-pub both-left : (a b : Bool) → both a b ≡ true → a ≡ true
-both-left true b h = refl
-both-left false b h = h
-
-pub both-right : (a b : Bool) → both a b ≡ true → b ≡ true
-both-right true b h = h
-both-right false b h = never h
 
 pub members-empty : (real : ℕ → List ℕ) (kind c n : ℕ) (xs : List Content) → suited kind c xs ≡ true
     → eqb (length (membersOctets real n xs)) 0 ≡ empty xs

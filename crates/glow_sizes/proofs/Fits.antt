@@ -7,11 +7,10 @@ use native.Mathlib.Omega.{arith}
 use borrow.Author.Tests.{le-leb, lt-leb, leb-true}
 use lib.Dec.{T, leb}
 use lib.ListN.{length}
-use Rattle.ber_integers.specs.Digits.{pick}
-use Rattle.glow_grammar.specs.Leaf.{both}
+use Rattle.base_choices.specs.Choices.{pick}
+use Rattle.base_choices.proofs.Laws.{both-right}
 use Rattle.glow_trees.specs.Content.{Item}
 use Rattle.glow_sizes.specs.Accepted.{isWhole, octetsOf, fits, lengthOf}
-use Rattle.glow_sizes.proofs.Entry.{both-right}
 
 never : {P : Type 0} → false ≡ true → P
 never e = absurd (subst (λ (b : Bool). T (not b)) e tt)

@@ -8,7 +8,8 @@ use native.Mathlib.Omega.{arith}
 use borrow.Author.Tests.{eq-eqb, ne-eqb, le-leb, lt-leb, lt-ltb, eqb-true, eqb-false, leb-true}
 use lib.Dec.{T, leb, ltb, eqb}
 use lib.ListN.{length, take, drop, getD}
-use Rattle.ber_integers.specs.Digits.{pick}
+use Rattle.base_choices.specs.Choices.{pick}
+use Rattle.base_choices.proofs.Laws.{pick-by, both-left, both-right}
 use Rattle.ber_identifiers.specs.declared.Oid.{Oid}
 use Rattle.ber_identifiers.specs.declared.Oid.the-variants.{Numbers, Range, Refused}
 use Rattle.ber_identifiers.specs.Identifier.{Arcs, bad, over, numbers, arcs, oidAt}
@@ -16,7 +17,7 @@ use Rattle.ber_identifiers.specs.Identifier as oid
 use Rattle.glow_rows.specs.declared.Cell.{Cell}
 use Rattle.glow_grammar.specs.Grammar.{holds, required, requirements}
 use Rattle.glow_grammar.specs.Grammar as grammar
-use Rattle.glow_grammar.specs.Leaf.{both, expects, isPath}
+use Rattle.glow_grammar.specs.Leaf.{expects, isPath}
 use Rattle.glow_trees.specs.Content.{Content, nothing, word, bytes, wrong, isPart, isWord, contentOf}
 use Rattle.glow_trees.specs.Trees.{among, standsIn}
 use Rattle.glow_trees.specs.Legal.{suits, wordSuits, partSuits, pathSuits, present, lengthOf, pathOf}
@@ -24,11 +25,6 @@ use Rattle.ber_integers.proofs.Radix.{lt-or-le}
 use Rattle.ber_identifiers.proofs.Laws.{oid-within}
 use Rattle.glow_sizes.specs.Sizes.{pathCap, split, keyed}
 use Rattle.glow_member_sizes.proofs.Members.{content-out, content-part, content-kind, numbers-there}
-use Rattle.glow_sizes.proofs.Entry.{both-left, both-right}
-
-pick-by : {A : Type 0} (P : A → Type 0) {a b : A} (t : Bool) → (t ≡ true → P a) → (t ≡ false → P b) → P (pick t a b)
-pick-by P true f g = f refl
-pick-by P false f g = g refl
 
 never : {P : Type 0} → false ≡ true → P
 never e = absurd (subst (λ (b : Bool). T (not b)) e tt)

@@ -8,10 +8,10 @@ use borrow.Author.Tests.{eqb-true}
 use lib.Dec.{eqb}
 use Rattle.ber_integers.proofs.Radix.{lt-or-le}
 use Rattle.glow_grammar.specs.Grammar.{members, ruleOf, contentsRows, contentsOf}
-use Rattle.glow_grammar.specs.Leaf.{both}
+use Rattle.base_choices.specs.Choices.{both}
+use Rattle.base_choices.proofs.Laws.{both-left, both-right}
 use Rattle.glow_trees.specs.Legal.{ruleAt}
 use Rattle.glow_sizes.specs.Kept.{RulesIn}
-use Rattle.glow_sizes.proofs.Entry.{both-left, both-right}
 
 -- the rules of the first n cells
 unfoldable pub right : ℕ → ℕ → ℕ → Bool

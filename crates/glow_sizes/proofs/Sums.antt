@@ -8,11 +8,11 @@ use native.Mathlib.Omega.{arith}
 use borrow.Author.Tests.{eq-eqb, ne-eqb, le-leb, lt-leb, lt-ltb, eqb-true, eqb-false, leb-false}
 use lib.Dec.{T, leb, ltb, eqb}
 use lib.ListN.{length, take, drop, getD, length-append}
-use Rattle.ber_integers.specs.Digits.{pick}
+use Rattle.base_choices.specs.Choices.{pick, both}
+use Rattle.base_choices.proofs.Laws.{both-left, both-right}
 use Rattle.ber_integers.proofs.Radix.{lt-or-le}
 use Rattle.glow_grammar.specs.Grammar.{required, requirements}
 use Rattle.glow_grammar.specs.Grammar as grammar
-use Rattle.glow_grammar.specs.Leaf.{both}
 use Rattle.glow_rows.specs.declared.Cell.{Cell}
 use Rattle.glow_trees.specs.Content.{Content, nothing, word, bytes, wrong, contentOf, contentsOf}
 use Rattle.glow_trees.specs.Rows.{cellAt, cellsFrom}
@@ -23,24 +23,7 @@ use Rattle.glow_member_sizes.specs.Sizes.{cap, taggedSize}
 use Rattle.glow_sizes.specs.Sizes.{cellsSize, wrappedSize, pathCap, isEntry, entryOctets, entered, split, keyed, enteredAt}
 use Rattle.glow_member_sizes.proofs.Caps.{cap-in, cap-over, cap-right}
 use Rattle.glow_sizes.proofs.Places.{kind-present, kind-absent, cap-few, cap-many}
-use Rattle.glow_sizes.proofs.Entry.{
-  sized,
-  cells-sized,
-  wrapped-length,
-  members-empty,
-  own-is,
-  inner-is,
-  suited-is,
-  cells-length,
-  both-left,
-  both-right,
-  not-suited,
-  too-long,
-  too-deep,
-  not-complete,
-  path-long,
-  entered-is,
-}
+use Rattle.glow_sizes.proofs.Entry.{sized, cells-sized, wrapped-length, members-empty, own-is, inner-is, suited-is, cells-length, not-suited, too-long, too-deep, not-complete, path-long, entered-is}
 
 never : {P : Type 0} → false ≡ true → P
 never e = absurd (subst (λ (b : Bool). T (not b)) e tt)

@@ -9,11 +9,11 @@ use borrow.Author.Tests.{eq-eqb, ne-eqb, le-leb, lt-leb, leb-true, leb-false, eq
 use lib.Dec.{T, leb, eqb}
 use lib.ListN.{length, take, drop, getD, length-append, drop-of-length-le}
 use lib.Seq.{drop-drop, length-take-le}
-use Rattle.ber_integers.specs.Digits.{pick}
+use Rattle.base_choices.specs.Choices.{pick, both}
+use Rattle.base_choices.proofs.Laws.{both-left, both-right}
 use Rattle.ber_integers.proofs.Radix.{lt-or-le}
 use Rattle.glow_rows.specs.Entry.{Entries, Rows}
 use Rattle.glow_grammar.specs.Grammar.{applications, required, ruleOf, children, connections}
-use Rattle.glow_grammar.specs.Leaf.{both}
 use Rattle.glow_trees.specs.Content.{Content, Item, itemOf, itemsOf, contentsOf}
 use Rattle.glow_trees.specs.Rows.{cellsFrom, entryOf, entriesOf, itemsIn}
 use Rattle.glow_trees.specs.Trees.{Trees, none, tree, count, standsIn, stands, Taken, taken, takenBy, treesOf}
@@ -27,7 +27,7 @@ use Rattle.glow_sizes.specs.Sizes.{wrappedSize, isEntry, entryOctets, en
 use Rattle.glow_sizes.specs.Kept.{Packed, Keeps}
 use Rattle.glow_member_sizes.proofs.Caps.{cap-in, cap-over, cap-left, cap-right, cap-tagged, over-tagged}
 use Rattle.glow_member_sizes.proofs.Members.{tagged-length, outer-length, twice}
-use Rattle.glow_sizes.proofs.Entry.{wrapped-length, both-left, both-right}
+use Rattle.glow_sizes.proofs.Entry.{wrapped-length}
 
 never : {P : Type 0} → false ≡ true → P
 never e = absurd (subst (λ (b : Bool). T (not b)) e tt)

@@ -4,8 +4,7 @@ use mathlib.Core.List.{List, [], _∷_}
 use mathlib.Core.Bool.{Bool, true, false}
 use lib.ListN.{length}
 use lib.Dec.{leb}
-use Rattle.ber_integers.specs.Digits.{pick}
-use Rattle.glow_grammar.specs.Leaf.{both}
+use Rattle.base_choices.specs.Choices.{pick, both}
 use Rattle.glow_trees.specs.Content.{Item}
 use Rattle.glow_trees.specs.Trees.{Trees, Taken, treesOf}
 use Rattle.glow_trees.specs.Legal.{legalRoot}

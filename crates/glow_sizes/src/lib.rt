@@ -1,4 +1,6 @@
 // Which entries make a tree that the reader accepts, and how many octets its message takes.
+use base_casts::index;
+use base_casts::word;
 use ber_identifiers::Oid;
 use glow_grammar::collections;
 use glow_grammar::rows;
@@ -8,10 +10,8 @@ use glow_member_sizes::MESSAGE_LIMIT;
 use glow_member_sizes::NO_SIZE;
 use glow_member_sizes::around;
 use glow_member_sizes::capped;
-use glow_member_sizes::index;
 use glow_member_sizes::member_size;
 use glow_member_sizes::plus;
-use glow_member_sizes::wide;
 use glow_rows::Cell;
 use glow_rows::KIND;
 use glow_rows::PARENT;
@@ -26,7 +26,7 @@ ghost use mathlib.Core.Logic.{_⊎_};
 ghost use Prim.Native.Nat.{ℕ, _+_, _-_, _*_, _^_, _/_, _%_, _≤_, _<_};
 ghost use lib.ListN.{length, getD};
 ghost use lib.Dec.{leb, eqb};
-ghost use Rattle.ber_integers.specs.Digits.{pick};
+ghost use Rattle.base_choices.specs.Choices.{pick};
 ghost use Rattle.glow_trees.specs.Content.{contentOf, contentsOf};
 ghost use Rattle.glow_trees.specs.Rows.{cellsFrom, itemsIn};
 ghost use Rattle.glow_trees.specs.Trees.{standsIn};
@@ -108,7 +108,7 @@ fn cells_size(
     let mut total: u64 = 0;
     while from < c {
         c = c - 1;
-        total = total + member_size(s, cell_at(rows, i, c), rule_in(rules, wide(c)), least);
+        total = total + member_size(s, cell_at(rows, i, c), rule_in(rules, word(c)), least);
     }
     capped(total)
 }
@@ -175,7 +175,7 @@ fn path_after(s: &[u8], v: Cell, what: u64, above: u64) -> u64
         match ber_identifiers::read_oid(s, index(v.first), index(v.second)) {
             Oid::Numbers(n) => {
                 if n <= 16 {
-                    return wide(n);
+                    return word(n);
                 }
                 return 17;
             }
@@ -418,7 +418,7 @@ fn items(
         }
         let kind = word_at(rows, i, KIND);
         let below = i + 1;
-        let me = wide(below);
+        let me = word(below);
         let left = inside_of(k);
         let kids = inside(
             rows,

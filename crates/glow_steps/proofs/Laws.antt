@@ -9,7 +9,6 @@ use lib.Bits.{bitOr}
 use lib.Pow.{shl-exact}
 use lib.ListN.{length, getD}
 use lib.Dec.{leb, ltb, eqb}
-use Rattle.ber_integers.specs.Digits.{pick}
 use Rattle.ber_containers.specs.declared.No.{No}
 use Rattle.ber_containers.specs.declared.Open.{Open}
 use Rattle.ber_containers.specs.declared.Tag.{Tag}

@@ -5,7 +5,7 @@ use mathlib.Core.Bool.{true, false}
 use mathlib.Core.List.{List}
 use lib.ListN.{length, getD}
 use lib.Dec.{leb, ltb, eqb}
-use Rattle.ber_integers.specs.Digits.{pick}
+use Rattle.base_choices.specs.Choices.{pick}
 use Rattle.ber_containers.specs.declared.Open.{Open}
 use Rattle.ber_containers.specs.declared.Tag.{Tag}
 use Rattle.ber_containers.specs.declared.Stands.the-variants.{Here}

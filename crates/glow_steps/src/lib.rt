@@ -1,4 +1,6 @@
 // One turn of the tree reader: what stands at a place among the members of a row, in a collection, or in Root. No turn recurs.
+use base_casts::index;
+use base_casts::wide;
 use ber_containers::Found;
 use ber_containers::No;
 use ber_containers::Onto;
@@ -116,12 +118,6 @@ fn after_other(row: u64, before: u64, n: u64) -> u64
     n + 1
 }
 
-fn count(x: u64) -> usize
-    ensures { λ r. ⌜ r ≡ x ⌝ }
-{
-    x as usize
-}
-
 // The cell that keeps the listed member n; 0 for a number that none has.
 pub fn column_of(row: u64, n: u64) -> usize
     ensures { λ r. ⌜ (n < 16 → column row n ≡ r) ⌝ }
@@ -131,9 +127,9 @@ pub fn column_of(row: u64, n: u64) -> usize
         return 0;
     }
     if glow_grammar::is_set(row) {
-        return count(n) + 1;
+        return index(n) + 1;
     }
-    count(n)
+    index(n)
 }
 
 // The value g of a member t that holds one value.
@@ -269,13 +265,6 @@ fn ruled(s: &[u8], p: usize, t: Tag, k: usize, row: u64, above: usize, before: u
         after_listed(row, before, n),
         column_of(row, n),
     )
-}
-
-fn wide(x: u8) -> u64
-    ensures { λ r. ⌜ r ≡ x ⌝ }
-    ensures { λ r. ⌜ r < 256 ⌝ }
-{
-    x as u64
 }
 
 // What stands at the member of a constructed context tag b, if that may come now; NONE where that is for the general turn to say.

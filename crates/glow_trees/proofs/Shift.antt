@@ -9,7 +9,7 @@ use borrow.Author.Tests.{le-leb, lt-ltb, le-ltb}
 use lib.ListN.{length, take, drop, getD, length-drop, List·getD-append}
 use lib.Seq.{drop-drop, drop-append-le, take-at, take-all, getD-drop}
 use lib.Dec.{leb, ltb, eqb}
-use Rattle.ber_integers.specs.Digits.{pick}
+use Rattle.base_choices.specs.Choices.{pick}
 use Rattle.ber_integers.proofs.Radix.{lt-or-le}
 use Rattle.ber_identifiers.specs.declared.Arc.{Arc}
 use Rattle.ber_identifiers.specs.declared.Arc.the-variants.{Number, Range as Over, Refused as NoArc}

@@ -6,14 +6,14 @@ use lib.ListN.{length}
 use lib.Dec.{leb, ltb, eqb}
 use lib.Ieee as Ieee
 use lib.Ieee.{Float, binary64}
-use Rattle.ber_integers.specs.Digits.{pick}
+use Rattle.base_choices.specs.Choices.{pick, both}
 use Rattle.ber_reals.specs.Write.{Form, unwritten, octets, form}
 use Rattle.ber_identifiers.specs.Identifier.{Arcs, bad, over, numbers, arcs}
 use Rattle.glow_rows.specs.Cell as universal
 use Rattle.glow_grammar.specs.Grammar.{any, name, step, path, kids, links, ruleOf, required, children, connections}
 use Rattle.glow_grammar.specs.Grammar.{rootElements, streams, kidsMember, linksMember, inCollection}
 use Rattle.glow_grammar.specs.Grammar as grammar
-use Rattle.glow_grammar.specs.Leaf.{both, expects, inRange, isName, isPath}
+use Rattle.glow_grammar.specs.Leaf.{expects, inRange, isName, isPath}
 use Rattle.glow_trees.specs.Content.{Content, nothing, word, bytes, wrong, isPart, isWord, intOf}
 use Rattle.glow_trees.specs.Trees.{Trees, none, tree, standsIn}
 

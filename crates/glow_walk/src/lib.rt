@@ -1,4 +1,7 @@
 // The walk through a message: its entries into the rows that there are, and no row past them.
+use base_casts::size;
+use base_casts::wide;
+use base_casts::word;
 use ber_containers::No;
 use ber_containers::Onto;
 use ber_containers::Open;
@@ -60,19 +63,6 @@ fn begin(place: usize, above: usize, count: usize) -> Cursor
     }
 }
 
-fn wide(x: u8) -> u64
-    ensures { λ r. ⌜ r ≡ x ⌝ }
-    ensures { λ r. ⌜ r < 256 ⌝ }
-{
-    x as u64
-}
-
-fn size(x: u8) -> usize
-    ensures { λ r. ⌜ r ≡ x ⌝ }
-{
-    x as usize
-}
-
 // The open container of a tag of the length l (128: indefinite), its content from `start` on in a container that ends at `end`.
 fn opened(start: usize, l: usize, end: usize) -> Open
     requires { ⌜ (l < 128 → start + l ≤ end) ⌝ }
@@ -123,12 +113,6 @@ fn close(s: &[u8], outer: Open, k: usize, w: Walked) -> Walked
             }
         }
     }
-}
-
-fn word(x: usize) -> u64
-    ensures { λ r. ⌜ r ≡ x ⌝ }
-{
-    x as u64
 }
 
 fn on(place: usize, before: u64, above: usize, count: usize) -> Turn

@@ -8,9 +8,10 @@ use borrow.Author.Tests.{leb-true}
 use lib.Dec.{T, leb, eqb}
 use lib.ListN.{length}
 use Rattle.ber_integers.specs.declared.Wrote.the-variants.{Next, Out}
-use Rattle.ber_integers.specs.Digits.{pick, put, unchanged, outcome}
+use Rattle.base_choices.specs.Choices.{pick, both}
+use Rattle.base_choices.proofs.Laws.{both-left, both-right}
+use Rattle.ber_integers.specs.Digits.{put, unchanged, outcome}
 use Rattle.ber_integers.proofs.Laws.{put-out}
-use Rattle.glow_grammar.specs.Leaf.{both}
 use Rattle.glow_trees.specs.Content.{Item}
 use Rattle.glow_trees.specs.Trees.{Trees, treesOf}
 use Rattle.glow_trees.specs.Legal.{isRoot, legal, legalRoot}
@@ -25,7 +26,6 @@ use Rattle.glow_member_sizes.proofs.Caps.{cap-in, over-tagged, tagged-over}
 use Rattle.ber_integers.proofs.Radix.{lt-or-le}
 use mathlib.Core.Logic.{⊎-elim}
 use Rattle.glow_member_sizes.proofs.Members.{tagged-length}
-use Rattle.glow_sizes.proofs.Entry.{both-left, both-right}
 use Rattle.glow_writer.proofs.Putting.{tagged-put}
 
 never : {P : Type 0} → false ≡ true → P

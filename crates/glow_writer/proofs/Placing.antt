@@ -8,11 +8,10 @@ use borrow.Author.Tests.{eq-eqb, ne-eqb, le-leb, leb-true}
 use lib.Dec.{T, leb, eqb}
 use lib.ListN.{length, take, drop, getD, length-append}
 use lib.Seq.{length-take-le, drop-drop, getD-take}
-use Rattle.ber_integers.specs.Digits.{pick}
+use Rattle.base_choices.specs.Choices.{pick, both}
 use Rattle.glow_rows.specs.Entry.{Rows}
 use Rattle.glow_grammar.specs.Grammar.{applications, ruleOf, required, children, connections}
 use Rattle.glow_grammar.specs.Grammar as grammar
-use Rattle.glow_grammar.specs.Leaf.{both}
 use Rattle.glow_trees.specs.Content.{Content, Item, itemOf, itemsOf, contentsOf}
 use Rattle.glow_trees.specs.Rows.{cellsFrom, entryOf, entriesOf, itemsIn}
 use Rattle.glow_trees.specs.Trees.{Trees, none, tree, standsIn, stands, Taken, taken, takenBy, count}

@@ -15,7 +15,9 @@ use lib.Ieee as Ieee
 use lib.Ieee.{binary64}
 use Rattle.ber_integers.specs.declared.Wrote.{Wrote}
 use Rattle.ber_integers.specs.declared.Wrote.the-variants.{Next}
-use Rattle.ber_integers.specs.Digits.{pick, Put, put, outcome}
+use Rattle.base_choices.specs.Choices.{pick, both}
+use Rattle.base_choices.proofs.Laws.{both-left, both-right}
+use Rattle.ber_integers.specs.Digits.{Put, put, outcome}
 use Rattle.ber_integers.specs.Integer.{shortest}
 use Rattle.ber_integers.proofs.Laws.{put-in}
 use Rattle.ber_integers.proofs.Radix.{lt-or-le}
@@ -27,7 +29,7 @@ use Rattle.ber_values.specs.Write.{putPart}
 use Rattle.glow_rows.specs.declared.Cell.{Cell}
 use Rattle.glow_grammar.specs.Grammar.{applications}
 use Rattle.glow_grammar.specs.Grammar as grammar
-use Rattle.glow_grammar.specs.Leaf.{both, expects}
+use Rattle.glow_grammar.specs.Leaf.{expects}
 use Rattle.glow_trees.specs.Content.{Content, nothing, word, bytes, wrong, isPart, isWord, contentOf, contentsOf, intOf}
 use Rattle.glow_trees.specs.Rows.{cellAt, cellsFrom}
 use Rattle.glow_trees.specs.Legal.{isReal, isFormed, wordSuits, suits, ruleAt, suited, inner}
@@ -37,7 +39,6 @@ use Rattle.glow_sizes.specs.Sizes.{split}
 use Rattle.glow_writer.specs.Puts.{Puts, head, heads, entryPart}
 use Rattle.glow_member_sizes.proofs.Caps.{cap-in, over-tagged}
 use Rattle.glow_member_sizes.proofs.Members.{tagged-length, outer-length, content-part, content-out, part-small, word-small, word-known}
-use Rattle.glow_sizes.proofs.Entry.{both-left, both-right}
 
 never : {P : Type 0} → false ≡ true → P
 never e = absurd (subst (λ (b : Bool). T (not b)) e tt)

@@ -6,7 +6,8 @@ use mathlib.Core.Bool.{true}
 use lib.Dec.{eqb}
 use lib.ListN.{length, drop, getD}
 use Rattle.ber_integers.specs.declared.Wrote.the-variants.{Next}
-use Rattle.ber_integers.specs.Digits.{pick, put, outcome}
+use Rattle.base_choices.specs.Choices.{pick}
+use Rattle.ber_integers.specs.Digits.{put, outcome}
 use Rattle.ber_tags.specs.Write.{lengthOctets}
 use Rattle.glow_rows.specs.Cell.{boolean, integer}
 use Rattle.glow_grammar.specs.Grammar.{children, connections, universal, context, contentsMember, set, octetOf}

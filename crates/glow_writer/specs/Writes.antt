@@ -1,7 +1,8 @@
 -- What writing a tree gives.
 use Prim.Native.Nat.{ℕ}
 use mathlib.Core.List.{List}
-use Rattle.ber_integers.specs.Digits.{pick, Put, put, unchanged}
+use Rattle.base_choices.specs.Choices.{pick}
+use Rattle.ber_integers.specs.Digits.{Put, put, unchanged}
 use Rattle.glow_trees.specs.Content.{Item}
 use Rattle.glow_trees.specs.Written.{writtenReal}
 use Rattle.glow_sizes.specs.Accepted.{octetsOf, fits}

@@ -1,15 +1,15 @@
 // The message of a tree, written forward: the sizes are kept by entry before anything is written.
+use base_casts::index;
+use base_casts::word;
 use ber_integers::Wrote;
 use glow_grammar::collections;
 use glow_grammar::tags;
 use glow_member_sizes::MESSAGE_LIMIT;
 use glow_member_sizes::around;
-use glow_member_sizes::index;
 use glow_member_sizes::int_of;
 use glow_member_sizes::is_part;
 use glow_member_sizes::place;
 use glow_member_sizes::plus;
-use glow_member_sizes::wide;
 use glow_member_sizes::word_size;
 use glow_rows::Cell;
 use glow_rows::KIND;
@@ -29,7 +29,8 @@ ghost use mathlib.Core.List.{[], _∷_};
 ghost use Prim.Native.Nat.{_+_, _-_, _%_, _≤_, _<_};
 ghost use lib.ListN.{length, getD};
 ghost use lib.Dec.{eqb};
-ghost use Rattle.ber_integers.specs.Digits.{pick, outcome};
+ghost use Rattle.base_choices.specs.Choices.{pick};
+ghost use Rattle.ber_integers.specs.Digits.{outcome};
 ghost use Rattle.glow_grammar.specs.Grammar.{applications, rootNumber, application, octetOf};
 ghost use Rattle.glow_trees.specs.Content.{contentOf};
 ghost use Rattle.glow_trees.specs.Rows.{itemsIn};
@@ -248,7 +249,7 @@ fn put_item(
     let inside = w / 65536 % 65536;
     let kids = w / 4294967296 % 65536;
     let links = w / 281474976710656 % 65536;
-    let me = wide(i) + 1;
+    let me = word(i) + 1;
     let held = plus(size, plus(wrapped_size(kids), wrapped_size(links)));
     let a = put_outer(0, tag_of(kind), held, out, at);
     let b = put_entry(rows, i, s, kind, inside, out, a);
@@ -338,7 +339,7 @@ pub fn write(rows: &[[u64; 50]], count: usize, root: u64, s: &[u8], out: &mut [u
     if MESSAGE_LIMIT < m {
         return Wrote::Out;
     }
-    if wide(out.len()) < m {
+    if word(out.len()) < m {
         return Wrote::Out;
     }
     let a = put_head(tags::ROOT_OCTET, one, out, 0);

@@ -2,6 +2,8 @@
 use crate::put;
 use crate::put::Asked;
 use crate::value;
+use base_casts::wide;
+use base_casts::word;
 use ber_identifiers::Arc;
 use ber_identifiers::Oid;
 use ber_integers::Natural;
@@ -14,14 +16,6 @@ use program_lines::print;
 use program_lines::text;
 use program_lines::text::Decimal;
 use program_lines::text::Hex;
-
-fn word(x: usize) -> u64 {
-    x as u64
-}
-
-fn wide(x: u8) -> u64 {
-    x as u64
-}
 
 pub(crate) fn show_int(x: i64) {
     let m = ber_integers::magnitude(x);

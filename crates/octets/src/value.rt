@@ -3,6 +3,8 @@ use crate::ask;
 use crate::ask::Whole;
 use crate::put;
 use crate::put::Asked;
+use base_casts::index;
+use base_casts::word;
 use ber_integers::Natural;
 use ber_values::Answer;
 use ber_values::Value;
@@ -10,14 +12,6 @@ use program_lines::print;
 use program_lines::text;
 use program_lines::text::Decimal;
 use program_lines::text::Hex;
-
-fn word(x: usize) -> u64 {
-    x as u64
-}
-
-fn place(x: u64) -> usize {
-    x as usize
-}
 
 fn wide(x: u32) -> u64 {
     x as u64
@@ -92,7 +86,7 @@ fn bound_of(line: &[u8], from: usize, end: usize) -> Decimal {
 }
 
 fn read_at(s: &[u8], at: u64, bound: u64) {
-    show(s, ber_values::read_value(s, place(at), place(bound)));
+    show(s, ber_values::read_value(s, index(at), index(bound)));
 }
 
 // The value in the octets of a line that stand from a position on.

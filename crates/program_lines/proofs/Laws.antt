@@ -9,7 +9,8 @@ use lib.ListN.{length, take, drop, getD, drop-of-length-le}
 use lib.Dec.{leb, eqb}
 use Rattle.program_lines.specs.declared.text.Decimal.{Decimal}
 use Rattle.program_lines.specs.declared.text.Decimal.the-variants.{Number, Bad}
-use Rattle.program_lines.specs.Words.{pick, clear, startsWith, digitsAfter, numberOf, numberIn}
+use Rattle.base_choices.specs.Choices.{pick}
+use Rattle.program_lines.specs.Words.{clear, startsWith, digitsAfter, numberOf, numberIn}
 
 drop-at : (s : List ℕ) (i : ℕ) → i < length s → drop i s ≡ getD s i 0 ∷ drop (i + 1) s
 drop-at [] i h = absurd (omega arith)

@@ -6,10 +6,7 @@ use lib.ListN.{length, take, drop}
 use lib.Dec.{leb, eqb}
 use Rattle.program_lines.specs.declared.text.Decimal.{Decimal}
 use Rattle.program_lines.specs.declared.text.Decimal.the-variants.{Number, Bad}
-
-abbrev pub pick : {X : Type 0} → Bool → X → X → X
-pick true a b = a
-pick false a b = b
+use Rattle.base_choices.specs.Choices.{pick}
 
 -- nothing but zeros
 unfoldable pub clear : List ℕ → Bool

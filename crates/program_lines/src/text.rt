@@ -1,4 +1,5 @@
 // The parts of a request.
+use base_casts::wide;
 ghost use mathlib.Core.Path.{_≡_};
 ghost use Prim.Native.Nat.{_+_, _*_, _≤_, _<_, min};
 ghost use Rattle.program_lines.specs.Parts.{Within};
@@ -57,12 +58,6 @@ fn octet(a: u8, b: u8) -> u64 {
         }
     }
     256
-}
-
-fn wide(x: u8) -> u64
-    ensures { λ r. ⌜ r ≡ x ⌝ }
-{
-    x as u64
 }
 
 fn narrow(x: u64) -> u8 {

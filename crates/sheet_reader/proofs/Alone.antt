@@ -8,13 +8,11 @@ use borrow.Author.Tests.{eqb-true, eq-eqb}
 use types.Run.{OneOf, miss}
 use lib.ListN.{length, getD, drop}
 use lib.Dec.{leb, eqb}
-use Rattle.ber_integers.specs.Digits.{pick}
+use Rattle.base_choices.specs.Choices.{pick, both}
 use Rattle.glow_grammar.specs.Grammar.{members, ruleOf, holds, children, connections}
-use Rattle.glow_grammar.specs.Leaf as leaf
 use Rattle.glow_trees.specs.Content.{Content, Item, item}
 use Rattle.glow_trees.specs.Trees.{Trees, none, tree, count, flat, among, standsIn}
 use Rattle.glow_trees.specs.Legal.{legal, legalRoot, isNone, isRoot, pathAfter}
-use Rattle.desk_crosspoints.specs.Figures.{both}
 use Rattle.glow_paths.specs.Paths.{numberOf, octetsOf, numbersIn, isQualified, same}
 use Rattle.desk_connections.specs.Connections.{Ask, ask, asksOf}
 use Rattle.desk_connections.proofs.Paths.{memberAt, ownPath, asksDown, asks-down, right, tests}
@@ -30,7 +28,7 @@ abbrev pub Of : List ℕ → List Ask → Type 0
 Of path [] = Unit {0}
 Of path (a ∷ later) = (a .matrix ≡ path) × Of path later
 
-first-test : (a b : Bool) → leaf.both a b ≡ true → a ≡ true
+first-test : (a b : Bool) → both a b ≡ true → a ≡ true
 first-test true b h = refl
 first-test false b h = h
 

@@ -8,14 +8,14 @@ use borrow.Author.Tests.{eq-eqb, ne-eqb}
 use lib.ListN.{length, take, drop, getD, length-take}
 use lib.Seq.{take-at}
 use lib.Dec.{eqb}
-use Rattle.ber_integers.specs.Digits.{pick}
+use Rattle.base_choices.specs.Choices.{pick, both}
 use Rattle.glow_rows.specs.Entry.{Rows}
 use Rattle.glow_rows.specs.declared.Cell.{Cell}
 use Rattle.glow_trees.specs.Content.{Item, contentOf}
 use Rattle.glow_trees.specs.Rows.{itemsIn}
 use Rattle.glow_sizes.specs.Accepted.{accepted}
 use Rattle.desk_crosspoints.specs.declared.Figures.{Figures}
-use Rattle.desk_crosspoints.specs.Figures.{mostCells, both, figuresFit, cellsOf, sizeOf}
+use Rattle.desk_crosspoints.specs.Figures.{mostCells, figuresFit, cellsOf, sizeOf}
 use Rattle.desk_crosspoints.specs.Crosspoints.{Cells, clear}
 use Rattle.desk_crosspoints.specs.Desk.{Desk, deskAt, withCells, pathFits, deskLegal, Answer, answer, deskOpened}
 use Rattle.desk_crosspoints.proofs.Laws.{fit-targets-le, fit-sources-le}
@@ -26,7 +26,7 @@ use Rattle.desk_crosspoints.proofs.Opened.{open-legal}
 use Rattle.desk_calls.specs.declared.Called.{Called}
 use Rattle.glow_rows.specs.Row.{rowCell}
 use Rattle.glow_paths.specs.Paths.{octetsOf, numbersIn, nobody}
-use Rattle.desk_calls.specs.Calls.{Served, handled, Outcome, filled, laid, called, told as answered}
+use Rattle.desk_calls.specs.Calls.{Served, handled, Outcome, filled, laid, called, outcomeOf as answered}
 use Rattle.glow_paths.proofs.Items.{in-at}
 use Rattle.desk_calls.proofs.Setup.{ready-from, called-ready}
 use Rattle.sheet_rules.specs.Reading as reading

@@ -9,12 +9,12 @@ use borrow.Author.Tests.{eqb-true, eqb-false, eq-eqb}
 use types.Run.{OneOf, hit}
 use lib.Dec.{ltb, eqb}
 use lib.ListN.{length}
-use Rattle.ber_integers.specs.Digits.{pick}
+use Rattle.base_choices.specs.Choices.{pick, both}
+use Rattle.base_choices.proofs.Laws.{pick-by, both-left, both-right}
 use Rattle.ber_integers.proofs.Radix.{Below}
 use Rattle.ber_integers.proofs.Numbers.{widen}
 use Rattle.ber_containers.specs.declared.Onto.{Onto}
 use Rattle.ber_containers.specs.declared.Onto.the-variants.{Next, Refused as Stopped}
-use Rattle.ber_containers.proofs.Heads.{pick-by}
 use Rattle.glow_rows.specs.Entry.{Entries}
 use Rattle.glow_walk.specs.Walk.{walk}
 use Rattle.glow_reader.specs.Message.{refusals}
@@ -25,10 +25,9 @@ use Rattle.glow_trees.specs.Trees.{Trees, flat}
 use Rattle.glow_trees.specs.Legal.{legalRoot}
 use Rattle.trees_accepted.proofs.Message.{is-legal}
 use Rattle.desk_crosspoints.specs.declared.Figures.{Figures}
-use Rattle.desk_crosspoints.specs.Figures.{both, figuresFit, cellsOf}
+use Rattle.desk_crosspoints.specs.Figures.{figuresFit, cellsOf}
 use Rattle.desk_crosspoints.specs.Crosspoints.{Cells, clear}
 use Rattle.desk_crosspoints.specs.Desk.{Desk, withCells, pathFits, deskLegal, answer, deskOpened}
-use Rattle.desk_crosspoints.proofs.Laws.{both-left, both-right}
 use Rattle.desk_crosspoints.proofs.Counts.{clear-length}
 use Rattle.desk_crosspoints.proofs.Paths.{desk-legal}
 use Rattle.desk_crosspoints.proofs.Opened.{open-legal}

@@ -1,4 +1,4 @@
--- The theorems of the route sheet reader, over the equation of its contract (`sheetRead text store path cells ≡ told r ..`): the sheet of every legal desk
+-- The theorems of the route sheet reader, over the equation of its contract (`sheetRead text store path cells ≡ outcomeOf r ..`): the sheet of every legal desk
 -- is read back as that desk, a desk that was read is legal, a refusal leaves path and crosspoints as they were, and SETUP and a bad line the store too.
 use Prim.Native.Nat.{ℕ}
 use mathlib.Core.Path.{_≡_, refl, sym, ap, _∙_}
@@ -11,12 +11,13 @@ use lib.ListN.{length, take, drop}
 use lib.Seq.{take-at, drop-at}
 use Rattle.ber_containers.specs.declared.Onto.{Onto}
 use Rattle.ber_containers.specs.declared.Onto.the-variants.{Next, Refused as Stopped}
-use Rattle.ber_containers.proofs.Heads.{pick-by}
+use Rattle.base_choices.specs.Choices.{both}
+use Rattle.base_choices.proofs.Laws.{pick-by}
 use Rattle.glow_rows.specs.Entry.{Entries}
 use Rattle.glow_trees.specs.Content.{Item, itemsOf}
 use Rattle.glow_walk.specs.Walk.{walk}
 use Rattle.desk_crosspoints.specs.declared.Figures.{Figures}
-use Rattle.desk_crosspoints.specs.Figures.{mostCells, both, cellsOf}
+use Rattle.desk_crosspoints.specs.Figures.{mostCells, cellsOf}
 use Rattle.desk_crosspoints.specs.Crosspoints.{Cells}
 use Rattle.desk_crosspoints.specs.Desk.{Desk, deskAt, withCells, deskLegal, deskOpened}
 use Rattle.desk_crosspoints.proofs.Legal.{legal-length}
@@ -35,7 +36,7 @@ use Rattle.sheet_stream.specs.Finding.{storeAfter}
 use Rattle.sheet_stream.proofs.Lines.{lines-bad}
 use Rattle.sheet_reader.specs.declared.Sheet.{Sheet}
 use Rattle.sheet_reader.specs.declared.Sheet.the-variants.{Setup, Refused, Read}
-use Rattle.sheet_reader.specs.Calls.{Given, Outcome, outcome, setup, none, leaves, isReady, sheetRead, told}
+use Rattle.sheet_reader.specs.Calls.{Given, Outcome, outcome, setup, none, leaves, isReady, sheetRead, outcomeOf}
 use Rattle.sheet_reader.specs.Calls as calls
 
 -- What is lent has the lengths that the reader asks.
@@ -69,7 +70,7 @@ lengthOr none = 0
 lengthOr (calls.desk g n) = n
 
 read-as : (d : Desk) (store path : List ℕ) (cells : Cells) (r : Sheet) (store′ path′ : List ℕ) (cells′ : Cells)
-    → leaves (reading.read d) store path cells ≡ told r store′ path′ cells′ → ReadAs d r path path′ cells cells′
+    → leaves (reading.read d) store path cells ≡ outcomeOf r store′ path′ cells′ → ReadAs d r path path′ cells cells′
 read-as d store path cells Setup store′ path′ cells′ e =
     let x : calls.desk (d .figures) (length (d .path)) ≡ setup = ap (λ (o : Outcome). o .given) e in
     let z : _≡_ {A = ℕ} 0 1 = cc in
@@ -94,7 +95,7 @@ read-as d store path cells (Read f m) store′ path′ cells′ e =
 
 module _ (text store path : List ℕ) (cells : Cells) (lent : Ready store path cells) (r : Sheet)
     (store′ path′ : List ℕ) (cells′ : Cells)
-    (call : sheetRead text store path cells ≡ told r store′ path′ cells′) where
+    (call : sheetRead text store path cells ≡ outcomeOf r store′ path′ cells′) where
   -- 1. The sheet of a legal desk is read back as that desk.
   pub read-back : (d : Desk) → deskLegal d ≡ true → text ≡ sheetOf d → ReadAs d r path path′ cells cells′
   read-back d ok e =
@@ -144,7 +145,7 @@ read-legal text = held-legal (heldIn (linesIn text))
 
 -- what an answer that names a desk tells
 by-sheet : (x : reading.Sheet) → Legal x → (store path : List ℕ) (cells : Cells) (f : Figures) (n : ℕ) (store′ path′ : List ℕ) (cells′ : Cells)
-    → leaves x store path cells ≡ told (Read f n) store′ path′ cells′ → deskLegal (deskAt f (take n path′) (take (cellsOf f) cells′)) ≡ true
+    → leaves x store path cells ≡ outcomeOf (Read f n) store′ path′ cells′ → deskLegal (deskAt f (take n path′) (take (cellsOf f) cells′)) ≡ true
 by-sheet (refused k) l store path cells f n store′ path′ cells′ e =
     let x : none ≡ calls.desk f n = ap (λ (o : Outcome). o .given) e in
     let z : _≡_ {A = ℕ} 0 1 = cc in
@@ -169,10 +170,10 @@ module _ (text store path : List ℕ) (cells : Cells) where
   by-ready P a b = pick-by P (isReady store path cells) (λ h. a) (λ h. b)
 
   pub desk-read-legal : (f : Figures) (n : ℕ) (store′ path′ : List ℕ) (cells′ : Cells)
-      → sheetRead text store path cells ≡ told (Read f n) store′ path′ cells′
+      → sheetRead text store path cells ≡ outcomeOf (Read f n) store′ path′ cells′
       → deskLegal (deskAt f (take n path′) (take (cellsOf f) cells′)) ≡ true
   desk-read-legal f n store′ path′ cells′ =
-      by-ready (λ (o : Outcome). o ≡ told (Read f n) store′ path′ cells′ → deskLegal (deskAt f (take n path′) (take (cellsOf f) cells′)) ≡ true)
+      by-ready (λ (o : Outcome). o ≡ outcomeOf (Read f n) store′ path′ cells′ → deskLegal (deskAt f (take n path′) (take (cellsOf f) cells′)) ≡ true)
       (by-sheet (readSheet text) (read-legal text) (storeAfter (linesIn text) store) path cells f n store′ path′ cells′)
       (λ e.
       let x : setup ≡ calls.desk f n = ap (λ (o : Outcome). o .given) e in
@@ -181,7 +182,7 @@ module _ (text store path : List ℕ) (cells : Cells) where
 
   -- 3. A refusal leaves path and crosspoints as they were, and the store as the lines' bytes leave it.
   as-was : (x : reading.Sheet) (s : List ℕ) (n : ℕ) (store′ path′ : List ℕ) (cells′ : Cells)
-      → leaves x s path cells ≡ told (Refused n) store′ path′ cells′ → (store′ ≡ s) × ((path′ ≡ path) × (cells′ ≡ cells))
+      → leaves x s path cells ≡ outcomeOf (Refused n) store′ path′ cells′ → (store′ ≡ s) × ((path′ ≡ path) × (cells′ ≡ cells))
   as-was (refused k) s n store′ path′ cells′ e =
       (sym (ap (λ (o : Outcome). o .store) e), (sym (ap (λ (o : Outcome). o .path) e), sym (ap (λ (o : Outcome). o .cells) e)))
   as-was (reading.read d) s n store′ path′ cells′ e =
@@ -189,11 +190,11 @@ module _ (text store path : List ℕ) (cells : Cells) where
       let z : _≡_ {A = ℕ} 0 1 = cc in
       absurd (omega arith)
 
-  pub refused-as-was : (n : ℕ) (store′ path′ : List ℕ) (cells′ : Cells) → sheetRead text store path cells ≡ told (Refused n) store′ path′ cells′
+  pub refused-as-was : (n : ℕ) (store′ path′ : List ℕ) (cells′ : Cells) → sheetRead text store path cells ≡ outcomeOf (Refused n) store′ path′ cells′
       → (store′ ≡ storeAfter (linesIn text) store) × ((path′ ≡ path) × (cells′ ≡ cells))
   refused-as-was n store′ path′ cells′ =
       by-ready
-      (λ (o : Outcome). o ≡ told (Refused n) store′ path′ cells′ → (store′ ≡ storeAfter (linesIn text) store) × ((path′ ≡ path) × (cells′ ≡ cells)))
+      (λ (o : Outcome). o ≡ outcomeOf (Refused n) store′ path′ cells′ → (store′ ≡ storeAfter (linesIn text) store) × ((path′ ≡ path) × (cells′ ≡ cells)))
       (as-was (readSheet text) (storeAfter (linesIn text) store) n store′ path′ cells′)
       (λ e.
       let x : setup ≡ none = ap (λ (o : Outcome). o .given) e in
@@ -201,7 +202,7 @@ module _ (text store path : List ℕ) (cells : Cells) where
       absurd (omega arith))
 
   -- 4. SETUP leaves everything as it was.
-  not-read : (x : reading.Sheet) (s store′ path′ : List ℕ) (cells′ : Cells) → leaves x s path cells ≡ told Setup store′ path′ cells′ → ⊥
+  not-read : (x : reading.Sheet) (s store′ path′ : List ℕ) (cells′ : Cells) → leaves x s path cells ≡ outcomeOf Setup store′ path′ cells′ → ⊥
   not-read (refused k) s store′ path′ cells′ e =
       let x : none ≡ setup = ap (λ (o : Outcome). o .given) e in
       let z : _≡_ {A = ℕ} 0 1 = cc in
@@ -211,15 +212,15 @@ module _ (text store path : List ℕ) (cells : Cells) where
       let z : _≡_ {A = ℕ} 0 1 = cc in
       omega arith
 
-  pub setup-as-was : (store′ path′ : List ℕ) (cells′ : Cells) → sheetRead text store path cells ≡ told Setup store′ path′ cells′
+  pub setup-as-was : (store′ path′ : List ℕ) (cells′ : Cells) → sheetRead text store path cells ≡ outcomeOf Setup store′ path′ cells′
       → (store′ ≡ store) × ((path′ ≡ path) × (cells′ ≡ cells))
   setup-as-was store′ path′ cells′ =
-      by-ready (λ (o : Outcome). o ≡ told Setup store′ path′ cells′ → (store′ ≡ store) × ((path′ ≡ path) × (cells′ ≡ cells)))
+      by-ready (λ (o : Outcome). o ≡ outcomeOf Setup store′ path′ cells′ → (store′ ≡ store) × ((path′ ≡ path) × (cells′ ≡ cells)))
       (λ e. absurd (not-read (readSheet text) (storeAfter (linesIn text) store) store′ path′ cells′ e))
       (λ e. (sym (ap (λ (o : Outcome). o .store) e), (sym (ap (λ (o : Outcome). o .path) e), sym (ap (λ (o : Outcome). o .cells) e))))
 
   -- 5. "12 for any bad line", and everything as it was: the text is judged before a byte of it is fed.
-  pub bad-as-was : Ready store path cells → isBad (linesIn text) ≡ true → sheetRead text store path cells ≡ told (Refused 12) store path cells
+  pub bad-as-was : Ready store path cells → isBad (linesIn text) ≡ true → sheetRead text store path cells ≡ outcomeOf (Refused 12) store path cells
   unfolding readSheet
   bad-as-was lent h =
       ready-reads text store path cells lent

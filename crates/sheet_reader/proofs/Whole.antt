@@ -7,7 +7,8 @@ use borrow.Author.Tests.{eq-eqb, ne-eqb}
 use lib.Dec.{eqb}
 use lib.ListN.{length, take}
 use Rattle.framing_content.specs.Numbers.{storeLength}
-use Rattle.desk_crosspoints.specs.Figures.{mostCells, both}
+use Rattle.base_choices.specs.Choices.{both}
+use Rattle.desk_crosspoints.specs.Figures.{mostCells}
 use Rattle.sheet_rules.specs.Lines.{linesIn}
 use Rattle.sheet_rules.specs.Reading.{Held, refusal, message, heldIn, ofHeld, ofMessage, readSheet}
 use Rattle.sheet_stream.specs.declared.Found.{Found}
@@ -17,7 +18,7 @@ use Rattle.sheet_stream.proofs.Answers as answers
 use Rattle.sheet_stream.specs.Finding.{holds, storeAfter, finds, foundBy}
 use Rattle.sheet_reader.specs.declared.Sheet.{Sheet}
 use Rattle.sheet_reader.specs.declared.Sheet.the-variants.{Setup, Refused}
-use Rattle.sheet_reader.specs.Calls.{setup, Outcome, outcome, leaves, isReady, sheetRead, told}
+use Rattle.sheet_reader.specs.Calls.{setup, Outcome, outcome, leaves, isReady, sheetRead, outcomeOf}
 use Rattle.sheet_reader.specs.Steps.{Tells}
 
 both-no : (a b : Bool) → b ≡ false → both a b ≡ false
@@ -34,17 +35,17 @@ module _ (text store : List ℕ) (path cells : List ℕ) where
 
   -- ---- "1 SETUP, first of all"
 
-  pub setup-path : (length path ≡ 16 → ⊥) → whole ≡ told Setup store path cells
+  pub setup-path : (length path ≡ 16 → ⊥) → whole ≡ outcomeOf Setup store path cells
   unfolding isReady
   setup-path h = not-ready (both-no (eqb (length store) storeLength) _ (rw (ne-eqb _ _ h)))
 
   module _ (p : length path ≡ 16) where
-    pub setup-cells : (length cells ≡ mostCells → ⊥) → whole ≡ told Setup store path cells
+    pub setup-cells : (length cells ≡ mostCells → ⊥) → whole ≡ outcomeOf Setup store path cells
     unfolding isReady
     setup-cells h = not-ready (both-no (eqb (length store) storeLength) _ (rw (eq-eqb _ _ p, ne-eqb _ _ h)))
 
     module _ (c : length cells ≡ mostCells) where
-      setup-store : (length store ≡ storeLength → ⊥) → whole ≡ told Setup store path cells
+      setup-store : (length store ≡ storeLength → ⊥) → whole ≡ outcomeOf Setup store path cells
       unfolding isReady
       setup-store h = not-ready (rw (ne-eqb _ _ h))
 
@@ -54,7 +55,7 @@ module _ (text store : List ℕ) (path cells : List ℕ) where
 
       module _ (r : Found) (store′ : List ℕ) (q : finds text store ≡ foundBy r store′) where
         -- the store
-        pub found-setup : r ≡ found.Setup → whole ≡ told Setup store′ path cells
+        pub found-setup : r ≡ found.Setup → whole ≡ outcomeOf Setup store′ path cells
         found-setup h =
             let k = answers.found-setup text store store′ (q ∙ ap (λ (y : Found). foundBy y store′) h) in
             setup-store (k .0) ∙ ap (λ (s : List ℕ). outcome 1 setup s path cells) (k .1)
@@ -69,7 +70,7 @@ module _ (text store : List ℕ) (path cells : List ℕ) where
             )
 
         -- the first half's refusals
-        pub found-refused : (n : ℕ) → r ≡ found.Refused n → whole ≡ told (Refused n) store′ path cells
+        pub found-refused : (n : ℕ) → r ≡ found.Refused n → whole ≡ outcomeOf (Refused n) store′ path cells
         found-refused n h = held (refusal n) (ap (λ (y : Found). foundBy y store′) h) .1
 
         -- a message
@@ -83,5 +84,5 @@ module _ (text store : List ℕ) (path cells : List ℕ) where
           message-short = held-short text (take k store′) (holds-message .0)
 
           pub message-told : (x : Sheet) (path′ cells′ : List ℕ) → Tells (ofMessage (take k store′)) path cells x path′ cells′
-              → whole ≡ told x store′ path′ cells′
+              → whole ≡ outcomeOf x store′ path′ cells′
           message-told x path′ cells′ t = holds-message .1 ∙ t store′

@@ -5,10 +5,10 @@ use mathlib.Core.List.{List, [], _∷_, _++_}
 use mathlib.Core.Bool.{Bool}
 use lib.ListN.{length, drop}
 use lib.Dec.{eqb}
-use Rattle.ber_integers.specs.Digits.{pick}
+use Rattle.base_choices.specs.Choices.{pick, both}
 use Rattle.framing_content.specs.Numbers.{storeLength}
 use Rattle.desk_crosspoints.specs.declared.Figures.{Figures}
-use Rattle.desk_crosspoints.specs.Figures.{mostCells, both}
+use Rattle.desk_crosspoints.specs.Figures.{mostCells}
 use Rattle.desk_crosspoints.specs.Crosspoints.{Cells}
 use Rattle.sheet_rules.specs.Lines.{linesIn}
 use Rattle.sheet_rules.specs.Reading as reading
@@ -52,10 +52,10 @@ sheetRead text store path cells =
     pick (isReady store path cells) (leaves (readSheet text) (storeAfter (linesIn text) store) path cells) (outcome 1 setup store path cells)
 
 -- what each case of the answer says, beside what the call leaves
-abbrev pub told : Sheet → List ℕ → List ℕ → Cells → Outcome
-told Setup store path cells = outcome 1 setup store path cells
-told (Refused n) store path cells = outcome n none store path cells
-told (Read f n) store path cells = outcome 0 (desk f n) store path cells
+abbrev pub outcomeOf : Sheet → List ℕ → List ℕ → Cells → Outcome
+outcomeOf Setup store path cells = outcome 1 setup store path cells
+outcomeOf (Refused n) store path cells = outcome n none store path cells
+outcomeOf (Read f n) store path cells = outcome 0 (desk f n) store path cells
 
 -- The rows of "Numbers answered" that refuse a sheet: the events from 10 up, 12 for a bad line among them; the tree's, 38 ROOM, and 33 once more; the desk's but 40 MATRIX,
 -- since all the connections name the one matrix.

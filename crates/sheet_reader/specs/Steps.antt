@@ -5,7 +5,7 @@ use mathlib.Core.List.{List, [], _∷_}
 use mathlib.Core.Bool.{Bool, false}
 use lib.ListN.{length, take, getD}
 use lib.Dec.{eqb}
-use Rattle.ber_integers.specs.Digits.{pick}
+use Rattle.base_choices.specs.Choices.{pick, both}
 use Rattle.glow_rows.specs.Entry.{Rows}
 use Rattle.glow_grammar.specs.Grammar.{qualifiedMatrix}
 use Rattle.glow_trees.specs.Content.{Item, itemOf}
@@ -16,13 +16,12 @@ use Rattle.glow_entries.specs.declared.Number.the-variants.{Absent as NoNumber,
 use Rattle.desk_crosspoints.specs.declared.Limit.{Limit}
 use Rattle.desk_crosspoints.specs.declared.Limit.the-variants.{Absent, Most}
 use Rattle.desk_crosspoints.specs.declared.Figures.{Figures}
-use Rattle.desk_crosspoints.specs.Figures.{both}
 use Rattle.desk_crosspoints.specs.Crosspoints.{Cells}
 use Rattle.desk_crosspoints.specs.Desk.{deskAt}
 use Rattle.sheet_rules.specs.Reading as reading
 use Rattle.sheet_rules.specs.Reading.{refused, read, allLinks}
 use Rattle.sheet_reader.specs.declared.Sheet.{Sheet}
-use Rattle.sheet_reader.specs.Calls.{leaves, told}
+use Rattle.sheet_reader.specs.Calls.{leaves, outcomeOf}
 
 -- the entry in the first row
 abbrev pub firstOf : List ℕ → Rows → Item
@@ -47,6 +46,6 @@ pub record Taken (xs : List ℕ) (r : ℕ) (list : List ℕ) : Type 0 where
 unfoldable pub sheetBy : ℕ → Figures → List ℕ → Cells → reading.Sheet
 sheetBy n f path cells = pick (eqb n 0) (read (deskAt f path cells)) (refused n)
 
--- what reading gives is told, whatever the store holds
+-- what reading gives is outcomeOf, whatever the store holds
 abbrev pub Tells : reading.Sheet → List ℕ → Cells → Sheet → List ℕ → Cells → Type 0
-Tells x path cells r path′ cells′ = (store : List ℕ) → leaves x store path cells ≡ told r store path′ cells′
+Tells x path cells r path′ cells′ = (store : List ℕ) → leaves x store path cells ≡ outcomeOf r store path′ cells′

@@ -1,4 +1,5 @@
 // The route sheet reader: from a sheet's text to a desk, or the first refusal.
+use base_casts::wide;
 use desk_crosspoints::Figures;
 use desk_crosspoints::Limit;
 use desk_crosspoints::SIDE;
@@ -22,7 +23,7 @@ ghost use Rattle.glow_sizes.specs.Accepted.{accepted};
 ghost use Rattle.desk_crosspoints.specs.Figures.{mostCells, sizeOf};
 ghost use Rattle.glow_paths.specs.Paths.{octetsOf, numbersIn};
 ghost use Rattle.sheet_rules.specs.Reading.{firstRefused, figuresIn, opens, ofEntries, ofMessage};
-ghost use Rattle.sheet_reader.specs.Calls.{sheetRead, told};
+ghost use Rattle.sheet_reader.specs.Calls.{sheetRead, outcomeOf};
 ghost use Rattle.sheet_reader.specs.Steps.{firstOf, limitFrom, isSheet, Taken, sheetBy, Tells};
 
 // As many cells as the largest desk has.
@@ -121,12 +122,6 @@ fn path_of(s: &[u8], v: Cell, list: &mut [u64]) -> usize
     numbers_of(&s[start..end], list)
 }
 
-fn word(b: u8) -> u64
-    ensures { λ r. ⌜ r ≡ b ⌝ }
-{
-    b as u64
-}
-
 // The first answer that is a refusal, 0 where there is none.
 fn first_refused(answers: &[u8]) -> u64
     ensures { λ r. ⌜ firstRefused (now (answers .entry)) ≡ r ⌝ }
@@ -134,7 +129,7 @@ fn first_refused(answers: &[u8]) -> u64
     let mut j: usize = 0;
     while j < answers.len() {
         if answers[j] != 0 {
-            return word(answers[j]);
+            return wide(answers[j]);
         }
         j += 1;
     }
@@ -310,7 +305,7 @@ fn of_message(m: &[u8], path: &mut [u64], crosspoints: &mut [u8]) -> Sheet
 // after any other answer it is as a session leaves it that is fed the sheet's bytes, up to and including that of the first event from 10 up, or all of them.
 pub fn read(text: &[u8], store: &mut [u8], path: &mut [u64], crosspoints: &mut [u8]) -> Sheet
     ensures { λ r. ⌜ sheetRead (now (text .entry)) (now (store .entry)) (now (path .entry)) (now (crosspoints .entry))
-        ≡ told r (now (store .exit)) (now (path .exit)) (now (crosspoints .exit)) ⌝ }
+        ≡ outcomeOf r (now (store .exit)) (now (path .exit)) (now (crosspoints .exit)) ⌝ }
 {
     if path.len() != 16 {
         return Sheet::Setup;

@@ -6,7 +6,7 @@ use mathlib.Core.Bool.{Bool, true, false}
 use native.Mathlib.Omega.{arith}
 use lib.ListN.{length, take, drop, length-take, length-drop}
 use lib.Dec.{leb, eqb}
-use Rattle.ber_integers.specs.Digits.{pick}
+use Rattle.base_choices.specs.Choices.{pick}
 use Rattle.framing_content.specs.declared.Fault.the-variants.{Big}
 use Rattle.framing_content.specs.declared.Content.{Content}
 use Rattle.framing_content.specs.declared.Content.the-variants.{Refused, Request, Response, Piece}
@@ -42,7 +42,7 @@ pieces-out true last′ p (part xs) = joins-out last′ true p
 pieces-out false last′ p none = refl
 pieces-out false last′ p (part xs) = either (leb (length xs + length p) messageLimit)
   where
-    either : (t : Bool) → Out (framing.pick t (joins last′ false (xs ++ p)) (refuses Big outside (part xs)))
+    either : (t : Bool) → Out (pick t (joins last′ false (xs ++ p)) (refuses Big outside (part xs)))
     either true = joins-out last′ false (xs ++ p)
     either false = refl
 

@@ -8,7 +8,7 @@ use native.Mathlib.Omega.{arith}
 use borrow.Author.Tests.{eqb-true, eqb-false, eq-eqb, ne-eqb, lt-ltb, le-ltb, le-leb, leb-true}
 use lib.ListN.{length, take, drop, getD, set, length-append}
 use lib.Dec.{leb, ltb, eqb}
-use Rattle.ber_integers.specs.Digits.{pick}
+use Rattle.base_choices.specs.Choices.{pick}
 use Rattle.ber_integers.proofs.Radix.{lt-or-le}
 use Rattle.desk_crosspoints.specs.Crosspoints.{Cells, bit, count, clear, holders, takenFrom}
 use Rattle.desk_requests.specs.Request.{marked, named, allBelow}

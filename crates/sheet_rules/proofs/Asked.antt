@@ -8,7 +8,8 @@ use native.Mathlib.Omega.{arith}
 use borrow.Author.Tests.{eq-eqb, le-leb, leb-true}
 use lib.ListN.{length, getD, drop}
 use lib.Dec.{leb, eqb}
-use Rattle.ber_integers.specs.Digits.{pick}
+use Rattle.base_choices.specs.Choices.{pick, both}
+use Rattle.base_choices.proofs.Laws.{both-left, both-right}
 use Rattle.ber_identifiers.specs.Identifier.{Arcs, numbers, arcs, oidOctets, inRange}
 use Rattle.ber_identifiers.proofs.RoundTrip.{arcs-read}
 use Rattle.glow_grammar.specs.Grammar.{qualifiedMatrix, connection}
@@ -17,10 +18,10 @@ use Rattle.glow_trees.specs.Trees.{Trees, none, tree, flat, count}
 use Rattle.desk_crosspoints.specs.declared.Limit.{Limit}
 use Rattle.desk_crosspoints.specs.declared.Limit.the-variants.{Absent, Most}
 use Rattle.desk_crosspoints.specs.declared.Figures.{Figures}
-use Rattle.desk_crosspoints.specs.Figures.{side, both, figuresFit, cellsOf}
+use Rattle.desk_crosspoints.specs.Figures.{side, figuresFit, cellsOf}
 use Rattle.desk_crosspoints.specs.Crosspoints.{Cells, rowAt, clear, withRow, legal}
 use Rattle.desk_crosspoints.specs.Desk.{Desk, deskAt, withCells, allNumbers, pathFits, deskLegal, answer, deskOpened}
-use Rattle.desk_crosspoints.proofs.Laws.{both-left, both-right, fit-targets-le, fit-sources-le}
+use Rattle.desk_crosspoints.proofs.Laws.{fit-targets-le, fit-sources-le}
 use Rattle.desk_crosspoints.proofs.Legal.{legal-fit}
 use Rattle.desk_crosspoints.proofs.Counts.{clear-length}
 use Rattle.desk_crosspoints.proofs.Under.{take-short}

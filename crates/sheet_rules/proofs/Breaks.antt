@@ -9,7 +9,6 @@ use borrow.Author.Tests.{ne-eqb}
 use lib.Bits.{bitXor, xor-block, xor-zero-r}
 use lib.ListN.{length, take, drop}
 use lib.Dec.{eqb}
-use Rattle.ber_integers.specs.Digits.{pick}
 use Rattle.ber_integers.proofs.Radix.{lt-or-le}
 use Rattle.framing_checksum.specs.Checksum.{checksum, octetsOf}
 use Rattle.framing_packets.specs.Written.{escape, escapes, sealed, frame, flags, header, packetBody, packet, packets, payloadLimit, earlier, inPackets}

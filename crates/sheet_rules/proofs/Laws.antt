@@ -10,7 +10,7 @@ use borrow.Author.Tests.{lt-ltb, le-ltb, eq-eqb, ne-eqb}
 use lib.ListN.{length, take, drop, getD, drop-of-length-le}
 use lib.Seq.{drop-cons}
 use lib.Dec.{ltb, eqb}
-use Rattle.ber_integers.specs.Digits.{pick}
+use Rattle.base_choices.specs.Choices.{pick}
 use Rattle.sheet_rules.specs.Sheet.{glyphOf, broken, breaks}
 use Rattle.sheet_rules.specs.Lines.{digitOf, Stream, bad, stream, push, Come, fresh, pairs, half, linesFrom, linesIn, isBad}
 use Rattle.sheet_rules.specs.Steps.{stepLine, badFrom, comes}

@@ -9,7 +9,8 @@ use borrow.Author.Tests.{le-leb, leb-true, lt-ltb}
 use lib.ListN.{length, drop, length-append}
 use lib.Dec.{leb, eqb}
 use lib.IntN.{pos}
-use Rattle.ber_integers.specs.Digits.{pick, digits}
+use Rattle.base_choices.specs.Choices.{pick, both}
+use Rattle.ber_integers.specs.Digits.{digits}
 use Rattle.ber_integers.specs.Digits as digit
 use Rattle.ber_integers.specs.Integer.{shortest}
 use Rattle.ber_integers.proofs.Radix.{Below, lt-or-le, digits-below, count-least}
@@ -28,7 +29,7 @@ use Rattle.trees_round_trip.proofs.Octets.{PartOctets, PartsOctets, Octets}
 use Rattle.desk_crosspoints.specs.declared.Limit.{Limit}
 use Rattle.desk_crosspoints.specs.declared.Limit.the-variants.{Absent, Most}
 use Rattle.desk_crosspoints.specs.declared.Figures.{Figures}
-use Rattle.desk_crosspoints.specs.Figures.{side, both, isLimit, figuresFit}
+use Rattle.desk_crosspoints.specs.Figures.{side, isLimit, figuresFit}
 use Rattle.desk_crosspoints.specs.Crosspoints.{Cells, rowAt}
 use Rattle.desk_crosspoints.specs.Desk.{Desk, deskLegal}
 use Rattle.desk_crosspoints.proofs.Laws.{fit-targets-le, fit-sources-le, fit-kind-le}

@@ -8,10 +8,10 @@ use native.Mathlib.Omega.{arith}
 use borrow.Author.Tests.{eqb-true, eqb-false, eq-eqb, ne-eqb, lt-ltb, le-ltb, le-leb, leb-true}
 use lib.ListN.{length, getD, List·getD-eq-default}
 use lib.Dec.{leb, ltb, eqb}
-use Rattle.ber_integers.specs.Digits.{pick}
+use Rattle.base_choices.specs.Choices.{pick, both}
 use Rattle.ber_integers.proofs.Radix.{lt-or-le}
 use Rattle.desk_crosspoints.specs.declared.Figures.{Figures}
-use Rattle.desk_crosspoints.specs.Figures.{both, cellsOf, mostEach, mostTotal}
+use Rattle.desk_crosspoints.specs.Figures.{cellsOf, mostEach, mostTotal}
 use Rattle.desk_crosspoints.specs.Crosspoints.{Cells, bit, count, clear, rowAt, withRow, holders, takenFrom, legal}
 use Rattle.desk_crosspoints.specs.Desk.{Desk, withCells, answer}
 use Rattle.desk_requests.specs.Request.{Request, request, named, allBelow, others, rowAfter, judged, requested}

@@ -9,7 +9,7 @@ use borrow.Author.Tests.{lt-ltb, le-ltb, ne-eqb}
 use lib.ListN.{length, take, drop}
 use lib.Bits.{bitXor, xor-block, xor-zero-r}
 use lib.Dec.{eqb}
-use Rattle.ber_integers.specs.Digits.{pick}
+use Rattle.base_choices.specs.Choices.{pick}
 use Rattle.ber_integers.proofs.Radix.{lt-or-le}
 use Rattle.framing_content.specs.Numbers as framing
 use Rattle.framing_content.specs.Numbers.{messageLimit}
@@ -155,7 +155,7 @@ pub frame-bytes : (xs : List ℕ) → Bytes xs → Bytes (frame xs)
 unfolding frame
 frame-bytes xs h = (omega arith, frame-tail xs h)
 
-pub flags-small : (a b e : Bool) → framing.pick a 0x80 0 + framing.pick b 0x40 0 + framing.pick e 0x20 0 < 256
+pub flags-small : (a b e : Bool) → pick a 0x80 0 + pick b 0x40 0 + pick e 0x20 0 < 256
 flags-small true true true = omega arith
 flags-small true true false = omega arith
 flags-small true false true = omega arith

@@ -8,7 +8,8 @@ use borrow.Author.Tests.{le-leb, lt-ltb, ne-eqb, leb-true}
 use lib.ListN.{length}
 use lib.Dec.{leb, ltb, eqb}
 use lib.IntN.{pos}
-use Rattle.ber_integers.specs.Digits.{pick}
+use Rattle.base_choices.specs.Choices.{pick, both}
+use Rattle.base_choices.proofs.Laws.{both-left, both-right, both-make}
 use Rattle.ber_identifiers.specs.Identifier.{Arcs, numbers, arcs, oidOctets}
 use Rattle.ber_identifiers.specs.Identifier as oid
 use Rattle.glow_grammar.specs.Leaf.{expects, inRange, least, most, allPositive, isPath}
@@ -16,13 +17,12 @@ use Rattle.glow_trees.specs.Content.{Content, nothing, word, bytes, intOf}
 use Rattle.glow_trees.specs.Legal.{wordSuits, partSuits, pathSuits, listSuits, suits, suited, ruleAt, complete, pathAfter, empty, inner, lengthOf, legal, legalRoot}
 use Rattle.glow_trees.specs.Trees.{Trees, none, tree, among, count}
 use Rattle.glow_grammar.specs.Grammar.{ruleOf, members, contentsOf, contentsRows, holds, required, requirements}
-use Rattle.trees_accepted.proofs.Bools.{never, both-make}
+use Rattle.trees_accepted.proofs.Bools.{never}
 use Rattle.desk_crosspoints.specs.declared.Limit.{Limit}
 use Rattle.desk_crosspoints.specs.declared.Limit.the-variants.{Absent, Most}
 use Rattle.desk_crosspoints.specs.declared.Figures.{Figures}
-use Rattle.desk_crosspoints.specs.Figures.{side, both, isCount, isLimit, figuresFit}
+use Rattle.desk_crosspoints.specs.Figures.{side, isCount, isLimit, figuresFit}
 use Rattle.desk_crosspoints.specs.Desk.{Desk, allNumbers, pathFits, deskLegal}
-use Rattle.desk_crosspoints.proofs.Laws as crosspoints
 use Rattle.desk_crosspoints.proofs.Laws.{fit-counts, fit-targets-le, fit-sources-le, fit-kind-le}
 use Rattle.sheet_rules.specs.Sheet.{number, identifier, list, limit, leftOut, linkMembers, matrixMembers, sourcesAt, links, sheetTree}
 use Rattle.sheet_rules.proofs.Asked.{arcs-back, row-range, path-ok, figures-ok, targets-few, sources-few, path-small}
@@ -59,7 +59,7 @@ path-suits ns r p = ap pathSuits (arcs-back ns r) ∙ p
 limit-suits : (l : Limit) → isLimit l ≡ true → suits 8 (limit l) ≡ true
 unfolding suits
 limit-suits Absent e = refl
-limit-suits (Most n) e = from0-suits n (leb-true n 2147483647 (crosspoints.both-right (leb 1 n) (leb n 2147483647) e))
+limit-suits (Most n) e = from0-suits n (leb-true n 2147483647 (both-right (leb 1 n) (leb n 2147483647) e))
 
 positive : (ns : List ℕ) → allNumbers ns ≡ true → allPositive ns ≡ true
 unfolding allNumbers allPositive
@@ -75,18 +75,18 @@ positive (n ∷ ns) e = go (leb 1 n) refl (leb n 2147483647) e (positive ns)
 pub is-path : (ns : List ℕ) → pathFits ns ≡ true → isPath ns ≡ true
 unfolding pathFits isPath
 is-path ns e =
-    let a = crosspoints.both-left (both (leb 1 (length ns)) (leb (length ns) 16)) (allNumbers ns) e in
-    let l = leb-true 1 (length ns) (crosspoints.both-left (leb 1 (length ns)) (leb (length ns) 16) a) in
+    let a = both-left (both (leb 1 (length ns)) (leb (length ns) 16)) (allNumbers ns) e in
+    let l = leb-true 1 (length ns) (both-left (leb 1 (length ns)) (leb (length ns) 16) a) in
     let p : 0 < length ns = omega arith in
     both-make _ _ (lt-ltb _ _ p)
-    (both-make _ _ (crosspoints.both-right (leb 1 (length ns)) (leb (length ns) 16) a)
-    (positive ns (crosspoints.both-right (both (leb 1 (length ns)) (leb (length ns) 16)) (allNumbers ns) e)))
+    (both-make _ _ (both-right (leb 1 (length ns)) (leb (length ns) 16) a)
+    (positive ns (both-right (both (leb 1 (length ns)) (leb (length ns) 16)) (allNumbers ns) e)))
 
 pub path-short : (ns : List ℕ) → pathFits ns ≡ true → length ns ≤ 16
 unfolding pathFits
 path-short ns e =
     leb-true (length ns) 16
-    (crosspoints.both-right (leb 1 (length ns)) (leb (length ns) 16) (crosspoints.both-left (both (leb 1 (length ns)) (leb (length ns) 16)) (allNumbers ns) e))
+    (both-right (leb 1 (length ns)) (leb (length ns) 16) (both-left (both (leb 1 (length ns)) (leb (length ns) 16)) (allNumbers ns) e))
 
 -- ---- members
 
@@ -96,16 +96,16 @@ link-suited t ns h r = both-make _ _ (from0-suits t h) (both-make _ _ (list-suit
 
 module _ (f : Figures) (fit : figuresFit f ≡ true) where
   rest2 : both (isCount (f .sources)) (both (isLimit (f .total)) (isLimit (f .each))) ≡ true
-  rest2 = crosspoints.both-right (isCount (f .targets)) _ (fit-counts f fit)
+  rest2 = both-right (isCount (f .targets)) _ (fit-counts f fit)
 
   rest3 : both (isLimit (f .total)) (isLimit (f .each)) ≡ true
-  rest3 = crosspoints.both-right (isCount (f .sources)) _ rest2
+  rest3 = both-right (isCount (f .sources)) _ rest2
 
   pub total-fits : isLimit (f .total) ≡ true
-  total-fits = crosspoints.both-left (isLimit (f .total)) (isLimit (f .each)) rest3
+  total-fits = both-left (isLimit (f .total)) (isLimit (f .each)) rest3
 
   pub each-fits : isLimit (f .each) ≡ true
-  each-fits = crosspoints.both-right (isLimit (f .total)) (isLimit (f .each)) rest3
+  each-fits = both-right (isLimit (f .total)) (isLimit (f .each)) rest3
 
   matrix-suited : (path : List ℕ) → oid.inRange path ≡ true → pathFits path ≡ true → suited 7 0 (matrixMembers f path) ≡ true
   unfolding suited suits ruleAt ruleOf members contentsOf contentsRows leftOut

@@ -7,7 +7,7 @@ use mathlib.Core.List.{List, [], _∷_}
 use mathlib.Core.Bool.{Bool, true, false}
 use lib.ListN.{length}
 use lib.Dec.{leb, ltb, eqb}
-use Rattle.ber_integers.specs.Digits.{pick}
+use Rattle.base_choices.specs.Choices.{pick, both}
 use Rattle.ber_containers.specs.declared.Onto.{Onto}
 use Rattle.ber_containers.specs.declared.Onto.the-variants.{Next, Refused as Stopped}
 use Rattle.glow_rows.specs.Entry.{Entries}
@@ -18,7 +18,7 @@ use Rattle.framing_session.specs.Rules.{Place, outside, stray, inside, escaped,
 use Rattle.desk_crosspoints.specs.declared.Limit.{Limit}
 use Rattle.desk_crosspoints.specs.declared.Limit.the-variants.{Absent, Most}
 use Rattle.desk_crosspoints.specs.declared.Figures.{Figures}
-use Rattle.desk_crosspoints.specs.Figures.{both, cellsOf}
+use Rattle.desk_crosspoints.specs.Figures.{cellsOf}
 use Rattle.desk_crosspoints.specs.Crosspoints.{clear}
 use Rattle.desk_crosspoints.specs.Desk.{Desk, deskAt, withCells, Answer, deskOpened}
 use Rattle.glow_rows.specs.Cell.{integer}

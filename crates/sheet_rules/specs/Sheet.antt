@@ -5,7 +5,7 @@ use mathlib.Core.List.{List, [], _∷_, _++_}
 use mathlib.Core.Bool.{Bool, true, false}
 use lib.ListN.{length, take, drop}
 use lib.Dec.{ltb, eqb}
-use Rattle.ber_integers.specs.Digits.{pick}
+use Rattle.base_choices.specs.Choices.{pick}
 use Rattle.ber_identifiers.specs.Identifier.{oidOctets}
 use Rattle.glow_grammar.specs.Grammar.{qualifiedMatrix, connection}
 use Rattle.glow_trees.specs.Content.{Content, nothing, word, bytes}

@@ -6,9 +6,9 @@ use mathlib.Core.Bool.{Bool, true, false}
 use native.Mathlib.Omega.{arith}
 use borrow.Author.Tests.{eqb-true, leb-true, ne-eqb}
 use lib.Dec.{leb, eqb}
-use Rattle.ber_integers.specs.Digits.{pick}
+use Rattle.base_choices.specs.Choices.{pick}
+use Rattle.base_choices.proofs.Laws.{pick-by}
 use Rattle.framing_session.specs.Rules.{State, Said, Step, begin, step, Happening, noted, happens, after}
-use Rattle.framing_session.proofs.Laws.{pick-by}
 use Rattle.sheet_rules.specs.Reading.{Held, refusal, message, finished, somethingOpen, firstFault, oneOf, ofEvents}
 use Rattle.sheet_stream.specs.Steps.{another, collects}
 

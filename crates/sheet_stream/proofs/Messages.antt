@@ -7,7 +7,7 @@ use native.Mathlib.Omega.{arith}
 use borrow.Author.Tests.{eqb-true, eqb-false}
 use lib.Dec.{eqb}
 use lib.ListN.{length}
-use Rattle.ber_integers.specs.Digits.{pick}
+use Rattle.base_choices.specs.Choices.{pick}
 use Rattle.ber_integers.proofs.Radix.{Below}
 use Rattle.framing_content.specs.Numbers.{messageLimit}
 use Rattle.framing_session.specs.Rules.{State, begin, step, Happening, noted, happens, after}

@@ -8,7 +8,8 @@ use native.Mathlib.Omega.{arith}
 use borrow.Author.Tests.{leb-true, eqb-false}
 use types.Run.{OneOf, hit}
 use lib.Dec.{leb, eqb}
-use Rattle.framing_content.specs.Numbers.{storeLength, faultNumbers, feedNumbers, pick}
+use Rattle.base_choices.specs.Choices.{pick}
+use Rattle.framing_content.specs.Numbers.{storeLength, faultNumbers, feedNumbers}
 use Rattle.framing_session.specs.Rules.{State, Said, begin, step, happens, after}
 use Rattle.framing_session.specs.Session.{kept}
 use Rattle.framing_session.proofs.Laws.{Bounded, bounded-begin, bounded-next, within-step, event-numbered}

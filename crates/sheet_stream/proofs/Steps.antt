@@ -20,7 +20,8 @@ use Rattle.framing_session.specs.declared.Frame.the-variants.{Outside, Stray, I
 use Rattle.framing_session.specs.declared.Pending.{Pending}
 use Rattle.framing_session.specs.declared.Pending.the-variants.{Nothing, Part}
 use Rattle.framing_session.specs.declared.Session.{Session}
-use Rattle.framing_content.specs.Numbers.{storeLength, messageLimit, contentStart, pick}
+use Rattle.base_choices.specs.Choices.{pick}
+use Rattle.framing_content.specs.Numbers.{storeLength, messageLimit, contentStart}
 use Rattle.framing_session.specs.Rules.{Message, none, part, isOpen, State, Step, begin, step, happens, after}
 use Rattle.framing_session.specs.Session.{saidBy, placeOf, messageOf, stateOf, sessionOf, legal, Legal, content, held, kept, Whole, whole, answers, run, feeds}
 use Rattle.framing_session.proofs.Lists.{take-sets-le}

@@ -8,7 +8,8 @@ use lib.Dec.{leb, eqb}
 use lib.ListN.{length, take}
 use Rattle.framing_session.specs.declared.Fed.{Fed}
 use Rattle.framing_session.specs.declared.Session.{Session}
-use Rattle.framing_content.specs.Numbers.{storeLength, pick}
+use Rattle.base_choices.specs.Choices.{pick}
+use Rattle.framing_content.specs.Numbers.{storeLength}
 use Rattle.framing_session.specs.Rules.{State, step, begin, after}
 use Rattle.framing_session.specs.Session.{stateOf, sessionOf, Legal, kept, Whole, whole, answers, run, feeds}
 use Rattle.framing.specs.Offers.{Turn, Turns, none, turn, eaten}

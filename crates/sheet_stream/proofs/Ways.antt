@@ -9,7 +9,8 @@ use borrow.Author.Tests.{le-leb, eq-eqb}
 use lib.Bits.{bitXor}
 use lib.Dec.{leb, ltb, eqb}
 use lib.ListN.{length}
-use Rattle.ber_integers.specs.Digits as int
+use Rattle.base_choices.specs.Choices.{pick}
+use Rattle.base_choices.proofs.Laws.{pick-by}
 use Rattle.framing_content.specs.declared.Content.{Content}
 use Rattle.framing_content.specs.declared.Content.the-variants.{Refused, Request, Response, Piece}
 use Rattle.framing_content.specs.declared.Fault.{Fault}
@@ -19,7 +20,7 @@ use Rattle.framing_content.specs.Numbers.{BOF, EOF, CE, contentLimit, messageLi
 use Rattle.framing_session.specs.Rules.{Place, outside, stray, inside, escaped, badByte, tooLong, Message, none, part, isOpen, State, Step}
 use Rattle.framing_session.specs.Rules.{makes, refuses, adds, joins, pieces, reads, ends, faulted, cuts, inPlace, step}
 use Rattle.framing_session.specs.Session.{held}
-use Rattle.framing_session.proofs.Laws.{pick-by, number-high, Bounded, within-step}
+use Rattle.framing_session.proofs.Laws.{number-high, Bounded, within-step}
 use Rattle.sheet_rules.specs.Reading.{refusal, message, inFrame, somethingOpen}
 use Rattle.sheet_stream.specs.Steps.{another, collects}
 
@@ -103,12 +104,12 @@ said-short s b h i = go (way s b)
 -- ---- where the last message finished is not the answer, it may be any
 
 abbrev pub loose : ℕ → State → Bool
-loose k s = int.pick (eqb k 1) (isOpen (s .message)) true
+loose k s = pick (eqb k 1) (isOpen (s .message)) true
 
 pub loose-open : (k : ℕ) (s : State) → isOpen (s .message) ≡ true → loose k s ≡ true
 loose-open k s h = go (eqb k 1)
   where
-    go : (u : Bool) → int.pick u (isOpen (s .message)) true ≡ true
+    go : (u : Bool) → pick u (isOpen (s .message)) true ≡ true
     go true = h
     go false = refl
 
@@ -120,15 +121,15 @@ loose-next k s b p q h = go (way s b)
     go (high g) = absurd (true≢false (sym (le-leb _ _ g) ∙ p))
     go (done g e) = absurd (true≢false (sym (eq-eqb _ _ g) ∙ q))
     go (opens e g) = loose-open k (step s b .next) g
-    go (stays g e) = ap (λ (x : Message). int.pick (eqb k 1) (isOpen x) true) g ∙ h
+    go (stays g e) = ap (λ (x : Message). pick (eqb k 1) (isOpen x) true) g ∙ h
 
 loose-end : (k : ℕ) (m m′ : List ℕ) (s : State) → loose k s ≡ true → collects k m s [] ≡ collects k m′ s []
 unfolding collects somethingOpen
 loose-end k m m′ s h = go (eqb k 1) h (inFrame (s .place))
   where
-    go : (u : Bool) → int.pick u (isOpen (s .message)) true ≡ true → (v : Bool)
-        → int.pick (int.pick v true (isOpen (s .message))) (refusal 33) (int.pick u (message m) (refusal 33))
-        ≡ int.pick (int.pick v true (isOpen (s .message))) (refusal 33) (int.pick u (message m′) (refusal 33))
+    go : (u : Bool) → pick u (isOpen (s .message)) true ≡ true → (v : Bool)
+        → pick (pick v true (isOpen (s .message))) (refusal 33) (pick u (message m) (refusal 33))
+        ≡ pick (pick v true (isOpen (s .message))) (refusal 33) (pick u (message m′) (refusal 33))
     go true g true = refl
     go true g false = rw g refl
     go false g v = refl
@@ -140,8 +141,8 @@ collects-any (b ∷ bs) k m m′ s h = go (leb 10 (step s b .said .number)) (eqb
   where
     go : (u v : Bool) → leb 10 (step s b .said .number) ≡ u → eqb (step s b .said .number) 3 ≡ v
         → (loose k (step s b .next) ≡ true → collects k m (step s b .next) bs ≡ collects k m′ (step s b .next) bs)
-        → int.pick u (refusal (step s b .said .number)) (int.pick v (collects (another k) (step s b .said .message) (step s b .next) bs) (collects k m (step s b .next) bs))
-        ≡ int.pick u (refusal (step s b .said .number)) (int.pick v (collects (another k) (step s b .said .message) (step s b .next) bs) (collects k m′ (step s b .next) bs))
+        → pick u (refusal (step s b .said .number)) (pick v (collects (another k) (step s b .said .message) (step s b .next) bs) (collects k m (step s b .next) bs))
+        ≡ pick u (refusal (step s b .said .number)) (pick v (collects (another k) (step s b .said .message) (step s b .next) bs) (collects k m′ (step s b .next) bs))
     go true v p q f = refl
     go false true p q f = refl
     go false false p q f = f (loose-next k s b p q h)

@@ -4,7 +4,7 @@ use Prim.Native.Nat.{ℕ}
 use mathlib.Core.List.{List, [], _∷_}
 use lib.ListN.{length, take}
 use lib.Dec.{leb, eqb}
-use Rattle.ber_integers.specs.Digits.{pick}
+use Rattle.base_choices.specs.Choices.{pick}
 use Rattle.framing_content.specs.Numbers.{storeLength, faultNumbers}
 use Rattle.framing_session.specs.Rules.{State, Step, begin, step}
 use Rattle.framing_session.specs.Session.{kept}

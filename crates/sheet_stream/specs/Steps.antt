@@ -5,7 +5,7 @@ use mathlib.Core.Bool.{Bool, true, false}
 use mathlib.Core.List.{List, [], _∷_}
 use lib.ListN.{length, take}
 use lib.Dec.{leb, eqb}
-use Rattle.ber_integers.specs.Digits.{pick}
+use Rattle.base_choices.specs.Choices.{pick}
 use Rattle.framing_session.specs.declared.Frame.{Frame}
 use Rattle.framing_session.specs.declared.Frame.the-variants.{Outside, Stray, Inside, Escaped, BadByte, TooLong}
 use Rattle.framing_session.specs.declared.Pending.{Pending}

@@ -20,16 +20,16 @@ use Rattle.sheet_rules.proofs.Reals.{sheet-below}
 use Rattle.sheet_rules.proofs.Breaks.{message-break}
 use Rattle.sheet_writer.specs.declared.Answer.{Answer}
 use Rattle.sheet_writer.specs.declared.Answer.the-variants.{Setup}
-use Rattle.sheet_writer.specs.Calls.{told, writesSheet}
+use Rattle.sheet_writer.specs.Calls.{outcomeOf, writesSheet}
 use Rattle.sheet_writer.specs.Steps.{said}
 use Rattle.sheet_writer.proofs.Packets.{frames-length, text-length}
 
-said-told : (r : Written) (o : List ℕ) → outcome r o ≡ told (said r) o
+said-told : (r : Written) (o : List ℕ) → outcome r o ≡ outcomeOf (said r) o
 said-told (written.Done n) o = refl
 said-told written.Out o = refl
 
 module _ (d : Desk) (o : List ℕ) where
-  pub sheet-setup : deskLegal d ≡ false → writesSheet d o ≡ told Setup o
+  pub sheet-setup : deskLegal d ≡ false → writesSheet d o ≡ outcomeOf Setup o
   unfolding writesSheet
   sheet-setup e = rw e refl
 
@@ -49,7 +49,7 @@ module _ (d : Desk) (o : List ℕ) where
 
   -- as the code goes: the message, its frames, and what the lines' writer answers
   pub sheet-put : deskLegal d ≡ true → {m : List ℕ} → m ≡ sheetMessage d → {frames : List ℕ} → frames ≡ inPackets m
-      → (r : Written) (o′ : List ℕ) → breaksInto frames o ≡ outcome r o′ → {a : Answer} → said r ≡ a → writesSheet d o ≡ told a o′
+      → (r : Written) (o′ : List ℕ) → breaksInto frames o ≡ outcome r o′ → {a : Answer} → said r ≡ a → writesSheet d o ≡ outcomeOf a o′
   sheet-put ok {m} p {frames} q r o′ e {a} g =
       sheet-into ok
       ∙ sym (sheet-lines ok)
@@ -57,7 +57,7 @@ module _ (d : Desk) (o : List ℕ) where
       ∙ ap (λ (x : List ℕ). breaksInto x o) (sym q)
       ∙ e
       ∙ said-told r o′
-      ∙ ap (λ (x : Answer). told x o′) g
+      ∙ ap (λ (x : Answer). outcomeOf x o′) g
 
 pub sheet-length : (d : Desk) → deskLegal d ≡ true → length (sheetOf d) ≤ 25000
 unfolding sheetOf

@@ -8,7 +8,9 @@ use borrow.Author.Tests.{le-leb, leb-true, lt-ltb, ne-eqb}
 use lib.ListN.{length, take, drop, set, length-append, length-drop}
 use lib.Seq.{sets, sets-eq, take-at, drop-at}
 use lib.Dec.{leb, eqb}
-use Rattle.ber_integers.specs.Digits.{pick, digits, countBy, Put, put, outcome}
+use Rattle.base_choices.specs.Choices.{pick}
+use Rattle.base_choices.proofs.Laws.{both-right}
+use Rattle.ber_integers.specs.Digits.{digits, countBy, Put, put, outcome}
 use Rattle.ber_integers.specs.declared.Wrote.{Wrote}
 use Rattle.ber_integers.specs.declared.Wrote.the-variants.{Next}
 use Rattle.ber_integers.specs.Digits as digit
@@ -35,7 +37,7 @@ use Rattle.desk_crosspoints.specs.declared.Figures.{Figures}
 use Rattle.desk_crosspoints.specs.Figures.{side, isLimit}
 use Rattle.desk_crosspoints.specs.Crosspoints.{Cells, rowAt}
 use Rattle.desk_crosspoints.specs.Desk.{Desk, deskLegal}
-use Rattle.desk_crosspoints.proofs.Laws.{both-right, fit-kind-le}
+use Rattle.desk_crosspoints.proofs.Laws.{fit-kind-le}
 use Rattle.desk_crosspoints.proofs.Legal.{legal-length}
 use Rattle.desk_crosspoints.proofs.Under.{take-short, size-small}
 use Rattle.sheet_rules.specs.Sheet.{sourcesFrom, sourcesAt, number, list, limit, leftOut, linkMembers, matrixMembers, links, sheetTree, sheetMessage}

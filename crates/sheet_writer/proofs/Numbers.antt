@@ -4,7 +4,7 @@ use mathlib.Core.List.{List}
 use types.Run.{OneOf, hit}
 use lib.Dec.{leb}
 use lib.ListN.{length}
-use Rattle.ber_containers.proofs.Heads.{pick-by}
+use Rattle.base_choices.proofs.Laws.{pick-by}
 use Rattle.framing_packets.specs.Written.{Outcome, into}
 use Rattle.desk_crosspoints.specs.Desk.{Desk, deskLegal}
 use Rattle.sheet_rules.specs.Sheet.{sheetOf}

@@ -4,7 +4,7 @@ use mathlib.Core.List.{List, [], _∷_}
 use lib.ListN.{length, set}
 use lib.Seq.{sets}
 use lib.Dec.{eqb}
-use Rattle.ber_integers.specs.Digits.{pick}
+use Rattle.base_choices.specs.Choices.{pick}
 use Rattle.glow_rows.specs.Entry.{row, Rows}
 pub use Rattle.desk_rows.specs.Rows.{numberCell, limitCell, matrixEntry, linkEntry}
 unfoldable pub use Rattle.desk_rows.specs.Rows.{listCell}

@@ -1,4 +1,6 @@
 // The route sheet writer: a legal desk's sheet, into a lent output.
+use base_casts::index;
+use base_casts::word;
 use ber_integers::Wrote;
 use desk_crosspoints::Figures;
 use desk_crosspoints::SIDE;
@@ -16,7 +18,7 @@ ghost use Rattle.glow_member_sizes.specs.Sizes.{nextOf};
 ghost use Rattle.desk_crosspoints.specs.Figures.{side};
 ghost use Rattle.desk_crosspoints.specs.Desk.{deskAt, deskLegal};
 ghost use Rattle.sheet_rules.specs.Sheet.{sourcesFrom, sheetTree, sheetMessage};
-ghost use Rattle.sheet_writer.specs.Calls.{told, writesSheet};
+ghost use Rattle.sheet_writer.specs.Calls.{outcomeOf, writesSheet};
 ghost use Rattle.sheet_writer.specs.Steps.{mostRows, mostPath, mostOctets, oneSource};
 ghost use Rattle.sheet_writer.specs.Steps.{filled, withLink, withLinks, said};
 
@@ -31,18 +33,6 @@ pub enum Answer {
     Setup,
     Out,
     Done { length: usize },
-}
-
-fn wide(x: usize) -> u64
-    ensures { λ r. ⌜ r ≡ x ⌝ }
-{
-    x as u64
-}
-
-fn index(x: u64) -> usize
-    ensures { λ r. ⌜ r ≡ x ⌝ }
-{
-    x as usize
 }
 
 fn octet(x: usize) -> u8
@@ -109,7 +99,7 @@ fn put_link(
     let from = t * w;
     let to = from + w;
     let next = put_sources(&cells[from..to], octets, at);
-    rows[t + 1] = desk_rows::link_row(wide(t), desk_rows::list_of(wide(at), wide(next - at)));
+    rows[t + 1] = desk_rows::link_row(word(t), desk_rows::list_of(word(at), word(next - at)));
     next
 }
 
@@ -161,7 +151,7 @@ fn put_entries(
     let targets = index(f.targets);
     let sources = index(f.sources);
     let end = end_of(ber_identifiers::write_oid(path, octets, 0));
-    rows[0] = desk_rows::matrix_row(f, wide(end));
+    rows[0] = desk_rows::matrix_row(f, word(end));
     put_links(cells, sources, targets, rows, octets, end);
     targets + 1
 }
@@ -202,7 +192,7 @@ fn tell(w: Written) -> Answer
 
 // The sheet of a desk: 1 for a desk that is not legal; 46 where the output is too short. Both leave the output as it was.
 pub fn write(f: Figures, path: &[u64], crosspoints: &[u8], out: &mut [u8]) -> Answer
-    ensures { λ r. ⌜ writesSheet (deskAt f (now (path .entry)) (now (crosspoints .entry))) (now (out .entry)) ≡ told r (now (out .exit)) ⌝ }
+    ensures { λ r. ⌜ writesSheet (deskAt f (now (path .entry)) (now (crosspoints .entry))) (now (out .entry)) ≡ outcomeOf r (now (out .exit)) ⌝ }
 {
     if !desk_crosspoints::desk_is_legal(f, path, crosspoints) {
         return Answer::Setup;

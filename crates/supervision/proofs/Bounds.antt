@@ -5,8 +5,7 @@ use mathlib.Core.List.{List, [], _∷_}
 use mathlib.Core.Path.{_≡_, refl}
 use native.Mathlib.Omega.{arith}
 use borrow.Author.Tests.{leb-true, leb-false, lt-leb}
-use Rattle.framing_content.specs.Numbers.{pick}
-use Rattle.framing_session.proofs.Laws.{pick-by}
+use Rattle.base_choices.proofs.Laws.{pick-by}
 use Rattle.supervision.specs.declared.Answer.{Answer}
 use Rattle.supervision.specs.declared.Happened.{Happened}
 use Rattle.supervision.specs.declared.Happened.the-variants.{Nothing, Event, Request}

@@ -8,10 +8,10 @@ use Rattle.framing_content.specs.declared.Content.the-variants as content
 use Rattle.framing_session.specs.declared.Event.{Event as SessionEvent}
 use Rattle.framing_session.specs.declared.Event.the-variants as ev
 use Rattle.framing_content.specs.Content.{contentOf}
-use Rattle.framing_content.specs.Numbers.{pick, EOF}
+use Rattle.base_choices.proofs.Laws.{pick-by}
+use Rattle.framing_content.specs.Numbers.{EOF}
 use Rattle.framing_session.specs.Rules.{inside, Message, ends, inPlace, step as byte}
 use Rattle.framing_session.specs.Session.{saidBy}
-use Rattle.framing_session.proofs.Laws.{pick-by}
 use Rattle.supervision.specs.declared.Answer.{Answer}
 use Rattle.supervision.specs.declared.Answer.the-variants as say
 use Rattle.supervision.specs.declared.Happened.{Happened}

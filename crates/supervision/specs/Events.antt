@@ -2,7 +2,7 @@
 -- no events of the link; 4 is an incoming keep-alive request; every other is an event.
 use Prim.Native.Nat.{ℕ}
 use lib.Dec.{ltb, eqb}
-use Rattle.framing_content.specs.Numbers.{pick}
+use Rattle.base_choices.specs.Choices.{pick}
 use Rattle.supervision.specs.declared.Happened.{Happened}
 use Rattle.supervision.specs.declared.Happened.the-variants.{Nothing, Event, Request}
 

@@ -4,7 +4,7 @@ use Prim.Native.Nat.{ℕ, _+_}
 use mathlib.Core.List.{List, [], _∷_}
 use lib.Dec.{leb}
 use mathlib.Core.Bool.{Bool}
-use Rattle.framing_content.specs.Numbers.{pick}
+use Rattle.base_choices.specs.Choices.{pick}
 use Rattle.supervision.specs.declared.Answer.{Answer}
 use Rattle.supervision.specs.declared.Answer.the-variants as say
 use Rattle.supervision.specs.declared.Happened.{Happened}

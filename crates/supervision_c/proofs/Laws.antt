@@ -7,8 +7,7 @@ use native.Mathlib.Omega.{arith}
 use borrow.Author.Tests.{eqb-true, ltb-true, lt-ltb}
 use lib.Dec.{eqb, ltb}
 use lib.ListN.{length, getD, set}
-use Rattle.framing_content.specs.Numbers.{pick}
-use Rattle.framing_session.proofs.Laws.{pick-by}
+use Rattle.base_choices.proofs.Laws.{pick-by}
 use Rattle.supervision.specs.declared.Happened.{Happened}
 use Rattle.supervision.specs.declared.Link.{Link}
 use Rattle.supervision.specs.declared.Link.the-variants.{Silent, Asked, Dead}

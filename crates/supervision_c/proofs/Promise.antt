@@ -17,9 +17,9 @@ use lib.ListN.{length, take, drop, take-append-drop}
 use types.Run.{OneOf, hit}
 use Rattle.framing_session.specs.declared.Event.{Event as SessionEvent}
 use Rattle.framing_session.specs.declared.Event.the-variants as ev
-use Rattle.framing_content.specs.Numbers.{pick}
+use Rattle.base_choices.specs.Choices.{pick}
+use Rattle.base_choices.proofs.Laws.{pick-by}
 use Rattle.framing_session.specs.Session.{saidBy}
-use Rattle.framing_session.proofs.Laws.{pick-by}
 use Rattle.supervision.specs.declared.Answer.{Answer}
 use Rattle.supervision.specs.declared.Answer.the-variants as say
 use Rattle.supervision.specs.declared.Happened.{Happened}
@@ -34,7 +34,7 @@ use Rattle.supervision.specs.Rules.{Showing}
 use Rattle.supervision.specs.Supervisor.{wrap, begun, isDue, waited, heard, shows}
 use Rattle.supervision.proofs.Promise as supervision
 use Rattle.supervision_c.specs.Words.{tickWord, wordsOf, linkAt, isLink, numberOf}
-use Rattle.supervision_c.specs.Calls.{Called, setup, starts, told, calls}
+use Rattle.supervision_c.specs.Calls.{Called, setup, starts, calledOf, calls}
 use Rattle.supervision_c.specs.Promise.{startNumbers, showNumbers, Seen, showing, showings, Shows, none, show, refused}
 use Rattle.supervision_c.specs.Promise.{DeadBy, here, later, NeverDead, Promised, Silence, asks, deadNumber}
 use Rattle.supervision_c.proofs.Laws.{words-back, words-link}
@@ -69,9 +69,9 @@ tick-small : (o time : ℕ) → tickAt o time < wrap
 tick-small o time = omega arith
 
 -- a call with a state's words is a call of `show`
-calls-words : (l : Link) (tick n : ℕ) → tickWord l < wrap → calls (wordsOf l) tick n ≡ told (shows l tick (happenedBy n))
+calls-words : (l : Link) (tick n : ℕ) → tickWord l < wrap → calls (wordsOf l) tick n ≡ calledOf (shows l tick (happenedBy n))
 unfolding calls
-calls-words l tick n h = rw (words-link l h) (ap (λ (x : Link). told (shows x tick (happenedBy n))) (words-back l))
+calls-words l tick n h = rw (words-link l h) (ap (λ (x : Link). calledOf (shows x tick (happenedBy n))) (words-back l))
 
 -- a call that is answered with 1 leaves the words as they were
 answer-other : (r : Answer) → numberOf r ≡ 1 → ⊥
@@ -101,7 +101,7 @@ under none l w h = record { answered = []; link = l; made = rules.none; numbers-
 under {o} {ws} (show {ns = ns} x r e more) l w h =
     let tick = tickAt o (x .time) in
     let s = shows l tick (happenedBy (x .number)) in
-    let q : r ≡ told s = sym e ∙ ap (λ (v : List ℕ). calls v tick (x .number)) w ∙ calls-words l tick (x .number) h in
+    let q : r ≡ calledOf s = sym e ∙ ap (λ (v : List ℕ). calls v tick (x .number)) w ∙ calls-words l tick (x .number) h in
     let k = under more (s .link) (ap (λ (v : Called). v .link) q) (shows-tick l tick (happenedBy (x .number)) h (tick-small o (x .time))) in
     record {
       answered = s .answer ∷ k .answered;
@@ -226,7 +226,7 @@ unfolding shows waited
 dead-called tick n = calls-words Dead tick n (omega arith) ∙ go (ltb n 2) refl (eqb n 4) refl
   where
     go : (u : Bool) → ltb n 2 ≡ u → (v : Bool) → eqb n 4 ≡ v
-        → _≡_ {A = Called} (told (shows Dead tick (pick u Nothing (pick v Request Event)))) (record { number = pick v 3 4; link = wordsOf Dead })
+        → _≡_ {A = Called} (calledOf (shows Dead tick (pick u Nothing (pick v Request Event)))) (record { number = pick v 3 4; link = wordsOf Dead })
     go true a true b = absurd (omega (arith, ltb-true n 2 a, eqb-true n 4 b))
     go true a false b = refl
     go false a true b = refl

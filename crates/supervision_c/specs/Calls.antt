@@ -3,7 +3,7 @@ use Prim.Native.Nat.{ℕ}
 use mathlib.Core.List.{List}
 use lib.Dec.{eqb}
 use lib.ListN.{length}
-use Rattle.framing_content.specs.Numbers.{pick}
+use Rattle.base_choices.specs.Choices.{pick}
 use Rattle.supervision.specs.declared.Shown.{Shown}
 use Rattle.supervision.specs.Events.{happenedBy}
 use Rattle.supervision.specs.Supervisor.{begun, shows}
@@ -22,9 +22,9 @@ setup ws = record { number = 1; link = ws }
 unfoldable pub starts : List ℕ → ℕ → Called
 starts ws tick = pick (eqb (length ws) 2) (record { number = 0; link = wordsOf (begun tick) }) (setup ws)
 
-abbrev pub told : Shown → Called
-told s = record { number = numberOf (s .answer); link = wordsOf (s .link) }
+abbrev pub calledOf : Shown → Called
+calledOf s = record { number = numberOf (s .answer); link = wordsOf (s .link) }
 
 -- a tick, and the number that a session call gave; 1 for words that are no state's
 unfoldable pub calls : List ℕ → ℕ → ℕ → Called
-calls ws tick n = pick (isLink ws) (told (shows (linkAt ws) tick (happenedBy n))) (setup ws)
+calls ws tick n = pick (isLink ws) (calledOf (shows (linkAt ws) tick (happenedBy n))) (setup ws)

@@ -6,7 +6,7 @@ use mathlib.Core.List.{List, [], _∷_, _++_, map}
 use mathlib.Core.Path.{_≡_}
 use lib.Dec.{eqb}
 use lib.ListN.{take, drop}
-use Rattle.framing_content.specs.Numbers.{pick}
+use Rattle.base_choices.specs.Choices.{pick}
 use Rattle.supervision.specs.declared.Happened.the-variants.{Nothing}
 use Rattle.supervision.specs.Events.{happenedBy}
 use Rattle.supervision.specs.Promise.{tickAt, lastEvent, Lively}

@@ -16,7 +16,7 @@ use Rattle.ber_integers.specs.Digits.{Below, digits, put, outcome, unchanged}
 use Rattle.ber_integers.specs.Integer.{integer, unsignedAt, signedAt, integerAt, shortest}
 use Rattle.ber_integers.specs.declared.Number.the-variants.{Int}
 use Rattle.ber_integers.specs.declared.Wrote.the-variants.{Next}
-use Rattle.ber_integers.specs.Said.{numberOf, integerSays, naturalSays}
+use Rattle.ber_integers.specs.Readings.{numberOf, integerSays, naturalSays}
 use Rattle.ber_integers.specs.Numbers.{octetNumbers, putNumbers}
 use Rattle.ber_integers.proofs.RoundTrip as integers
 use Rattle.ber_integers.proofs.Numbers as integer-calls
@@ -93,12 +93,12 @@ use Rattle.sheet_rules.specs.InLines.{InLines}
 use Rattle.sheet_rules.proofs.Theorems as sheets
 use Rattle.sheet_rules.proofs.Anywhere as sheets-anywhere
 use Rattle.sheet_writer.specs.declared.Answer.the-variants.{Done}
-use Rattle.sheet_writer.specs.Calls.{writesSheet, told as wrote}
+use Rattle.sheet_writer.specs.Calls.{writesSheet, outcomeOf as wrote}
 use Rattle.sheet_writer.specs.Numbers.{sheetPutNumbers}
 use Rattle.sheet_writer.proofs.Theorems as sheet-writer
 use Rattle.sheet_writer.proofs.Numbers as sheet-writer-calls
 use Rattle.sheet_reader.specs.declared.Sheet.{Sheet}
-use Rattle.sheet_reader.specs.Calls.{sheetRead, sheetNumbers, told as readTold}
+use Rattle.sheet_reader.specs.Calls.{sheetRead, sheetNumbers, outcomeOf as readTold}
 use Rattle.sheet_reader.proofs.Theorems as sheet-reader
 use Rattle.sheet_reader.proofs.Numbered as sheet-reader-calls
 use Rattle.turns.specs.Rules.{keep, tells, after}

@@ -19,6 +19,7 @@ mod names;
 mod show;
 mod value;
 
+use base_casts::index;
 use ber_integers::Wrote;
 use glow_reader::Answer;
 use program_lines::input;
@@ -61,10 +62,6 @@ fn write(s: &[u8], table: &mut [[u64; 50]], out: &mut [u8]) {
             show::answer(s, table, found);
         }
     }
-}
-
-fn place(x: u64) -> usize {
-    x as usize
 }
 
 // Reads with the table's first n rows; more than there are make a bad line.
@@ -116,7 +113,7 @@ fn length_of(line: &[u8], from: usize, end: usize) -> usize {
         return usize::MAX;
     }
     match text::number(line, from, end) {
-        Decimal::Number(n) => place(n),
+        Decimal::Number(n) => index(n),
         Decimal::Bad => usize::MAX,
     }
 }

@@ -1,16 +1,13 @@
 // Answers: the first line, and a line for each entry.
 use crate::entry;
 use crate::names;
+use base_casts::word;
 use glow_reader::Answer;
 use glow_rows::KIND;
 use glow_rows::PARENT;
 use glow_rows::kinds;
 use glow_rows::word_at;
 use program_lines::print;
-
-fn word(x: usize) -> u64 {
-    x as u64
-}
 
 fn space() {
     print::say(b" ");

@@ -8,13 +8,13 @@ use native.Mathlib.Omega.{arith}
 use borrow.Author.Tests.{eq-eqb, le-leb}
 use lib.ListN.{length, getD, length-append}
 use lib.Dec.{leb, eqb}
-use Rattle.ber_integers.specs.Digits.{pick}
+use Rattle.base_choices.specs.Choices.{pick}
+use Rattle.base_choices.proofs.Laws.{pick-by, pick-true}
 use Rattle.ber_integers.proofs.Radix.{Below}
 use Rattle.ber_containers.specs.declared.Open.{Open}
 use Rattle.ber_containers.specs.declared.Tag.{Tag}
 use Rattle.ber_containers.specs.declared.Onto.{Onto}
 use Rattle.ber_containers.specs.declared.Onto.the-variants.{Next, Refused as Stopped}
-use Rattle.ber_containers.proofs.Heads.{pick-by}
 use Rattle.glow_rows.specs.Entry.{Entries, blank, putCell}
 use Rattle.glow_grammar.specs.Grammar.{ruleOf, children, connections, applications}
 use Rattle.glow_grammar.specs.Grammar as grammar
@@ -24,7 +24,6 @@ use Rattle.glow_trees.specs.Content.{Content, Item, item, itemOf, itemsOf, cont
 use Rattle.glow_trees.specs.Trees.{Trees, none, tree, count, flat, standsIn}
 use Rattle.glow_trees.specs.Legal.{pathAfter, inner, empty, isNone, legal}
 use Rattle.glow_trees.specs.Written.{tagged, membersOctets, own, wrapped, treesOctets}
-use Rattle.trees_accepted.proofs.Bools.{pick-true}
 use Rattle.trees_accepted.proofs.Tables.{Kind, application-short, stands-kind}
 use Rattle.trees_accepted.proofs.Lists.{sizeFrom, append-none, items-append, items-length, flat-length}
 use Rattle.trees_accepted.proofs.Sizes.{around, outer-size}

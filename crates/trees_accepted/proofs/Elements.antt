@@ -8,11 +8,11 @@ use native.Mathlib.Omega.{arith}
 use borrow.Author.Tests.{eq-eqb, eqb-true, eqb-false}
 use lib.ListN.{length, getD, set, length-set, length-append}
 use lib.Dec.{eqb}
-use Rattle.ber_integers.specs.Digits.{pick}
+use Rattle.base_choices.specs.Choices.{pick}
+use Rattle.base_choices.proofs.Laws.{pick-by, pick-true, both-left, both-right, both-make}
 use Rattle.ber_integers.proofs.Radix.{Below, lt-or-le, none-or-some}
 use Rattle.ber_containers.specs.declared.Open.{Open}
 use Rattle.ber_containers.specs.declared.Tag.{Tag}
-use Rattle.ber_containers.proofs.Heads.{pick-by}
 use Rattle.glow_rows.specs.declared.Cell.{Cell}
 use Rattle.glow_rows.specs.Entry.{Entry, Entries, blank, blanks, withCell, putCell}
 use Rattle.glow_grammar.specs.Grammar.{ruleOf, required, collectionOf, children, connections}
@@ -22,7 +22,6 @@ use Rattle.glow_trees.specs.Content.{Content, nothing, contentOf, contentsOf, I
 use Rattle.glow_trees.specs.Trees.{Trees, none, count, flat}
 use Rattle.glow_trees.specs.Legal.{suits, suited, present, complete, pathAfter, pathOf, ruleAt, inner, empty, isNone, legal}
 use Rattle.glow_trees.specs.Written.{membersOctets, own, wrapped, treesOctets}
-use Rattle.trees_accepted.proofs.Bools.{both-left, both-right, both-make, pick-true}
 use Rattle.trees_accepted.proofs.Tables.{homeOf, Kind, plain-at, body-at, kids-at, links-at, rules-end, required-some}
 use Rattle.trees_accepted.proofs.Lists.{get-set, get-other, append-none, suited-set, sizeFrom, complete-by, with-contents, with-kind, put-at}
 use Rattle.trees_accepted.proofs.Lists.{nothings, blank-contents, nothings-suited, nothings-get, nothings-length, nothings-empty, nothings-size}

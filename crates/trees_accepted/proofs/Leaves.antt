@@ -35,17 +35,17 @@ use Rattle.ber_identifiers.specs.Identifier.{Arcs, bad, over, numbers, arcs, oi
 use Rattle.ber_identifiers.proofs.RoundTrip.{arcs-read, read-written as arcs-written}
 use Rattle.glow_rows.specs.declared.Cell.{Cell}
 use Rattle.glow_rows.specs.Cell.{cell, cellOf, wordOf, bitOf}
-use Rattle.ber_containers.proofs.Heads.{pick-by}
+use Rattle.base_choices.specs.Choices.{both}
+use Rattle.base_choices.proofs.Laws.{pick-by, pick-false, both-make}
 use Rattle.glow_grammar.specs.declared.Leaf.{Leaf}
 use Rattle.glow_grammar.specs.declared.Leaf.the-variants.{Kept, Refused as Not}
 use Rattle.glow_grammar.specs.Grammar.{path}
-use Rattle.glow_grammar.specs.Leaf.{both, expects, inRange, isName, isPath}
+use Rattle.glow_grammar.specs.Leaf.{expects, inRange, isName, isPath}
 use Rattle.glow_grammar.specs.Leaf.{numberLeaf, textLeaf, judged, pathLeaf, listLeaf, numbersAt, leafAt}
 use Rattle.glow_grammar.proofs.Tables.{expects-step, expects-text, expects-numbers}
 use Rattle.glow_trees.specs.Content.{Content, word, bytes, isPart, isWord, contentOf, intOf}
 use Rattle.glow_trees.specs.Legal.{suits, present, pathOf, lengthOf, wordSuits, partSuits, pathSuits, listSuits, isReal, isFormed}
 use Rattle.glow_trees.specs.Written.{spelled}
-use Rattle.trees_accepted.proofs.Bools.{both-make, pick-false}
 use Rattle.trees_accepted.proofs.Sizes.{inside, kindly}
 
 -- "no accepted real is shorter"

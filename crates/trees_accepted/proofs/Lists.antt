@@ -12,7 +12,7 @@ use Rattle.glow_trees.specs.Content.{Content, nothing, contentOf, contentsOf, I
 use Rattle.glow_trees.specs.Trees.{Trees, none, tree, count, flat}
 use Rattle.glow_trees.specs.Legal.{suits, suited, present, complete, empty, ruleAt}
 use Rattle.glow_trees.specs.Written.{memberOctets, membersOctets}
-use Rattle.trees_accepted.proofs.Bools.{both-left, both-right, both-make}
+use Rattle.base_choices.proofs.Laws.{both-left, both-right, both-make}
 
 -- one put into a list
 module _ {A : Type 0} where

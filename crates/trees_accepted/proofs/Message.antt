@@ -8,7 +8,8 @@ use native.Mathlib.Omega.{arith}
 use borrow.Author.Tests.{eqb-true, eqb-false}
 use lib.ListN.{length}
 use lib.Dec.{eqb}
-use Rattle.ber_integers.specs.Digits.{pick}
+use Rattle.base_choices.specs.Choices.{pick}
+use Rattle.base_choices.proofs.Laws.{pick-by, both-make}
 use Rattle.ber_integers.proofs.Radix.{Below}
 use Rattle.ber_containers.specs.declared.Open.{Open}
 use Rattle.ber_containers.specs.declared.Tag.{Tag}
@@ -19,7 +20,6 @@ use Rattle.ber_containers.specs.declared.Found.the-variants.{Value, Refused as 
 use Rattle.ber_containers.specs.declared.Onto.{Onto}
 use Rattle.ber_containers.specs.declared.Onto.the-variants.{Next, Refused as Stopped}
 use Rattle.ber_containers.specs.Ends.{enterAt, firstAt, lastAt, isTag}
-use Rattle.ber_containers.proofs.Heads.{pick-by}
 use Rattle.glow_rows.specs.Entry.{Entries}
 use Rattle.glow_grammar.specs.Grammar.{rootOf}
 use Rattle.glow_steps.specs.declared.Top.{Top}
@@ -31,7 +31,6 @@ use Rattle.glow_trees.specs.Content.{itemsOf}
 use Rattle.glow_trees.specs.Trees.{Trees, flat, taken, treesOf}
 use Rattle.glow_trees.specs.Legal.{isRoot, legal, legalRoot}
 use Rattle.glow_trees.specs.Written.{tagged, treesOctets, rootNumber, messageOctets}
-use Rattle.trees_accepted.proofs.Bools.{both-make}
 use Rattle.trees_accepted.proofs.Sizes.{around, tagged-size}
 use Rattle.trees_accepted.proofs.Spans.{Closes, Begins, EnterTell, FirstTell, LastTell, enter-tells, first-tells, last-tells}
 use Rattle.trees_accepted.proofs.Leaves.{RealsLeast}

@@ -8,13 +8,14 @@ use native.Mathlib.Omega.{arith}
 use borrow.Author.Tests.{eq-eqb, ne-eqb, eqb-true}
 use lib.ListN.{length}
 use lib.Dec.{leb, eqb}
-use Rattle.ber_integers.specs.Digits.{pick}
+use Rattle.base_choices.specs.Choices.{pick}
+use Rattle.base_choices.proofs.Laws.{both-left, both-right}
 use Rattle.glow_grammar.specs.Grammar.{holds, ruleOf, required, children, connections}
 use Rattle.glow_trees.specs.Content.{Content, Item, item}
 use Rattle.glow_trees.specs.Trees.{Trees, none, tree, count, flat, among, standsIn, stands, Taken, taken, takenBy, treesOf}
 use Rattle.glow_trees.specs.Legal.{suited, complete, pathAfter, inner, empty, isNone, isRoot, legal, legalRoot}
 use Rattle.trees_accepted.specs.Stood.{Stood}
-use Rattle.trees_accepted.proofs.Bools.{never, both-left, both-right}
+use Rattle.trees_accepted.proofs.Bools.{never}
 use Rattle.trees_accepted.proofs.Lists.{append-none, flat-length}
 
 -- no connection is a child

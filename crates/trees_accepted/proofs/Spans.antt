@@ -8,7 +8,8 @@ use native.Mathlib.Omega.{arith}
 use borrow.Author.Tests.{eqb-true, eqb-false, leb-true, leb-false}
 use lib.ListN.{length, getD}
 use lib.Dec.{leb, ltb, eqb}
-use Rattle.ber_integers.specs.Digits.{pick}
+use Rattle.base_choices.specs.Choices.{pick}
+use Rattle.base_choices.proofs.Laws.{pick-by}
 use Rattle.ber_integers.proofs.Radix.{Below}
 use Rattle.ber_tags.specs.declared.Length.the-variants.{Definite, Indefinite}
 use Rattle.ber_tags.specs.declared.Head.{Head}
@@ -28,7 +29,6 @@ use Rattle.ber_containers.specs.declared.Crossing.{Crossing}
 use Rattle.ber_containers.specs.declared.Crossing.the-variants.{Over as Ends, Past, Into, Refused as Stuck}
 use Rattle.ber_containers.specs.Ends.{bit, ofHead, zeroAt, closingAt, standingAt, deep, counted, enterAt, firstOf, firstAt, lastOf, lastAt}
 use Rattle.ber_containers.specs.Passing.{skipped, pastOf, crossOf, crossAt, onCrossing, onwards, throughBy, passedAt}
-use Rattle.ber_containers.proofs.Heads.{pick-by}
 use Rattle.trees_accepted.proofs.Bools.{never}
 use Rattle.trees_accepted.proofs.Sizes.{lengthSize, length-more, length-few, around}
 

@@ -9,12 +9,12 @@ use lib.ListN.{getD}
 use Rattle.ber_integers.proofs.Radix.{lt-or-le}
 use borrow.Author.Tests.{leb-true, ltb-true, lt-ltb, le-ltb, eqb-true, eqb-false, eq-eqb, ne-eqb, not-true}
 use lib.Dec.{leb, ltb, eqb}
-use Rattle.ber_integers.specs.Digits.{pick}
-use Rattle.glow_grammar.specs.Leaf.{both}
+use Rattle.base_choices.specs.Choices.{pick, both}
+use Rattle.base_choices.proofs.Laws.{pick-true, pick-false, pick-then, pick-else, both-left, both-right}
 use Rattle.glow_grammar.specs.Grammar.{members, ruleOf, requirements, required, isSet, contentsRows, contentsOf, applications, holds, kindAmong, kindIn}
 use Rattle.glow_trees.specs.Trees.{among, standsIn}
 use Rattle.glow_trees.specs.Legal.{ruleAt}
-use Rattle.trees_accepted.proofs.Bools.{never, both-left, both-right, pick-then, pick-else, pick-true, pick-false, allFrom, all-at}
+use Rattle.trees_accepted.proofs.Bools.{never, allFrom, all-at}
 
 -- the member that a cell of a kind comes with: contents come together, with the member 1
 unfoldable pub homeOf : ℕ → ℕ → ℕ

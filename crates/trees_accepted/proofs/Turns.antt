@@ -8,7 +8,8 @@ use native.Mathlib.Omega.{arith}
 use borrow.Author.Tests.{eqb-true, eqb-false, leb-true, leb-false}
 use lib.ListN.{length}
 use lib.Dec.{leb, eqb}
-use Rattle.ber_integers.specs.Digits.{pick}
+use Rattle.base_choices.specs.Choices.{pick}
+use Rattle.base_choices.proofs.Laws.{pick-by}
 use Rattle.ber_integers.proofs.Radix.{Below}
 use Rattle.ber_containers.specs.declared.Open.{Open}
 use Rattle.ber_containers.specs.declared.Tag.{Tag}
@@ -20,7 +21,6 @@ use Rattle.ber_containers.specs.declared.Onto.{Onto}
 use Rattle.ber_containers.specs.declared.Onto.the-variants.{Next, Refused as Stopped}
 use Rattle.ber_containers.specs.Ends.{enterAt, firstAt, lastAt, isTag}
 use Rattle.ber_containers.specs.Passing.{passedAt}
-use Rattle.ber_containers.proofs.Heads.{pick-by}
 use Rattle.glow_rows.specs.declared.Cell.{Cell}
 use Rattle.glow_grammar.specs.declared.Leaf.{Leaf}
 use Rattle.glow_grammar.specs.declared.Leaf.the-variants.{Kept, Refused as Unfit}

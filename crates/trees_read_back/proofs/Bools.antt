@@ -6,20 +6,11 @@ use mathlib.Core.Logic.{_⊎_, inl, inr}
 use native.Mathlib.Omega.{arith}
 use borrow.Author.Tests.{eqb-true}
 use lib.Dec.{eqb}
-use Rattle.ber_integers.specs.Digits.{pick}
-use Rattle.glow_grammar.specs.Leaf.{both}
+use Rattle.base_choices.specs.Choices.{pick}
 use Rattle.glow_trees.specs.Content.{isPart, isWord}
 
 pub never : {A : Type 0} → false ≡ true → A
 never e = let z : _≡_ {A = ℕ} 0 1 = cc in absurd (omega arith)
-
-pub both-left : (a b : Bool) → both a b ≡ true → a ≡ true
-both-left true b e = refl
-both-left false b e = e
-
-pub both-right : (a b : Bool) → both a b ≡ true → b ≡ true
-both-right true b e = e
-both-right false b e = never e
 
 -- a test that must not hold, and another that must
 pub unless : (a b : Bool) → pick a false b ≡ true → (a ≡ false) × (b ≡ true)

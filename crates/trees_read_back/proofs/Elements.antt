@@ -8,7 +8,8 @@ use native.Mathlib.Omega.{arith}
 use borrow.Author.Tests.{eqb-true, eq-eqb, ne-eqb}
 use lib.ListN.{length, drop, length-append}
 use lib.Dec.{leb, eqb}
-use Rattle.ber_integers.specs.Digits.{pick}
+use Rattle.base_choices.specs.Choices.{pick}
+use Rattle.base_choices.proofs.Laws.{both-left, both-right}
 use Rattle.ber_containers.specs.declared.Onto.the-variants.{Next}
 use Rattle.glow_rows.specs.declared.Cell.{Cell}
 use Rattle.glow_rows.specs.Cell.{absent}
@@ -23,7 +24,7 @@ use Rattle.glow_trees.specs.Content.{Content, nothing, word, bytes, wrong, isPa
 use Rattle.glow_trees.specs.Trees.{Trees, none, tree, count, flat}
 use Rattle.glow_trees.specs.Legal.{suits, present, empty, complete, ruleAt, suited, pathOf, isNone, legal}
 use Rattle.glow_trees.specs.Written.{memberOctets, membersOctets, wrapped, treesOctets}
-use Rattle.trees_read_back.proofs.Bools.{never, both-left, both-right, unless, part-kinds}
+use Rattle.trees_read_back.proofs.Bools.{never, unless, part-kinds}
 use Rattle.trees_read_back.proofs.Standing.{till}
 use Rattle.trees_read_back.proofs.Leaves.{Spells}
 use Rattle.trees_read_back.proofs.Order.{Ready, ready-start, ready-done, ready-after}

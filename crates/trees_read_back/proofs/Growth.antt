@@ -8,7 +8,8 @@ use native.Mathlib.Omega.{arith}
 use borrow.Author.Tests.{leb-true, le-leb, eqb-true, eq-eqb, ne-eqb}
 use lib.ListN.{length, drop, getD, length-append}
 use lib.Dec.{leb, eqb}
-use Rattle.ber_integers.specs.Digits.{pick}
+use Rattle.base_choices.specs.Choices.{pick}
+use Rattle.base_choices.proofs.Laws.{both-left, both-right}
 use Rattle.ber_containers.specs.declared.Onto.the-variants.{Next}
 use Rattle.glow_rows.specs.Entry.{Entries}
 use Rattle.glow_grammar.specs.Grammar.{ruleOf, required, isSet, contentsOf, applications}
@@ -18,7 +19,7 @@ use Rattle.glow_trees.specs.Content.{Content, Item, item, itemsOf}
 use Rattle.glow_trees.specs.Trees.{Trees, none, tree, count, flat, standsIn}
 use Rattle.glow_trees.specs.Legal.{empty, complete, suited, pathOf, pathAfter, inner, isNone, legal}
 use Rattle.glow_trees.specs.Written.{outer, memberOctets, membersOctets, wrapped, own, treesOctets}
-use Rattle.trees_read_back.proofs.Bools.{never, both-left, both-right}
+use Rattle.trees_read_back.proofs.Bools.{never}
 use Rattle.trees_read_back.proofs.Standing.{till, tagOf, Outered, outered}
 use Rattle.trees_read_back.proofs.Leaves.{Spells}
 use Rattle.trees_read_back.proofs.Turns.{item-done, item-here}

@@ -8,11 +8,11 @@ use native.Mathlib.Omega.{arith}
 use borrow.Author.Tests.{ltb-true, leb-true, eqb-true, eqb-false, not-true}
 use lib.ListN.{getD}
 use lib.Dec.{ltb, eqb}
-use Rattle.ber_integers.specs.Digits.{pick}
+use Rattle.base_choices.specs.Choices.{pick, both}
+use Rattle.base_choices.proofs.Laws.{both-left, both-right}
 use Rattle.glow_grammar.specs.Grammar.{members, ruleOf, requirements, required, isSet, contentsRows, contentsOf, applications, holds, kindAmong, kindIn}
-use Rattle.glow_grammar.specs.Leaf.{both}
 use Rattle.glow_trees.specs.Trees.{among, standsIn}
-use Rattle.trees_read_back.proofs.Bools.{never, both-left, both-right}
+use Rattle.trees_read_back.proofs.Bools.{never}
 use Rattle.trees_read_back.proofs.Members.{Plain}
 
 -- a table whose entries are no numbers of a path, and hold no others

@@ -15,7 +15,8 @@ use lib.Ieee.{binary64}
 use lib.Ieee.Bits.{toBits-ofBits, nanBits-is}
 use mir.Syntax.{w64}
 use mir.Val.{SFits}
-use Rattle.ber_integers.specs.Digits.{pick}
+use Rattle.base_choices.specs.Choices.{pick}
+use Rattle.base_choices.proofs.Laws.{both-left, both-right}
 use Rattle.ber_integers.specs.declared.Number.the-variants.{Int as Whole}
 use Rattle.ber_integers.specs.Integer.{integer, integerAt, shortest}
 use Rattle.ber_integers.proofs.Laws.{at-part}
@@ -40,7 +41,7 @@ use Rattle.glow_grammar.proofs.Tables.{expects-step, expects-numbers}
 use Rattle.glow_trees.specs.Content.{Content, nothing, word, bytes, wrong, isPart, isWord, contentOf, intOf}
 use Rattle.glow_trees.specs.Legal.{isReal, wordSuits, pathSuits, listSuits, partSuits, suits, present, lengthOf, pathOf}
 use Rattle.glow_trees.specs.Written.{spelled}
-use Rattle.trees_read_back.proofs.Bools.{never, both-left, both-right, unless, word-kinds, part-kinds}
+use Rattle.trees_read_back.proofs.Bools.{never, unless, word-kinds, part-kinds}
 use Rattle.glow_trees.proofs.Shift.{arcs-there}
 
 -- a spelling of reals: what it writes is read as the double of these bits

@@ -19,7 +19,8 @@ use Rattle.glow_walk.proofs.Ways.{members-leaf}
 use Rattle.glow_trees.specs.Content.{Content, nothing, word, bytes, wrong, isPart, isWord, contentOf, contentsOf}
 use Rattle.glow_trees.specs.Legal.{suits, present, complete, pathOf}
 use Rattle.glow_trees.specs.Written.{outer, memberOctets, membersOctets}
-use Rattle.trees_read_back.proofs.Bools.{never, both-left, both-right, unless, word-kinds, part-kinds}
+use Rattle.base_choices.proofs.Laws.{both-left, both-right}
+use Rattle.trees_read_back.proofs.Bools.{never, unless, word-kinds, part-kinds}
 use Rattle.trees_read_back.proofs.Standing.{till, outered}
 use Rattle.trees_read_back.proofs.Leaves.{Spells, leafed, kindOf, octetsOf}
 use Rattle.trees_read_back.proofs.Order.{Ready, ready-order, ready-fresh, ready-skip, ready-after, column-next}

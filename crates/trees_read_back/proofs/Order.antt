@@ -7,7 +7,7 @@ use native.Mathlib.Omega.{arith}
 use borrow.Author.Tests.{le-leb, le-ltb, leb-true}
 use lib.ListN.{List·getD-eq-default}
 use lib.Dec.{leb, ltb}
-use Rattle.ber_integers.specs.Digits.{pick}
+use Rattle.base_choices.specs.Choices.{pick}
 use Rattle.glow_grammar.specs.Grammar.{requirements, required, isSet}
 use Rattle.glow_steps.specs.Members.{marked, due, inOrder, again, afterListed, column}
 use Rattle.glow_steps.proofs.Marks.{marked-other, marked-none}

@@ -13,7 +13,8 @@ use lib.Dec.{eqb}
 use lib.Ieee as Ieee
 use lib.Ieee.{binary64}
 use lib.Ieee.Bits.{ofBits-fits}
-use Rattle.ber_integers.specs.Digits.{pick}
+use Rattle.base_choices.specs.Choices.{pick}
+use Rattle.base_choices.proofs.Laws.{both-left, both-right}
 use Rattle.ber_reals.specs.declared.Read.the-variants.{Real as Double}
 use Rattle.ber_reals.specs.Real as reals
 use Rattle.ber_reals.specs.Write.{Form, unwritten, octets, form}
@@ -34,7 +35,7 @@ use Rattle.glow_trees.specs.Content.{itemsOf}
 use Rattle.glow_trees.specs.Trees.{Trees, count, flat, Taken, taken, treesOf}
 use Rattle.glow_trees.specs.Legal.{isFormed, isReal, isRoot, legal, legalRoot}
 use Rattle.glow_trees.specs.Written.{tagged, treesOctets, rootNumber, messageOctets, formOctets, writtenReal}
-use Rattle.trees_read_back.proofs.Bools.{never, both-left, both-right, unless}
+use Rattle.trees_read_back.proofs.Bools.{never, unless}
 use Rattle.trees_read_back.proofs.Standing.{till, tagOf, Stood, stood, enter-here, first-here, deep-some}
 use Rattle.trees_read_back.proofs.Leaves.{Spells}
 use Rattle.trees_read_back.proofs.Stages.{Grown, closes}

@@ -8,7 +8,8 @@ use native.Mathlib.Omega.{arith}
 use borrow.Author.Tests.{leb-true}
 use lib.ListN.{length, drop, length-append}
 use lib.Dec.{leb, eqb}
-use Rattle.ber_integers.specs.Digits.{pick}
+use Rattle.base_choices.specs.Choices.{pick}
+use Rattle.base_choices.proofs.Laws.{both-left, both-right}
 use Rattle.ber_tags.specs.Write.{tagOctets, lengthOctets}
 use Rattle.ber_tags.proofs.Written.{tag-cons}
 use Rattle.ber_containers.specs.declared.Onto.the-variants.{Next}
@@ -22,7 +23,7 @@ use Rattle.glow_trees.specs.Content.{Content, nothing, word, bytes, wrong, cont
 use Rattle.glow_trees.specs.Trees.{Trees, none, tree, count, flat, standsIn}
 use Rattle.glow_trees.specs.Legal.{suits, empty, complete, legal}
 use Rattle.glow_trees.specs.Written.{tagged, outer, spelled, memberOctets, membersOctets, wrapped, treesOctets}
-use Rattle.trees_read_back.proofs.Bools.{never, both-left, both-right}
+use Rattle.trees_read_back.proofs.Bools.{never}
 use Rattle.trees_read_back.proofs.Standing.{till, tagOf, outered, last-here}
 use Rattle.trees_read_back.proofs.Leaves.{Spells}
 use Rattle.trees_read_back.proofs.Order.{Ready, ready-start, ready-order, ready-fresh, ready-skip, ready-done, ready-after, set-required}

@@ -12,7 +12,7 @@ use Rattle.ber_integers.specs.Digits as digit
 use Rattle.ber_integers.proofs.Radix.{Below, lt-or-le, digits-below, count-least}
 use Rattle.ber_integers.proofs.Signs.{below-take, below-drop}
 use Rattle.ber_integers.proofs.RoundTrip.{shortest-below}
-use Rattle.ber_containers.proofs.Heads.{pick-by}
+use Rattle.base_choices.proofs.Laws.{pick-by, both-left, both-right}
 use Rattle.ber_tags.specs.Write.{tagOctets, lengthOctets}
 use Rattle.glow_rows.specs.declared.Cell.{Cell}
 use Rattle.glow_rows.specs.Entry.{Entries, Rows}
@@ -24,7 +24,7 @@ use Rattle.glow_trees.specs.Rows.{entriesOf, itemsIn}
 use Rattle.glow_trees.specs.Trees.{Trees, none, tree, count, flat}
 use Rattle.glow_trees.specs.Legal.{isReal, wordSuits, suits, suited, ruleAt, inner, pathAfter, isRoot, legal, legalRoot}
 use Rattle.glow_trees.specs.Written.{tagged, outer, spelled, memberOctets, membersOctets, wrapped, own, treesOctets, rootNumber, messageOctets}
-use Rattle.trees_read_back.proofs.Bools.{both-left, both-right, unless, word-kinds, part-kinds}
+use Rattle.trees_read_back.proofs.Bools.{unless, word-kinds, part-kinds}
 use Rattle.trees_read_back.proofs.Growth.{right}
 use Rattle.trees_accepted.proofs.Sizes.{around, tagged-size}
 use Rattle.trees_accepted.proofs.Tables.{stands-kind, application-short}

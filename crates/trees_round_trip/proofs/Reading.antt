@@ -7,16 +7,16 @@ use native.Mathlib.Omega.{arith}
 use borrow.Author.Tests.{ltb-false}
 use lib.ListN.{length}
 use lib.Dec.{ltb}
-use Rattle.ber_integers.specs.Digits.{pick}
+use Rattle.base_choices.specs.Choices.{pick}
+use Rattle.base_choices.proofs.Laws.{pick-by}
 use Rattle.ber_integers.proofs.Radix.{Below}
 use Rattle.ber_containers.specs.declared.Onto.{Onto}
 use Rattle.ber_containers.specs.declared.Onto.the-variants.{Next, Refused as Stopped}
-use Rattle.ber_containers.proofs.Heads.{pick-by}
 use Rattle.glow_rows.specs.Entry.{Entries, Rows, overlay}
 use Rattle.glow_reader.specs.declared.Answer.{Answer}
 use Rattle.glow_reader.specs.declared.Answer.the-variants.{Read}
 use Rattle.glow_walk.specs.Walk.{walk}
-use Rattle.glow_reader.specs.Message.{saidBy, Result, readOf, readAt, setup}
+use Rattle.glow_reader.specs.Message.{replyBy, Result, readOf, readAt, setup}
 use Rattle.glow_reader.proofs.Answers.{isRead}
 use Rattle.glow_trees.specs.Rows.{itemsIn}
 use Rattle.glow_trees.specs.Trees.{Trees, flat}
@@ -47,14 +47,14 @@ module _ (s : List ℕ) (table : Rows) (root count : ℕ) where
   of-walk f m (Next next) q =
       pick-by Says (ltb (length table) (length (walk s .out .entries))) (λ e h. never (ap isRead h))
       (λ e h.
-      let c : length (walk s .out .entries) ≡ count = ap (λ (x : Answer). saidBy x .count) h in
+      let c : length (walk s .out .entries) ≡ count = ap (λ (x : Answer). replyBy x .count) h in
       let l = ltb-false (length table) (length (walk s .out .entries)) e in
       record {
         few = f;
         most = m;
         next = next;
         answer = q;
-        which = ap (λ (x : Answer). saidBy x .root) h;
+        which = ap (λ (x : Answer). replyBy x .root) h;
         counts = c;
         room = omega arith;
         holds = refl;

@@ -7,7 +7,8 @@ use native.Mathlib.Omega.{arith}
 use lib.ListN.{length, take}
 use lib.Seq.{length-take-le}
 use lib.Dec.{eqb}
-use Rattle.ber_integers.specs.Digits.{pick}
+use Rattle.base_choices.specs.Choices.{pick}
+use Rattle.base_choices.proofs.Laws.{both-right}
 use Rattle.glow_rows.specs.declared.Cell.{Cell}
 use Rattle.glow_rows.specs.Entry.{Entry, Entries, words, row, Rows, overlay}
 use Rattle.glow_grammar.specs.Grammar.{ruleOf}
@@ -15,7 +16,7 @@ use Rattle.glow_trees.specs.Content.{contentsOf, Item, itemsOf}
 use Rattle.glow_trees.specs.Rows.{cellAt, cellsFrom, entryOf, entriesOf, itemsIn}
 use Rattle.glow_trees.specs.Trees.{Trees, none, tree, count, flat}
 use Rattle.glow_trees.specs.Legal.{isNone, pathAfter, isRoot, legal, legalRoot}
-use Rattle.trees_read_back.proofs.Bools.{never, both-right}
+use Rattle.trees_read_back.proofs.Bools.{never}
 use Rattle.trees_read_back.proofs.Growth.{right}
 use Rattle.trees_accepted.proofs.Lists.{items-length}
 

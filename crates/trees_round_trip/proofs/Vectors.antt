@@ -12,13 +12,13 @@ use Rattle.ber_integers.specs.declared.Wrote.the-variants.{Next}
 use Rattle.ber_integers.proofs.Radix.{Below}
 use Rattle.glow_rows.specs.Entry.{Rows}
 use Rattle.glow_reader.specs.Message.{readAt}
-use Rattle.glow_grammar.specs.Leaf.{both}
+use Rattle.base_choices.specs.Choices.{both}
+use Rattle.base_choices.proofs.Laws.{both-left, both-right}
 use Rattle.glow_trees.specs.Content.{Item, itemsOf, contentOf, contentsOf}
 use Rattle.glow_trees.specs.Rows.{cellsFrom, entriesOf, itemsIn}
 use Rattle.glow_trees.specs.Trees.{flat, stands, takenBy, treesOf}
 use Rattle.glow_trees.specs.Written.{writtenReal}
 use Rattle.glow_trees.proofs.Vectors.{p12, p12-legal, p12-written}
-use Rattle.trees_read_back.proofs.Bools.{both-left, both-right}
 use Rattle.glow_sizes.specs.Accepted.{octetsOf, isWhole, accepted}
 use Rattle.glow_writer.specs.Writes.{writes}
 use Rattle.trees_round_trip.proofs.Writing.{whole-tree, octets-tree, fits-by, writes-yes, writes-any}

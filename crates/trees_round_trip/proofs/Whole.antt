@@ -6,7 +6,7 @@ use mathlib.Core.Bool.{Bool, true, false}
 use borrow.Author.Tests.{eqb-true}
 use lib.ListN.{length}
 use lib.Dec.{eqb}
-use Rattle.ber_integers.specs.Digits.{pick}
+use Rattle.base_choices.specs.Choices.{pick}
 use Rattle.glow_grammar.specs.Grammar.{children, connections}
 use Rattle.glow_trees.specs.Content.{Item, item}
 use Rattle.glow_trees.specs.Trees.{none, tree, count, flat, standsIn, Taken, taken, stands, takenBy, treesOf}

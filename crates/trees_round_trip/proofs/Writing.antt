@@ -8,11 +8,12 @@ use native.Mathlib.Omega.{arith}
 use borrow.Author.Tests.{leb-true, leb-false, le-leb, lt-leb}
 use lib.ListN.{length, drop}
 use lib.Dec.{leb}
-use Rattle.ber_integers.specs.Digits.{pick, Put, outcome, put, unchanged}
+use Rattle.base_choices.specs.Choices.{pick}
+use Rattle.base_choices.proofs.Laws.{pick-by, both-left, both-right, both-make}
+use Rattle.ber_integers.specs.Digits.{Put, outcome, put, unchanged}
 use Rattle.ber_integers.specs.declared.Wrote.{Wrote}
 use Rattle.ber_integers.specs.declared.Wrote.the-variants.{Next, Out}
 use Rattle.ber_integers.proofs.Radix.{Below}
-use Rattle.ber_containers.proofs.Heads.{pick-by}
 use Rattle.glow_rows.specs.Entry.{Entries, Rows, overlay}
 use Rattle.glow_reader.specs.declared.Answer.the-variants.{Read}
 use Rattle.glow_reader.specs.Message.{Result, readAt}
@@ -21,11 +22,10 @@ use Rattle.glow_trees.specs.Rows.{itemsIn}
 use Rattle.glow_trees.specs.Trees.{Trees, count, flat, Taken, taken, treesOf}
 use Rattle.glow_trees.specs.Legal.{legalRoot}
 use Rattle.glow_trees.specs.Written.{messageOctets, writtenReal}
-use Rattle.trees_read_back.proofs.Bools.{never, both-left, both-right}
+use Rattle.trees_read_back.proofs.Bools.{never}
 use Rattle.trees_read_back.proofs.Leaves.{Spells}
 use Rattle.trees_accepted.proofs.Lists.{flat-length}
 use Rattle.trees_read_back.proofs.ReadBack.{read-back}
-use Rattle.trees_accepted.proofs.Bools.{both-make}
 use Rattle.trees_accepted.proofs.Once.{made-again}
 use Rattle.glow_member_sizes.specs.Spelling.{leastReal}
 use Rattle.glow_sizes.specs.Accepted.{isEnd, isWhole, octetsOf, accepted, fits, lengthOf}

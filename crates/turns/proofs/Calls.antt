@@ -21,7 +21,7 @@ use Rattle.glow_reader.specs.Message.{result, readAt}
 use Rattle.desk_crosspoints.specs.Crosspoints.{Cells}
 use Rattle.desk_crosspoints.specs.Desk.{Desk, deskAt, withCells}
 use Rattle.desk_calls.specs.declared.Called.{Called}
-use Rattle.desk_calls.specs.Calls.{called, told as answered}
+use Rattle.desk_calls.specs.Calls.{called, outcomeOf as answered}
 use Rattle.turns.specs.declared.Turned.{Turned}
 use Rattle.turns.specs.Turns as turns
 use Rattle.turns.specs.Turns.{Later, Turn, Comes, Turns, calls}

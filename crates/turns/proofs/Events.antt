@@ -5,10 +5,9 @@ use mathlib.Core.List.{List, [], _∷_}
 use mathlib.Core.Path.{_≡_, refl, sym, ap, _∙_}
 use borrow.Author.Tests.{eqb-true}
 use lib.Dec.{eqb}
-use Rattle.framing_content.specs.Numbers as numbers
+use Rattle.base_choices.specs.Choices.{pick}
 use Rattle.framing_session.specs.Rules as framing
 use Rattle.framing_session.specs.Rules.{State, Said, step, Happening, happens}
-use Rattle.ber_integers.specs.Digits.{pick}
 use Rattle.desk_crosspoints.specs.Desk.{Desk}
 use Rattle.turns.specs.Rules.{keep, Follow, follow, nothing, follows, Told, noted, next, tells, after}
 
@@ -36,7 +35,7 @@ module _ (rows : ℕ) (d : Desk) (e : Said) (n : ℕ) (hs : List Happening) wher
   told-noted = go (eqb (e .number) 0) refl
     where
       go : (u : Bool) → eqb (e .number) 0 ≡ u
-          → toldOf rows d (numbers.pick u hs (record { offset = n; said = e } ∷ hs))
+          → toldOf rows d (pick u hs (record { offset = n; said = e } ∷ hs))
           ≡ pick u (toldOf rows (f .desk) hs) (record { offset = n; event = e; after = f .told } ∷ toldOf rows (f .desk) hs)
       go true q = ap (λ (x : Follow). toldOf rows (x .desk) hs) (sym (quiet-follows rows d e q))
       go false q = refl
@@ -46,7 +45,7 @@ module _ (rows : ℕ) (d : Desk) (e : Said) (n : ℕ) (hs : List Happening) wher
   desk-noted = go (eqb (e .number) 0) refl
     where
       go : (u : Bool) → eqb (e .number) 0 ≡ u
-          → deskOver rows d (numbers.pick u hs (record { offset = n; said = e } ∷ hs)) ≡ deskOver rows (f .desk) hs
+          → deskOver rows d (pick u hs (record { offset = n; said = e } ∷ hs)) ≡ deskOver rows (f .desk) hs
       go true q = ap (λ (x : Follow). deskOver rows (x .desk) hs) (sym (quiet-follows rows d e q))
       go false q = refl
 

@@ -16,12 +16,12 @@ use Rattle.framing_session.proofs.Laws.{number-apart}
 use Rattle.glow_rows.specs.Entry.{Rows}
 use Rattle.glow_reader.specs.declared.Answer.{Answer}
 use Rattle.glow_reader.specs.declared.Answer.the-variants.{Read}
-use Rattle.glow_reader.specs.Message.{Result, result, readAt, saidBy as treeSaid}
+use Rattle.glow_reader.specs.Message.{Result, result, readAt, replyBy as treeSaid}
 use Rattle.glow_trees.specs.Content.{Item}
 use Rattle.glow_trees.specs.Rows.{itemsIn}
 use Rattle.desk_crosspoints.specs.Crosspoints.{Cells, clear}
 use Rattle.desk_crosspoints.specs.Desk.{Desk, withCells, deskLegal}
-use Rattle.desk_calls.specs.Calls.{Served, handled, Outcome, filled, laid, isReady, called, told as answered}
+use Rattle.desk_calls.specs.Calls.{Served, handled, Outcome, filled, laid, isReady, called, outcomeOf as answered}
 use Rattle.desk_calls.proofs.Setup.{called-ready, ready-from}
 use Rattle.desk_calls.proofs.Claims.{called-legal}
 use Rattle.trees_round_trip.proofs.Theorems.{read-accepted}

@@ -8,15 +8,14 @@ use borrow.Author.Tests.{eqb-false, le-ltb}
 use types.Run.{OneOf, hit, miss}
 use lib.ListN.{length, take}
 use lib.Dec.{leb}
-use Rattle.ber_integers.specs.Digits.{pick}
+use Rattle.base_choices.specs.Choices.{both}
 use Rattle.framing_session.specs.declared.Event.{Event}
 use Rattle.framing_session.specs.Session.{saidBy}
 use Rattle.glow_rows.specs.Entry.{Rows}
 use Rattle.glow_reader.specs.declared.Answer.{Answer}
 use Rattle.glow_reader.specs.declared.Answer.the-variants.{Setup, Refused, Room, Read}
-use Rattle.glow_reader.specs.Message.{refusals, Result, Said, setup, readAt, saidBy as treeSaid}
+use Rattle.glow_reader.specs.Message.{refusals, Result, Reply, setup, readAt, replyBy as treeSaid}
 use Rattle.glow_reader.proofs.Answers.{said-is, refusal-numbers, read-numbers, read-setup}
-use Rattle.glow_grammar.specs.Leaf as leaf
 use Rattle.glow_trees.specs.Content.{Item}
 use Rattle.glow_trees.specs.Rows.{itemsIn}
 use Rattle.glow_trees.specs.Trees.{flat, treesOf}
@@ -36,7 +35,7 @@ use Rattle.desk_calls.proofs.Numbers.{served-numbers, call-numbers}
 use Rattle.turns.specs.Turns.{Later, none, read, desk, isRead, Comes, ends, reads, serves}
 use Rattle.turns.specs.Whole.{answerTo, readTo}
 
-left : (a b : Bool) → leaf.both a b ≡ true → a ≡ true
+left : (a b : Bool) → both a b ≡ true → a ≡ true
 left true b h = refl
 left false b h = h
 
@@ -68,7 +67,7 @@ module _ (m : List ℕ) (table : Rows) (few : length table ≤ 256) (short : len
   -- an answer other than 0 is a refusal
   pub refused-number : (a : Answer) → readAt m table .answer ≡ a → isRead a ≡ false → OneOf refusedNumbers (treeSaid a .number)
   refused-number Setup e h =
-      absurd (miss treeNumbers 1 tt (subst (OneOf treeNumbers) (ap (λ (x : Said). x .number) (said-is m table) ∙ ap (λ (x : Answer). treeSaid x .number) e)
+      absurd (miss treeNumbers 1 tt (subst (OneOf treeNumbers) (ap (λ (x : Reply). x .number) (said-is m table) ∙ ap (λ (x : Answer). treeSaid x .number) e)
       tree-number))
   refused-number (Refused number place) e h = inr (refusal-numbers m table e)
   refused-number (Room count) e h = hit refusedNumbers 38 tt
@@ -163,7 +162,7 @@ module _ (d : Desk) (m : List ℕ) where
     pub later-tree : length table ≤ 256 → length m ≤ 16384 → OneOf treeNumbers (treeNumber (readTo d m table .later))
     unfolding readTo
     later-tree few short =
-        subst (OneOf treeNumbers) (ap (λ (x : Said). x .number) (said-is m table) ∙ sym (answer-tree (readAt m table .answer) (readAt m table .rows)))
+        subst (OneOf treeNumbers) (ap (λ (x : Reply). x .number) (said-is m table) ∙ sym (answer-tree (readAt m table .answer) (readAt m table .rows)))
         (tree-number m table few short)
 
     pub later-desk : OneOf callNumbers (deskNumber (readTo d m table .later))

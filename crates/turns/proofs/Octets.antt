@@ -15,11 +15,12 @@ use Rattle.framing_session.specs.declared.Event.the-variants as ev
 use Rattle.framing_content.specs.declared.Fault.{Fault}
 use Rattle.framing_content.specs.declared.Fault.the-variants.{Stray, Cut, Byte, Long, Escape, Orphan, Big}
 use Rattle.framing_content.specs.Content.{contentOf, body, payload}
-use Rattle.framing_content.specs.Numbers.{BOF, EOF, CE, contentLimit, messageLimit, pick}
+use Rattle.base_choices.specs.Choices.{pick}
+use Rattle.base_choices.proofs.Laws.{pick-by}
+use Rattle.framing_content.specs.Numbers.{BOF, EOF, CE, contentLimit, messageLimit}
 use Rattle.framing_session.specs.Rules.{Place, outside, stray, inside, escaped, badByte, tooLong, Message, none, part, isOpen, State, Said, Step, begin}
 use Rattle.framing_session.specs.Rules.{makes, refuses, adds, joins, pieces, reads, ends, faulted, cuts, inPlace, step, Happening, noted, happens}
 use Rattle.framing_session.specs.Session.{content, held, saidBy}
-use Rattle.framing_session.proofs.Laws.{pick-by}
 
 pub below-append : (xs ys : List ℕ) → Below 256 xs → Below 256 ys → Below 256 (xs ++ ys)
 below-append [] ys h k = k

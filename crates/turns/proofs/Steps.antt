@@ -20,7 +20,7 @@ use Rattle.glow_reader.specs.Message.{Result, result, readAt}
 use Rattle.desk_crosspoints.specs.Crosspoints.{Cells}
 use Rattle.desk_crosspoints.specs.Desk.{Desk}
 use Rattle.desk_calls.specs.declared.Called.{Called}
-use Rattle.desk_calls.specs.Calls.{called, told as answered}
+use Rattle.desk_calls.specs.Calls.{called, outcomeOf as answered}
 use Rattle.turns.specs.Turns.{none, read, desk, isMessage, isRead}
 use Rattle.turns.specs.Whole.{Left, left, unasked, deskTo, answerTo, readTo, laterAt}
 

@@ -6,7 +6,7 @@ use mathlib.Core.Path.{_≡_, refl, sym, ap, _∙_}
 use native.Mathlib.Omega.{arith}
 use lib.Dec.{ltb}
 use lib.ListN.{length}
-use Rattle.ber_integers.specs.Digits.{pick}
+use Rattle.base_choices.specs.Choices.{pick}
 use Rattle.ber_integers.proofs.Radix.{Below}
 use Rattle.ber_containers.specs.declared.Onto.{Onto}
 use Rattle.ber_containers.specs.declared.Onto.the-variants.{Next, Refused as Stopped}
@@ -14,7 +14,7 @@ use Rattle.glow_rows.specs.Entry.{Entries, Rows, overlay}
 use Rattle.glow_reader.specs.declared.Answer.{Answer}
 use Rattle.glow_reader.specs.declared.Answer.the-variants.{Setup, Refused, Room, Read}
 use Rattle.glow_walk.specs.Walk.{walk}
-use Rattle.glow_reader.specs.Message.{saidBy, result, readOf, readAt, setup}
+use Rattle.glow_reader.specs.Message.{replyBy, result, readOf, readAt, setup}
 use Rattle.glow_trees.specs.Content.{Item, itemsOf}
 use Rattle.glow_trees.specs.Rows.{itemsIn}
 use Rattle.trees_accepted.proofs.Lists.{items-length}
@@ -26,17 +26,17 @@ use Rattle.turns.specs.Turns.{isRead}
 
 -- by the answer
 abbrev treeFor : Answer → List Item → Tree
-treeFor Setup es = refusal (saidBy Setup)
-treeFor (Refused number place) es = refusal (saidBy (Refused number place))
-treeFor (Room count) es = refusal (saidBy (Room count))
-treeFor (Read root count) es = entries (saidBy (Read root count)) es
+treeFor Setup es = refusal (replyBy Setup)
+treeFor (Refused number place) es = refusal (replyBy (Refused number place))
+treeFor (Room count) es = refusal (replyBy (Room count))
+treeFor (Read root count) es = entries (replyBy (Read root count)) es
 
 for-by : (s : List ℕ) (table : Rows) (which : ℕ) (es : Entries) (a : Onto)
     → treeBy (length table) which (itemsOf s es) a ≡ treeFor (readOf table which es a .answer) (itemsOf s es)
 for-by s table which es (Next next) = rw (items-length s es) (go (ltb (length table) (length es)))
   where
     go : (u : Bool)
-        → pick u (refusal (saidBy (Room (length es)))) (entries (saidBy (Read which (length es))) (itemsOf s es))
+        → pick u (refusal (replyBy (Room (length es)))) (entries (replyBy (Read which (length es))) (itemsOf s es))
         ≡ treeFor (pick u (result (Room (length es)) table) (result (Read which (length es)) (overlay es table)) .answer) (itemsOf s es)
     go true = refl
     go false = refl
@@ -47,20 +47,20 @@ unfolding treeOf readAt
 tree-for s table = go (setup (length s) (length table))
   where
     go : (u : Bool)
-        → pick u (refusal (saidBy Setup)) (treeBy (length table) (walk s .which) (itemsOf s (walk s .out .entries)) (walk s .out .answer))
+        → pick u (refusal (replyBy Setup)) (treeBy (length table) (walk s .which) (itemsOf s (walk s .out .entries)) (walk s .out .answer))
         ≡ treeFor (pick u (result Setup table) (readOf table (walk s .which) (walk s .out .entries) (walk s .out .answer)) .answer)
         (itemsOf s (walk s .out .entries))
     go true = refl
     go false = for-by s table (walk s .which) (walk s .out .entries) (walk s .out .answer)
 
 -- another answer than 0
-refused-for : (a : Answer) (es : List Item) → isRead a ≡ false → treeFor a es ≡ refusal (saidBy a)
+refused-for : (a : Answer) (es : List Item) → isRead a ≡ false → treeFor a es ≡ refusal (replyBy a)
 refused-for Setup es h = refl
 refused-for (Refused number place) es h = refl
 refused-for (Room count) es h = refl
 refused-for (Read root count) es h = let z : _≡_ {A = ℕ} 0 1 = cc in absurd (omega arith)
 
-pub tree-refused : (s : List ℕ) (table : Rows) (a : Answer) → readAt s table .answer ≡ a → isRead a ≡ false → treeOf s (length table) ≡ refusal (saidBy a)
+pub tree-refused : (s : List ℕ) (table : Rows) (a : Answer) → readAt s table .answer ≡ a → isRead a ≡ false → treeOf s (length table) ≡ refusal (replyBy a)
 tree-refused s table a e h = tree-for s table ∙ ap (λ (x : Answer). treeFor x (itemsOf s (walk s .out .entries))) e ∙ refused-for a _ h
 
 -- .. and after 0 the entries are those in the table's first rows
@@ -81,8 +81,8 @@ module _ (s : List ℕ) (octets : Below 256 s) (table : Rows) (root count : ℕ)
       ∙ ap (itemsIn s (overlay es table)) (sym (w .counts))
       ∙ rows-items s es table (tree-sixteen s es (walk s .which) (l .0) (l .1 .0) (l .1 .1)) k
 
-  pub tree-read : treeOf s (length table) ≡ entries (saidBy (Read root count)) (itemsIn s (readAt s table .rows) count)
+  pub tree-read : treeOf s (length table) ≡ entries (replyBy (Read root count)) (itemsIn s (readAt s table .rows) count)
   tree-read =
       tree-for s table
       ∙ ap (λ (x : Answer). treeFor x (itemsOf s es)) h
-      ∙ ap (entries (saidBy (Read root count))) (sym in-rows)
+      ∙ ap (entries (replyBy (Read root count))) (sym in-rows)

@@ -23,7 +23,7 @@ use Rattle.glow_steps.specs.Members.{plainAt, innerAt, listedAt, ruledAt, membe
 use Rattle.glow_walk.specs.Tree.{closed, membersBy, itemsBy}
 use Rattle.glow_steps.specs.Root.{rootKind, topAt}
 use Rattle.glow_walk.specs.Walk.{finished, walk}
-use Rattle.glow_reader.specs.Message.{setup, saidBy}
+use Rattle.glow_reader.specs.Message.{setup, replyBy}
 use Rattle.glow_trees.specs.Content.{Content, nothing as absent, word, bytes, Item, item, contentOf, contentsOf as contentsIn, itemsOf}
 use Rattle.desk_crosspoints.specs.declared.Figures.{Figures}
 use Rattle.desk_crosspoints.specs.Crosspoints.{Cells}
@@ -61,8 +61,8 @@ none (suc n) = absent ∷ none n
 -- one entry, no connection and so no answer; with no table 38, one entry told
 pub v-command : (d : Desk)
     → (tells 1 (keep begin d) 0 (framed p12 0xb8 0x65)
-    ≡ event 26 3 p12 (served (saidBy (Read 0 1)) (item 2 0 (word 2 32 ∷ none 15) ∷ []) 0 []) ∷ [])
-    × (tells 0 (keep begin d) 0 (framed p12 0xb8 0x65) ≡ event 26 3 p12 (refused (saidBy (Room 1))) ∷ [])
+    ≡ event 26 3 p12 (served (replyBy (Read 0 1)) (item 2 0 (word 2 32 ∷ none 15) ∷ []) 0 []) ∷ [])
+    × (tells 0 (keep begin d) 0 (framed p12 0xb8 0x65) ≡ event 26 3 p12 (refused (replyBy (Room 1))) ∷ [])
 unfolding tells follows step inPlace adds ends cuts pieces frameOf bodyOf commandOf packetOf checksum crcFrom crcStep table
     headAt tagNumber longNumber stop cut lengthAt sized horner signed nineFree twos integer integerAt boolean boolAt isListed kindAt contentAt
     arcIs arcFrom arcAt arcsFrom zeroAt closingAt standingAt deep enterAt firstAt lastAt isTag skipped crossAt throughBy passedAt
@@ -84,7 +84,7 @@ entriesOf p t = item 7 0 (bytes 13 (1 ∷ p ∷ []) ∷ none 15) ∷ item 8 1 (w
 -- "40 MATRIX: other path": whatever figures and crosspoints the desk has, they are as they were
 pub v-other : (f : Figures) (cells : Cells)
     → (tells 2 (keep begin (desk f cells)) 0 (framed (asks 6 0) 0x3a 0xb6)
-    ≡ event 45 3 (asks 6 0) (served (saidBy (Read 0 2)) (entriesOf 6 0) 0 (40 ∷ [])) ∷ [])
+    ≡ event 45 3 (asks 6 0) (served (replyBy (Read 0 2)) (entriesOf 6 0) 0 (40 ∷ [])) ∷ [])
     × (after 2 (keep begin (desk f cells)) (framed (asks 6 0) 0x3a 0xb6) ≡ keep begin (desk f cells))
 unfolding tells after follows step inPlace adds ends cuts pieces frameOf bodyOf commandOf packetOf checksum crcFrom crcStep table
     headAt tagNumber longNumber stop cut lengthAt sized horner signed nineFree twos integer integerAt boolean boolAt isListed kindAt contentAt
@@ -102,8 +102,8 @@ done f t cells = handled (desk f cells) (entriesOf 5 t)
 
 pub v-on : (f : Figures) (cells : Cells)
     → (tells 2 (keep begin (desk f cells)) 0 (framed (asks 5 0) 0xf0 0x0b ++ framed (asks 5 2) 0xa6 0x03)
-    ≡ event 45 3 (asks 5 0) (served (saidBy (Read 0 2)) (entriesOf 5 0) 0 (done f 0 cells .answers))
-    ∷ event 90 3 (asks 5 2) (served (saidBy (Read 0 2)) (entriesOf 5 2) 0 (done f 2 (done f 0 cells .cells) .answers)) ∷ [])
+    ≡ event 45 3 (asks 5 0) (served (replyBy (Read 0 2)) (entriesOf 5 0) 0 (done f 0 cells .answers))
+    ∷ event 90 3 (asks 5 2) (served (replyBy (Read 0 2)) (entriesOf 5 2) 0 (done f 2 (done f 0 cells .cells) .answers)) ∷ [])
     × (after 2 (keep begin (desk f cells)) (framed (asks 5 0) 0xf0 0x0b ++ framed (asks 5 2) 0xa6 0x03)
     ≡ keep begin (desk f (done f 2 (done f 0 cells .cells) .cells)))
 unfolding tells after follows step inPlace adds ends cuts pieces frameOf bodyOf commandOf packetOf checksum crcFrom crcStep table

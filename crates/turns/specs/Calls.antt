@@ -24,7 +24,7 @@ use Rattle.glow_reader.proofs.read.Reads as read-reads
 use Rattle.desk_crosspoints.specs.Crosspoints.{Cells}
 use Rattle.desk_crosspoints.specs.Desk.{Desk, withCells}
 use Rattle.desk_calls.specs.declared.Called.{Called}
-use Rattle.desk_calls.specs.Calls.{told as answered}
+use Rattle.desk_calls.specs.Calls.{outcomeOf as answered}
 use Rattle.desk_calls.proofs.call
 use Rattle.desk_calls.proofs.call.Kinds as call-kinds
 use Rattle.desk_calls.proofs.call.Reads as call-reads

@@ -5,13 +5,13 @@ use Prim.Native.Nat.{ℕ, _+_}
 use mathlib.Core.List.{List, [], _∷_}
 use lib.Dec.{ltb, eqb}
 use lib.ListN.{length}
-use Rattle.ber_integers.specs.Digits.{pick}
+use Rattle.base_choices.specs.Choices.{pick}
 use Rattle.ber_containers.specs.declared.Onto.{Onto}
 use Rattle.ber_containers.specs.declared.Onto.the-variants.{Next, Refused as Stopped}
 use Rattle.framing_session.specs.Rules.{State, Said, step}
 use Rattle.glow_reader.specs.declared.Answer.the-variants.{Setup, Refused, Room, Read}
 use Rattle.glow_walk.specs.Walk.{walk}
-use Rattle.glow_reader.specs.Message.{setup, saidBy, Said as TreeSaid}
+use Rattle.glow_reader.specs.Message.{setup, replyBy, Reply as TreeSaid}
 use Rattle.glow_trees.specs.Content.{Item, itemsOf}
 use Rattle.desk_crosspoints.specs.Desk.{Desk, withCells}
 use Rattle.desk_calls.specs.Calls.{Served, handled}
@@ -34,13 +34,13 @@ pub data Tree : Type 0 where
 -- "38 ROOM: message right, table too small; says how many"
 abbrev pub treeBy : ℕ → ℕ → List Item → Onto → Tree
 treeBy table root es (Next next) =
-    pick (ltb table (length es)) (refusal (saidBy (Room (length es)))) (entries (saidBy (Read root (length es))) es)
-treeBy table root es (Stopped e) = refusal (saidBy (Refused (e .0) (e .1)))
+    pick (ltb table (length es)) (refusal (replyBy (Room (length es)))) (entries (replyBy (Read root (length es))) es)
+treeBy table root es (Stopped e) = refusal (replyBy (Refused (e .0) (e .1)))
 
 -- by the message's bytes and the table's length; "1 SETUP: .. table over 256 entries, message over 16,384 bytes"
 unfoldable pub treeOf : List ℕ → ℕ → Tree
 treeOf s table =
-    pick (setup (length s) table) (refusal (saidBy Setup))
+    pick (setup (length s) table) (refusal (replyBy Setup))
     (treeBy table (walk s .which) (itemsOf s (walk s .out .entries)) (walk s .out .answer))
 
 -- ---- what follows an event

@@ -16,12 +16,12 @@ use Rattle.framing.specs.Offers as offers
 use Rattle.glow_rows.specs.Entry.{Rows}
 use Rattle.glow_reader.specs.declared.Answer.{Answer}
 use Rattle.glow_reader.specs.declared.Answer.the-variants.{Setup, Refused, Room, Read}
-use Rattle.glow_reader.specs.Message.{result, readAt, saidBy as treeSaid}
+use Rattle.glow_reader.specs.Message.{result, readAt, replyBy as treeSaid}
 use Rattle.glow_trees.specs.Rows.{itemsIn}
 use Rattle.desk_crosspoints.specs.Crosspoints.{Cells}
 use Rattle.desk_crosspoints.specs.Desk.{Desk, withCells, deskLegal}
 use Rattle.desk_calls.specs.declared.Called.{Called}
-use Rattle.desk_calls.specs.Calls.{Outcome, called, told as answered}
+use Rattle.desk_calls.specs.Calls.{Outcome, called, outcomeOf as answered}
 use Rattle.turns.specs.Rules.{keep, Then, nothing, refused, served, Told, noted, tells, after}
 
 -- What came after the session's call: nothing; the tree reader's answer, other than 0, and the table after it; its answer 0 (Root's kind and how many

@@ -26,7 +26,7 @@ returns c =
     let the-wide2 = c .before .wide2 in
     let the-wide3 = c .wide3 in
     let the-if1 = c .before .before .before .if1 in
-    tag-definite _ _ _ _ (the-wide .ensures) (the-wide2 .ensures) (the-wide3 .ensures) (the-if1 .taken)
+    tag-definite _ _ _ _ (the-wide .ensures .0) (the-wide2 .ensures .0) (the-wide3 .ensures .0) (the-if1 .taken)
 
 wide-requires-4 : tie.Need-wide-requires-4
 wide-requires-4 c κs = search needs
@@ -43,7 +43,7 @@ returns-2 c =
     let the-wide5 = c .before .wide5 in
     let the-wide6 = c .wide6 in
     let the-if1 = c .before .before .before .if1 in
-    tag-open _ _ _ _ (the-wide4 .ensures) (the-wide5 .ensures) (the-wide6 .ensures) (the-if1 .left)
+    tag-open _ _ _ _ (the-wide4 .ensures .0) (the-wide5 .ensures .0) (the-wide6 .ensures .0) (the-if1 .left)
 
 pub short-tag-spec : {M : Type 1} → statement M
 short-tag-spec =

@@ -75,8 +75,8 @@ returns-5 c =
     let the-zero-at = c .before .before .before .before .before .before .before .before .zero-at in
     let the-if3 = c .before .before .before .before .before .before .before .if3 in
     let e = sym (the-read-tag .ensures .is) ∙ the-class .given .1 in (
-      standing-here _ _ _ e (the-wide .ensures) (the-flag .ensures) (the-open-of .ensures .0) (the-if1 .left) (the-zero-at .ensures ∙ the-if3 .left),
-      ahead-here _ _ _ e (the-wide .ensures) (the-flag .ensures) (the-open-of .ensures .1),
+      standing-here _ _ _ e (the-wide .ensures .0) (the-flag .ensures) (the-open-of .ensures .0) (the-if1 .left) (the-zero-at .ensures ∙ the-if3 .left),
+      ahead-here _ _ _ e (the-wide .ensures .0) (the-flag .ensures) (the-open-of .ensures .1),
     )
 
 pub standing-spec : {M : Type 1} → statement M

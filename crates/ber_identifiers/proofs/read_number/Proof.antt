@@ -1,4 +1,4 @@
-use Rattle.ber_integers.proofs.Told.{told}
+use Rattle.ber_integers.proofs.Promises.{promised}
 use Prim.Native.Nat.{_≤_, _<_, _+_, _-_, _*_, _%_}
 use mathlib.Core.Path.{_≡_, refl, sym, subst, _∙_}
 use native.Mathlib.Omega.{arith}
@@ -24,16 +24,16 @@ whole : (c : tie.Else3 Inv-loop μ-loop) {r : Arc} → r ≡ arcFrom 0 (c .befor
 whole c e = e ∙ arc-from _ _ _ (c .before .before .before .if1 .left) (c .before .before .if2 .left) (λ h. omega (arith, h, c .if3 .left))
 
 returns : tie.Need-returns Inv-loop μ-loop
-returns c = (told arc-row (arc-past _ _ _ (c .if1 .taken)), tt)
+returns c = (promised arc-row (arc-past _ _ _ (c .if1 .taken)), tt)
 
 returns-2 : tie.Need-returns-2 Inv-loop μ-loop
-returns-2 c = (told arc-row (arc-none _ _ _ (c .before .if1 .left) (c .if2 .taken)), tt)
+returns-2 c = (promised arc-row (arc-none _ _ _ (c .before .if1 .left) (c .if2 .taken)), tt)
 
 shared-slice-read-if3 : tie.Need-shared-slice-read-if3 Inv-loop μ-loop
 shared-slice-read-if3 c = omega arith
 
 returns-3 : tie.Need-returns-3 Inv-loop μ-loop
-returns-3 c = (told arc-row (arc-80 _ _ _ (c .before .before .before .if1 .left) (c .before .before .if2 .left) (omega arith)), tt)
+returns-3 c = (promised arc-row (arc-80 _ _ _ (c .before .before .before .if1 .left) (c .before .before .if2 .left) (omega arith)), tt)
 
 loop-holds : tie.Need-loop-holds Inv-loop μ-loop
 loop-holds c = (omega arith, (omega arith, (omega arith, refl)))
@@ -63,7 +63,7 @@ returns-4 c =
     let e = whole (c .before .before .before .before .before .before) (l .inv .1 .1 .1) in
     let h : l .i < c .before .before .before .before .before .before .before .before .before .before .before .args .end = c .before .before .before .before .loop-test .taken in
     let r = c .ended .ensures in (
-      told arc-row (r ∙ rw (c .before .wide .ensures .0) (from-last _ _ (l .acc) (l .i) w h (c .before .before .if4 .taken)) ∙ e),
+      promised arc-row (r ∙ rw (c .before .wide .ensures .0) (from-last _ _ (l .acc) (l .i) w h (c .before .before .if4 .taken)) ∙ e),
       subst (ArcWithin _ _) (sym r) (arc-within _ _ _ _ (omega arith) (omega arith)),
     )
 
@@ -105,7 +105,7 @@ loop-again-2 c =
 returns-5 : tie.Need-returns-5 Inv-loop μ-loop
 returns-5 c =
     let l = c .before .loop in
-    (told arc-row (from-end _ _ (l .acc) (l .i) (c .before .before .before .before .before .if1 .left) (c .loop-test .left) ∙ whole (c .before .before) (l .inv .1 .1 .1)), tt)
+    (promised arc-row (from-end _ _ (l .acc) (l .i) (c .before .before .before .before .before .if1 .left) (c .loop-test .left) ∙ whole (c .before .before) (l .inv .1 .1 .1)), tt)
 
 pub read-number-spec : {M : Type 1} → statement M
 read-number-spec =

@@ -1,4 +1,4 @@
-use Rattle.ber_integers.proofs.Told.{told}
+use Rattle.ber_integers.proofs.Promises.{promised}
 use Prim.Native.Nat.{ℕ, _≤_, _+_, _-_}
 use mathlib.Core.Path.{_≡_, sym, ap, subst, _∙_}
 use native.Mathlib.Omega.{arith}
@@ -16,13 +16,13 @@ abbrev μ-loop : tie.MeasureT-loop
 μ-loop s at n end p₀ count₀ over₀ p count over = end - p
 
 returns : tie.Need-returns Inv-loop μ-loop
-returns c = told oid-row (oid-out _ _ _ (omega arith))
+returns c = promised oid-row (oid-out _ _ _ (omega arith))
 
 sub-if2 : tie.Need-sub-if2 Inv-loop μ-loop
 sub-if2 c = omega arith
 
 returns-2 : tie.Need-returns-2 Inv-loop μ-loop
-returns-2 c = told oid-row (oid-out _ _ _ (omega arith))
+returns-2 c = promised oid-row (oid-out _ _ _ (omega arith))
 
 add-end : tie.Need-add-end Inv-loop μ-loop
 add-end c = omega arith
@@ -95,18 +95,18 @@ enum-told : tie.Need-enum-told Inv-loop μ-loop
 enum-told c = search needs
 
 returns-3 : tie.Need-returns-3 Inv-loop μ-loop
-returns-3 c = told oid-row (let l = c .before .before .before .before .before .before .loop in
+returns-3 c = promised oid-row (let l = c .before .before .before .before .before .before .loop in
     let e = sym (c .before .before .read-number .ensures .0 .is) ∙ c .enum-told .given .1 in
     let q = arcs-bad _ _ (l .p) (l .inv .1 .1 .0) (c .before .before .before .before .before .loop-test .taken) (l .inv .1 .1 .1 .0) e in
     sym (tally-bad (l .count) (l .over)) ∙ ap (tally (l .count) (l .over)) (sym q) ∙ l .inv .1 .1 .1 .1 ∙ oid-within _ _ _ (omega arith))
 
 returns-4 : tie.Need-returns-4 Inv-loop μ-loop
-returns-4 c = told oid-row (let l = c .before .before .loop in
+returns-4 c = promised oid-row (let l = c .before .before .loop in
     let q = arcs-done _ _ (l .p) (l .inv .1 .1 .0) (c .before .loop-test .left) in
     sym (tally-done (l .count) (l .over) ∙ rw (c .if4 .taken)) ∙ ap (tally (l .count) (l .over)) (sym q) ∙ l .inv .1 .1 .1 .1 ∙ oid-within _ _ _ (omega arith))
 
 returns-5 : tie.Need-returns-5 Inv-loop μ-loop
-returns-5 c = told oid-row (let l = c .before .before .loop in
+returns-5 c = promised oid-row (let l = c .before .before .loop in
     let q = arcs-done _ _ (l .p) (l .inv .1 .1 .0) (c .before .loop-test .left) in
     sym (tally-done (l .count) (l .over) ∙ rw (c .if4 .left)) ∙ ap (tally (l .count) (l .over)) (sym q) ∙ l .inv .1 .1 .1 .1 ∙ oid-within _ _ _ (omega arith))
 

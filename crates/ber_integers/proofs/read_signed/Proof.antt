@@ -1,4 +1,4 @@
-use Rattle.ber_integers.proofs.Told.{told, integer-row}
+use Rattle.ber_integers.proofs.Promises.{promised, integer-row}
 use Prim.Native.Nat.{ℕ, _≤_, _<_, _+_, _-_, _^_}
 use mathlib.Core.Path.{sym, ap, _∙_}
 use native.Mathlib.Omega.{arith}
@@ -35,19 +35,19 @@ far c =
     rw (p .before .natural-of .ensures .0) (high-fits _ _ _ (bytes p) (some p) (few p) (within p) (c .before .if5 .left) (c .ones .result) (c .ones .ensures))
 
 returns : tie.Need-returns
-returns c = told integer-row (signed-out _ _ _ (omega arith))
+returns c = promised integer-row (signed-out _ _ _ (omega arith))
 
 sub-if2 : tie.Need-sub-if2
 sub-if2 c = search needs
 
 returns-2 : tie.Need-returns-2
-returns-2 c = told integer-row (signed-out _ _ _ (omega arith))
+returns-2 c = promised integer-row (signed-out _ _ _ (omega arith))
 
 returns-3 : tie.Need-returns-3
-returns-3 c = told integer-row (signed-none _ _ _ (omega arith) (c .if3 .taken))
+returns-3 c = promised integer-row (signed-none _ _ _ (omega arith) (c .if3 .taken))
 
 returns-4 : tie.Need-returns-4
-returns-4 c = told integer-row (signed-long _ _ _ (omega arith) (c .if4 .taken))
+returns-4 c = promised integer-row (signed-long _ _ _ (omega arith) (c .if4 .taken))
 
 natural-of-requires : tie.Need-natural-of-requires
 natural-of-requires c κs = search needs
@@ -72,13 +72,13 @@ sub-t15 : tie.Need-sub-t15
 sub-t15 c = minus-fits _ (far c)
 
 returns-5 : tie.Need-returns-5
-returns-5 c = told integer-row (let e = c .before .before .natural-of .ensures .0 in
+returns-5 c = promised integer-row (let e = c .before .before .natural-of .ensures .0 in
     let k = low-fits _ _ _ (bytes (c .before)) (some (c .before)) (few (c .before)) (within (c .before)) (c .if5 .taken) in
     let p = c .before in
     ap Int (rw e (toZ-pos w64 k) ∙ sym (low-is _ _ _ (bytes p) (some p) (few p) (within p) (c .if5 .taken))) ∙ signed-is _ _ _ (within p) (some p) (few p))
 
 returns-6 : tie.Need-returns-6
-returns-6 c = told integer-row (let p = c .before .before in
+returns-6 c = promised integer-row (let p = c .before .before in
     ap Int (minus-is _ (far c) ∙ rw (p .before .natural-of .ensures .0) (sym (high-is _ _ _ (bytes p) (some p) (few p) (within p) (c .before .if5 .left) (c .ones .result) (c .ones .ensures))))
     ∙ signed-is _ _ _ (within p) (some p) (few p))
 

@@ -34,10 +34,10 @@ above c = omega (arith, c .before .if3 .left)
 below : (c : tie.Else5) → octet c ≤ 132
 below c = omega arith
 
-counted : (c : tie.After-count2) → c .count2 .result ≡ octet (c .before .before) - 128
-counted c = c .count2 .ensures ∙ c .before .wide2 .ensures .0
+counted : (c : tie.After-index2) → c .index2 .result ≡ octet (c .before .before) - 128
+counted c = c .index2 .ensures ∙ c .before .wide2 .ensures .0
 
-read : (c : tie.Else6) {r : Natural} → r ≡ unsignedAt (c .before .before .before .before .before .before .before .before .before .before .before .args .s .now) (c .before .before .before .before .before .before .before .before .before .before .before .args .p + 1) (c .before .count2 .result)
+read : (c : tie.Else6) {r : Natural} → r ≡ unsignedAt (c .before .before .before .before .before .before .before .before .before .before .before .args .s .now) (c .before .before .before .before .before .before .before .before .before .before .before .args .p + 1) (c .before .index2 .result)
     → r ≡ Nat (natural (take (octet (c .before .before .before) - 128) (drop (c .before .before .before .before .before .before .before .before .before .before .before .args .p + 1) (c .before .before .before .before .before .before .before .before .before .before .before .args .s .now))))
 read c e =
     let n = counted (c .before) in
@@ -59,8 +59,8 @@ shared-slice-read-b c = search needs
 wide-requires : tie.Need-wide-requires
 wide-requires c κs = search needs
 
-count-requires : tie.Need-count-requires
-count-requires c κs = search needs
+index-requires : tie.Need-index-requires
+index-requires c κs = search needs
 
 add-fitted : tie.Need-add-fitted
 add-fitted c = search needs
@@ -69,7 +69,7 @@ fitted-requires : tie.Need-fitted-requires
 fitted-requires c κs = search needs
 
 returns-2 : tie.Need-returns-2
-returns-2 c = rw (c .before .count .ensures, c .before .before .wide .ensures .0) at (c .fitted .ensures) ∙ length-short _ _ _ _ _ (inside (c .before .before .before .before)) (c .before .before .before .if2 .taken)
+returns-2 c = rw (c .before .index .ensures, c .before .before .wide .ensures .0) at (c .fitted .ensures) ∙ length-short _ _ _ _ _ (inside (c .before .before .before .before)) (c .before .before .before .if2 .taken)
 
 add-t20 : tie.Need-add-t20
 add-t20 c = search needs
@@ -86,8 +86,8 @@ returns-5 c = length-over _ _ _ _ _ (inside (c .before .before .before)) (omega 
 wide-requires-2 : tie.Need-wide-requires-2
 wide-requires-2 c κs = search needs
 
-count-requires-2 : tie.Need-count-requires-2
-count-requires-2 c κs = search needs
+index-requires-2 : tie.Need-index-requires-2
+index-requires-2 c κs = search needs
 
 add-from : tie.Need-add-from
 add-from c = search needs
@@ -108,8 +108,8 @@ read-unsigned-requires c κs = search needs
 enum-known-v : tie.Need-enum-known-v
 enum-known-v c = search needs
 
-count-requires-3 : tie.Need-count-requires-3
-count-requires-3 c κs = search needs
+index-requires-3 : tie.Need-index-requires-3
+index-requires-3 c κs = search needs
 
 add-fitted-2 : tie.Need-add-fitted-2
 add-fitted-2 c = search needs
@@ -127,7 +127,7 @@ returns-7 c =
     let e = c .before .before .before .before .before .before .before .before .before .before .before .before .before .before .before .stop-of .ensures .0 in
     let u = read (c .before .before .before .before .before .before) (c .before .before .before .before .before .read-unsigned .ensures .is) in
     let v : c .before .before .before .v .given .0 .0 ≡ natural (take (octet p - 128) (drop (c .before .before .before .before .before .before .before .before .before .before .before .before .before .before .before .before .before .args .p + 1) (c .before .before .before .before .before .before .before .before .before .before .before .before .before .before .before .before .before .args .s .now))) = same (sym (c .before .before .before .v .given .1) ∙ u) in
-    rw (c .before .count3 .ensures, n) at (c .fitted2 .ensures)
+    rw (c .before .index3 .ensures, n) at (c .fitted2 .ensures)
     ∙ ap (λ (x : ℕ). sized (c .before .before .before .before .before .before .before .before .before .before .before .before .before .before .before .before .before .args .at) (c .before .before .before .before .before .before .before .before .before .before .before .before .before .before .before .before .before .args .bound) x (c .before .before .before .before .before .before .before .before .before .before .before .before .before .before .before .before .before .args .p + 1 + (octet p - 128))) v
     ∙ length-long _ _ _ _ _ (inside (p .before .before .before)) (above p) (below p) (omega arith)
 
@@ -143,7 +143,7 @@ length-at-spec =
     returns
     shared-slice-read-b
     wide-requires
-    count-requires
+    index-requires
     add-fitted
     fitted-requires
     returns-2
@@ -152,13 +152,13 @@ length-at-spec =
     returns-4
     returns-5
     wide-requires-2
-    count-requires-2
+    index-requires-2
     add-from
     sub-if6
     returns-6
     read-unsigned-requires
     enum-known-v
-    count-requires-3
+    index-requires-3
     add-fitted-2
     fitted-requires-2
     enum-told

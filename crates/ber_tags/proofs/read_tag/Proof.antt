@@ -1,4 +1,4 @@
-use Rattle.ber_integers.proofs.Told.{told}
+use Rattle.ber_integers.proofs.Promises.{promised}
 use mathlib.Core.Path.{sym, subst, _∙_}
 use Rattle.ber_tags.specs.Tag.{NumberWithin}
 use Rattle.ber_tags.proofs.Laws.{head-by, head-row}
@@ -25,10 +25,10 @@ headed-requires : tie.Need-headed-requires
 headed-requires c κs = search needs
 
 returns : tie.Need-returns
-returns c = told head-row (head-by _ _ _ (sym (c .before .before .before .tag-number .ensures .0) ∙ c .before .place .given .1))
+returns c = promised head-row (head-by _ _ _ (sym (c .before .before .before .tag-number .ensures .0) ∙ c .before .place .given .1))
 
 returns-2 : tie.Need-returns-2
-returns-2 c = told head-row (rw (c .before .length-at .ensures) at (c .headed .ensures) ∙ head-by _ _ _ (sym (c .before .before .before .before .before .before .tag-number .ensures .0) ∙ c .before .before .before .before .number .given .1))
+returns-2 c = promised head-row (rw (c .before .length-at .ensures) at (c .headed .ensures) ∙ head-by _ _ _ (sym (c .before .before .before .before .before .before .tag-number .ensures .0) ∙ c .before .before .before .before .number .given .1))
 
 pub read-tag-spec : {M : Type 1} → statement M
 read-tag-spec =

@@ -1,7 +1,7 @@
 use borrow.Author.Needs.{needs}
 use Rattle.desk_crosspoints.proofs.Sums.{most-more, most-end}
 use Rattle.desk_crosspoints.specs.Crosspoints.{allBits}
-use Rattle.desk_crosspoints.specs.Figures.{both}
+use Rattle.base_choices.specs.Choices.{both}
 use mathlib.Core.Path.{_≡_, refl, _∙_}
 use Prim.Native.Nat.{_-_}
 use native.Mathlib.Omega.{arith}

@@ -55,7 +55,7 @@ returns c =
     let the-loop = c .before .before .loop in
     let the-loop-test = c .before .loop-test in
     let the-wide = c .wide in
-    omega (arith, count-end (the-Start .args .cells .now) (the-loop .i) (the-loop-test .left), the-loop .inv, the-wide .ensures)
+    omega (arith, count-end (the-Start .args .cells .now) (the-loop .i) (the-loop-test .left), the-loop .inv, the-wide .ensures .0)
 
 pub count-few-spec : {M : Type 1} → statement M
 count-few-spec =

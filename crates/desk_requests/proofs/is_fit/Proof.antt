@@ -10,7 +10,7 @@ use Rattle.desk_requests.proofs.is_fit.Tie as tie
 use Rattle.desk_requests.proofs.is_fit.Reads as reads
 use Rattle.desk_requests.proofs.is_fit.Lts as lts
 use Rattle.desk_crosspoints.proofs.size.Reads as size-reads
-use Rattle.desk_requests.proofs.index.Reads as index-reads
+use Rattle.base_casts.proofs.index.Reads as index-reads
 
 size-requires : tie.Need-size-requires
 size-requires c κs = search needs

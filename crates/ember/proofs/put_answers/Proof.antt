@@ -5,7 +5,7 @@ use Rattle.ember.proofs.put_answers.Statement.{statement}
 use Rattle.ember.proofs.put_answers.Tie as tie
 use Rattle.ember.proofs.put_answers.Reads as reads
 use Rattle.ember.proofs.put_answers.Lts as lts
-use Rattle.framing_words.proofs.word.Reads as word-reads
+use Rattle.base_casts.proofs.word.Reads as word-reads
 
 returns : tie.Need-returns
 returns c =

@@ -8,8 +8,8 @@ word-at-requires c κs = search needs
 word-at-requires-2 : tie.Need-word-at-requires-2
 word-at-requires-2 c κs = search needs
 
-size-requires : tie.Need-size-requires
-size-requires c κs = search needs
+index-requires : tie.Need-index-requires
+index-requires c κs = search needs
 
 frame-at-requires : tie.Need-frame-at-requires
 frame-at-requires c κs = search needs
@@ -20,8 +20,8 @@ word-at-requires-3 c κs = search needs
 word-at-requires-4 : tie.Need-word-at-requires-4
 word-at-requires-4 c κs = search needs
 
-size-requires-2 : tie.Need-size-requires-2
-size-requires-2 c κs = search needs
+index-requires-2 : tie.Need-index-requires-2
+index-requires-2 c κs = search needs
 
 pending-at-requires : tie.Need-pending-at-requires
 pending-at-requires c κs = search needs
@@ -30,13 +30,13 @@ returns : tie.Need-returns
 returns c =
     let the-word-at = c .before .before .before .before .before .before .before .word-at in
     let the-word-at2 = c .before .before .before .before .before .before .word-at2 in
-    let the-size = c .before .before .before .before .before .size in
+    let the-index = c .before .before .before .before .before .index in
     let the-frame-at = c .before .before .before .before .frame-at in
     let the-word-at3 = c .before .before .before .word-at3 in
     let the-word-at4 = c .before .before .word-at4 in
-    let the-size2 = c .before .size2 in
+    let the-index2 = c .before .index2 in
     let the-pending-at = c .pending-at in
-    rw (the-pending-at .ensures, the-size2 .ensures, the-word-at4 .ensures, the-word-at3 .ensures, the-frame-at .ensures, the-size .ensures, the-word-at2 .ensures, the-word-at .ensures)
+    rw (the-pending-at .ensures, the-index2 .ensures, the-word-at4 .ensures, the-word-at3 .ensures, the-frame-at .ensures, the-index .ensures, the-word-at2 .ensures, the-word-at .ensures)
 
 pub session-at-spec : {M : Type 1} → statement M
 session-at-spec =
@@ -44,10 +44,10 @@ session-at-spec =
     (tie.spec
     word-at-requires
     word-at-requires-2
-    size-requires
+    index-requires
     frame-at-requires
     word-at-requires-3
     word-at-requires-4
-    size-requires-2
+    index-requires-2
     pending-at-requires
     returns)

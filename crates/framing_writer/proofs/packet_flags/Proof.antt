@@ -3,7 +3,7 @@ use mathlib.Core.Bool.{Bool, true, false}
 use native.Mathlib.Omega.{arith}
 use borrow.Author.Needs.{needs}
 use lib.Dec.{eqb}
-use Rattle.framing_content.specs.Numbers.{pick}
+use Rattle.base_choices.specs.Choices.{pick}
 use Rattle.framing_writer.proofs.packet_flags.Statement.{statement}
 use Rattle.framing_writer.proofs.packet_flags.Tie as tie
 

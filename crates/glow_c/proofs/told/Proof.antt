@@ -4,7 +4,7 @@ use Rattle.glow_c.proofs.told.Statement.{statement}
 use Rattle.glow_c.proofs.told.Tie as tie
 use Rattle.glow_c.proofs.told.Reads as reads
 use Rattle.glow_c.proofs.told.Lts as lts
-use Rattle.glow_c.proofs.word.Reads as word-reads
+use Rattle.base_casts.proofs.word.Reads as word-reads
 
 enum-known-w : tie.Need-enum-known-w
 enum-known-w c = search needs

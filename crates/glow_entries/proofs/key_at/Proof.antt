@@ -14,15 +14,15 @@ cell-in-requires c κs = search needs
 element-copy-out-if1 : tie.Need-element-copy-out-if1
 element-copy-out-if1 c = search needs
 
-count-requires : tie.Need-count-requires
-count-requires c κs = search needs
+index-requires : tie.Need-index-requires
+index-requires c κs = search needs
 
-count-requires-2 : tie.Need-count-requires-2
-count-requires-2 c κs = search needs
+index-requires-2 : tie.Need-index-requires-2
+index-requires-2 c κs = search needs
 
 returns : tie.Need-returns
 returns c =
-    rw (c .before .count .ensures, c .count2 .ensures)
+    rw (c .before .index .ensures, c .index2 .ensures)
     (key-path _ _ _ (c .before .before .before .before .cell-in .ensures) (c .before .before .if1 .taken))
 
 number-of-requires : tie.Need-number-of-requires
@@ -43,8 +43,8 @@ key-at-spec =
     (tie.spec
     cell-in-requires
     element-copy-out-if1
-    count-requires
-    count-requires-2
+    index-requires
+    index-requires-2
     returns
     number-of-requires
     int-of-requires

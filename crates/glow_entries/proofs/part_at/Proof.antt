@@ -8,15 +8,15 @@ use Rattle.glow_entries.proofs.part_at.Tie as tie
 cell-in-requires : tie.Need-cell-in-requires
 cell-in-requires c κs = search needs
 
-count-requires : tie.Need-count-requires
-count-requires c κs = search needs
+index-requires : tie.Need-index-requires
+index-requires c κs = search needs
 
-count-requires-2 : tie.Need-count-requires-2
-count-requires-2 c κs = search needs
+index-requires-2 : tie.Need-index-requires-2
+index-requires-2 c κs = search needs
 
 returns : tie.Need-returns
 returns c =
-    rw (c .before .count .ensures, c .count2 .ensures)
+    rw (c .before .index .ensures, c .index2 .ensures)
     (part-is _ _ (c .before .before .if1 .taken)
     ∙ ap (partOf (c .before .before .before .before .before .args .tag)) (c .before .before .before .before .cell-in .ensures))
 
@@ -27,4 +27,4 @@ returns-2 c =
 
 pub part-at-spec : {M : Type 1} → statement M
 part-at-spec =
-    tie.close (tie.spec cell-in-requires count-requires count-requires-2 returns returns-2)
+    tie.close (tie.spec cell-in-requires index-requires index-requires-2 returns returns-2)

@@ -5,7 +5,7 @@ use Rattle.glow_grammar.proofs.list_word.Statement.{statement}
 use Rattle.glow_grammar.proofs.list_word.Tie as tie
 use Rattle.glow_grammar.proofs.list_word.Reads as reads
 use Rattle.glow_grammar.proofs.list_word.Lts as lts
-use Rattle.glow_grammar.proofs.word.Reads as word-reads
+use Rattle.base_casts.proofs.word.Reads as word-reads
 
 enum-told : tie.Need-enum-told
 enum-told c = search needs

@@ -1,5 +1,6 @@
 use Rattle.glow_grammar.proofs.Laws.{slash-step, slash-done}
-use Rattle.glow_grammar.specs.Leaf.{both, noSlash}
+use Rattle.base_choices.specs.Choices.{both}
+use Rattle.glow_grammar.specs.Leaf.{noSlash}
 use lib.Dec.{eqb}
 use lib.ListN.{take, drop}
 use mathlib.Core.Path.{_≡_, refl, _∙_}

@@ -11,7 +11,7 @@ use Rattle.glow_grammar.proofs.is_counted.Reads as is-counted-reads
 use Rattle.glow_grammar.proofs.is_name.Reads as is-name-reads
 use Rattle.glow_grammar.proofs.list_word.Reads as list-word-reads
 use Rattle.glow_grammar.proofs.number_word.Reads as number-word-reads
-use Rattle.glow_grammar.proofs.word.Reads as word-reads
+use Rattle.base_casts.proofs.word.Reads as word-reads
 use Rattle.ber_identifiers.proofs.read_oid.Reads as read-oid-reads
 use Rattle.ber_integers.proofs.read_int.Reads as read-int-reads
 

@@ -8,7 +8,7 @@ use Rattle.glow_member_sizes.proofs.around.Reads as reads
 use Rattle.glow_member_sizes.proofs.around.Lts as lts
 use Rattle.ber_tags.proofs.length_size.Reads as length-size-reads
 use Rattle.glow_member_sizes.proofs.capped.Reads as capped-reads
-use Rattle.glow_member_sizes.proofs.wide.Reads as wide-reads
+use Rattle.base_casts.proofs.word.Reads as word-reads
 
 add-result : tie.Need-add-result
 add-result c = omega arith
@@ -22,20 +22,20 @@ returns-2 c = tagged-over _ (c .if2 .taken)
 length-size-requires : tie.Need-length-size-requires
 length-size-requires c κs = search needs
 
-wide-requires : tie.Need-wide-requires
-wide-requires c κs = search needs
+word-requires : tie.Need-word-requires
+word-requires c κs = search needs
 
 add-capped : tie.Need-add-capped
 add-capped c =
     let the-length-size = c .before .length-size in
-    let the-wide = c .wide in
-    let e = the-length-size .ensures .1 in let i = the-wide .ensures in omega arith
+    let the-word = c .word in
+    let e = the-length-size .ensures .1 in let i = the-word .ensures in omega arith
 
 add-capped-2 : tie.Need-add-capped-2
 add-capped-2 c =
     let the-length-size = c .before .length-size in
-    let the-wide = c .wide in
-    let e = the-length-size .ensures .1 in let i = the-wide .ensures in omega arith
+    let the-word = c .word in
+    let e = the-length-size .ensures .1 in let i = the-word .ensures in omega arith
 
 capped-requires : tie.Need-capped-requires
 capped-requires c κs = search needs
@@ -43,9 +43,9 @@ capped-requires c κs = search needs
 returns-3 : tie.Need-returns-3
 returns-3 c =
     let the-length-size = c .before .before .length-size in
-    let the-wide = c .before .wide in
+    let the-word = c .before .word in
     let the-capped = c .capped in
-    tagged-is _ _ _ (the-length-size .ensures .0) (let i = the-wide .ensures in omega arith) ∙ the-capped .ensures
+    tagged-is _ _ _ (the-length-size .ensures .0) (let i = the-word .ensures in omega arith) ∙ the-capped .ensures
 
 pub around-spec : {M : Type 1} → statement M
 around-spec =
@@ -55,7 +55,7 @@ around-spec =
     returns
     returns-2
     length-size-requires
-    wide-requires
+    word-requires
     add-capped
     add-capped-2
     capped-requires

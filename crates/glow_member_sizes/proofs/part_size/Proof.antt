@@ -6,22 +6,22 @@ use borrow.Author.Needs.{needs}
 use Rattle.glow_member_sizes.proofs.part_size.Statement.{statement}
 use Rattle.glow_member_sizes.proofs.part_size.Tie as tie
 
-wide-requires : tie.Need-wide-requires
-wide-requires c κs = search needs
+word-requires : tie.Need-word-requires
+word-requires c κs = search needs
 
 returns : tie.Need-returns
 returns c =
     let the-Start = c .before .before .before .before in
-    let the-wide = c .before .before .wide in
-    let w = the-wide .ensures in
+    let the-word = c .before .before .word in
+    let w = the-word .ensures in
     let q = the-Start .pre in
     part-out _ _ _ (q .0) (q .1 .0) (q .1 .1) (omega arith)
 
 returns-2 : tie.Need-returns-2
 returns-2 c =
     let the-Start = c .before .before .before .before .before .before .before in
-    let the-wide = c .before .before .before .before .before .wide in
-    let w = the-wide .ensures in
+    let the-word = c .before .before .before .before .before .word in
+    let w = the-word .ensures in
     let q = the-Start .pre in
     part-out _ _ _ (q .0) (q .1 .0) (q .1 .1) (omega arith)
 
@@ -37,13 +37,13 @@ part-fits-requires c κs = search needs
 returns-3 : tie.Need-returns-3
 returns-3 c =
     let the-Start = c .before .before .before .before .before .before .before .before .before .before .before in
-    let the-wide = c .before .before .before .before .before .before .before .before .before .wide in
+    let the-word = c .before .before .before .before .before .before .before .before .before .word in
     let the-if2 = c .before .before .before .before .if2 in
     let the-index = c .before .before .before .index in
     let the-index2 = c .before .before .index2 in
     let the-part-fits = c .before .part-fits in
     let the-if3 = c .if3 in
-    let w = the-wide .ensures in
+    let w = the-word .ensures in
     let q = the-Start .pre in
     let k = the-if2 .left in
     part-refused _ _ _ (q .0) (q .1 .0) (q .1 .1) _ _ (the-index .ensures) (the-index2 .ensures) (omega arith)
@@ -58,7 +58,7 @@ around-requires-2 c κs = search needs
 returns-4 : tie.Need-returns-4
 returns-4 c =
     let the-Start = c .before .before .before .before .before .before .before .before .before .before .before .before .before in
-    let the-wide = c .before .before .before .before .before .before .before .before .before .before .before .wide in
+    let the-word = c .before .before .before .before .before .before .before .before .before .before .before .word in
     let the-if2 = c .before .before .before .before .before .before .if2 in
     let the-index = c .before .before .before .before .before .index in
     let the-index2 = c .before .before .before .before .index2 in
@@ -66,7 +66,7 @@ returns-4 c =
     let the-if3 = c .before .before .if3 in
     let the-around = c .before .around in
     let the-around2 = c .around2 in
-    let w = the-wide .ensures in
+    let w = the-word .ensures in
     let q = the-Start .pre in
     let k = the-if2 .left in
     part-sized _ _ _ (q .0) (q .1 .0) (q .1 .1) _ _ (the-index .ensures) (the-index2 .ensures) (omega arith)
@@ -76,7 +76,7 @@ pub part-size-spec : {M : Type 1} → statement M
 part-size-spec =
     tie.close
     (tie.spec
-    wide-requires
+    word-requires
     returns
     returns-2
     index-requires

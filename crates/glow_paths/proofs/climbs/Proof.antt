@@ -18,15 +18,15 @@ loop-holds c =
     let the-Start = c .before .before in
     walk-start _ _ _ _ _ (the-Start .pre .0)
 
-wide-requires : tie.Need-wide-requires Inv-loop μ-loop
-wide-requires c κs = search needs
+word-requires : tie.Need-word-requires Inv-loop μ-loop
+word-requires c κs = search needs
 
 returns : tie.Need-returns Inv-loop μ-loop
 returns c =
-    let the-wide = c .before .wide in
+    let the-word = c .before .word in
     let the-Start = c .before .before .before .before .before .before in
     let the-loop = c .before .before .before .loop in
-    let w = the-wide .ensures in
+    let w = the-word .ensures in
     walk-past _ _ _ _ _ _ _ (the-Start .pre .1) (the-loop .inv) (omega arith)
 
 sub-index : tie.Need-sub-index Inv-loop μ-loop
@@ -54,7 +54,7 @@ same-part-requires c κs = search needs
 
 returns-2 : tie.Need-returns-2 Inv-loop μ-loop
 returns-2 c =
-    let the-wide = c .before .before .before .before .before .before .before .before .wide in
+    let the-word = c .before .before .before .before .before .before .before .before .word in
     let the-Start = c .before .before .before .before .before .before .before .before .before .before .before .before .before in
     let the-loop = c .before .before .before .before .before .before .before .before .before .before .loop in
     let the-loop-test = c .before .before .before .before .before .before .before .before .before .loop-test in
@@ -64,13 +64,13 @@ returns-2 c =
     let the-is-qualified = c .before .before .before .is-qualified in
     let the-if2 = c .before .before .if2 in
     let the-same-part = c .same-part in
-    let w = the-wide .ensures in
+    let w = the-word .ensures in
     walk-qualified _ _ _ _ _ _ _ (the-Start .pre .1) (the-loop .inv) (the-loop-test .taken) (omega arith) _ (the-index .ensures) _ (the-cell-at .ensures) _
     (ap isQualified (sym (the-word-at .ensures)) ∙ (the-is-qualified .ensures ∙ the-if2 .taken)) (the-same-part .ensures)
 
 returns-3 : tie.Need-returns-3 Inv-loop μ-loop
 returns-3 c =
-    let the-wide = c .before .before .before .before .before .before .before .wide in
+    let the-word = c .before .before .before .before .before .before .before .word in
     let the-Start = c .before .before .before .before .before .before .before .before .before .before .before .before in
     let the-loop = c .before .before .before .before .before .before .before .before .before .loop in
     let the-loop-test = c .before .before .before .before .before .before .before .before .loop-test in
@@ -80,7 +80,7 @@ returns-3 c =
     let the-is-qualified = c .before .before .is-qualified in
     let the-if2 = c .before .if2 in
     let the-if3 = c .if3 in
-    let w = the-wide .ensures in
+    let w = the-word .ensures in
     walk-short _ _ _ _ _ _ _ (the-Start .pre .1) (the-loop .inv) (the-loop-test .taken) (omega arith) _ (the-index .ensures) _ (the-cell-at .ensures)
     (ap isQualified (sym (the-word-at .ensures)) ∙ (the-is-qualified .ensures ∙ the-if2 .left)) (the-if3 .taken)
 
@@ -102,7 +102,7 @@ number-of-requires c κs = search needs
 
 returns-4 : tie.Need-returns-4 Inv-loop μ-loop
 returns-4 c =
-    let the-wide = c .before .before .before .before .before .before .before .before .before .before .wide in
+    let the-word = c .before .before .before .before .before .before .before .before .before .before .word in
     let the-Start = c .before .before .before .before .before .before .before .before .before .before .before .before .before .before .before in
     let the-loop = c .before .before .before .before .before .before .before .before .before .before .before .before .loop in
     let the-loop-test = c .before .before .before .before .before .before .before .before .before .before .before .loop-test in
@@ -113,7 +113,7 @@ returns-4 c =
     let the-if2 = c .before .before .before .before .if2 in
     let the-number-of = c .before .number-of in
     let the-if4 = c .if4 in
-    let w = the-wide .ensures in
+    let w = the-word .ensures in
     walk-other _ _ _ _ _ _ _ (the-Start .pre .1) (the-loop .inv) (the-loop-test .taken) (omega arith) _ (the-index .ensures) _ (the-cell-at .ensures)
     (ap isQualified (sym (the-word-at .ensures)) ∙ (the-is-qualified .ensures ∙ the-if2 .left)) (omega arith) _ (the-number-of .ensures _) (the-if4 .taken)
 
@@ -128,7 +128,7 @@ loop-less c = omega arith
 
 loop-again : tie.Need-loop-again Inv-loop μ-loop
 loop-again c =
-    let the-wide = c .before .before .before .before .before .before .before .before .before .before .before .wide in
+    let the-word = c .before .before .before .before .before .before .before .before .before .before .before .word in
     let the-Start = c .before .before .before .before .before .before .before .before .before .before .before .before .before .before .before .before in
     let the-loop = c .before .before .before .before .before .before .before .before .before .before .before .before .before .loop in
     let the-loop-test = c .before .before .before .before .before .before .before .before .before .before .before .before .loop-test in
@@ -140,7 +140,7 @@ loop-again c =
     let the-number-of = c .before .before .number-of in
     let the-if4 = c .before .if4 in
     let the-word-at2 = c .word-at2 in
-    let w = the-wide .ensures in
+    let w = the-word .ensures in
     walk-up _ _ _ _ _ _ _ (the-Start .pre .1) (the-loop .inv) (the-loop-test .taken) (omega arith) _ (the-index .ensures) _ (the-cell-at .ensures)
     (ap isQualified (sym (the-word-at .ensures)) ∙ (the-is-qualified .ensures ∙ the-if2 .left)) (omega arith) _ (the-number-of .ensures _) (the-if4 .left)
     _ (the-word-at2 .ensures)
@@ -159,7 +159,7 @@ climbs-spec =
     Inv-loop
     μ-loop
     loop-holds
-    wide-requires
+    word-requires
     returns
     sub-index
     index-requires

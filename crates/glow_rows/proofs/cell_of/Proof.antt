@@ -12,7 +12,7 @@ use Rattle.glow_rows.proofs.cell_of.Lts as lts
 use Rattle.glow_rows.proofs.bool_cell.Reads as bool-cell-reads
 use Rattle.glow_rows.proofs.int_cell.Reads as int-cell-reads
 use Rattle.glow_rows.proofs.real_cell.Reads as real-cell-reads
-use Rattle.glow_rows.proofs.word.Reads as word-reads
+use Rattle.base_casts.proofs.word.Reads as word-reads
 
 enum-told : tie.Need-enum-told
 enum-told c = search needs

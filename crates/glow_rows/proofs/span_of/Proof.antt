@@ -47,32 +47,32 @@ returns-3 c =
     let l = the-if2 .left in
     span-absent _ _ _ (the-no-span3 .ensures) (octets-out (the-Start .args .v) _ (the-if1 .left) (omega (arith, w, k, l)))
 
-count-requires : tie.Need-count-requires
-count-requires c κs = search needs
+index-requires : tie.Need-index-requires
+index-requires c κs = search needs
 
-count-requires-2 : tie.Need-count-requires-2
-count-requires-2 c κs = search needs
+index-requires-2 : tie.Need-index-requires-2
+index-requires-2 c κs = search needs
 
 add-t7 : tie.Need-add-t7
 add-t7 c =
     let the-word = c .before .before .before .before .before .before .before .word in
     let the-if3 = c .before .before .if3 in
     let the-if2 = c .before .before .before .before .before .if2 in
-    let the-count = c .before .count in
-    let the-count2 = c .count2 in
-    let w = the-word .ensures in let k = the-if3 .left in let l = the-if2 .left in let a = the-count .ensures in let b = the-count2 .ensures in omega arith
+    let the-index = c .before .index in
+    let the-index2 = c .index2 in
+    let w = the-word .ensures in let k = the-if3 .left in let l = the-if2 .left in let a = the-index .ensures in let b = the-index2 .ensures in omega arith
 
 returns-4 : tie.Need-returns-4
 returns-4 c =
     let the-word = c .before .before .before .before .before .before .before .word in
     let the-if3 = c .before .before .if3 in
     let the-if2 = c .before .before .before .before .before .if2 in
-    let the-count = c .before .count in
-    let the-count2 = c .count2 in
+    let the-index = c .before .index in
+    let the-index2 = c .index2 in
     let the-Start = c .before .before .before .before .before .before .before .before .before .before .before in
     let the-if1 = c .before .before .before .before .before .before .before .before .if1 in
     let w = the-word .ensures in let k = the-if3 .left in let l = the-if2 .left in
-    let a = the-count .ensures in let b = the-count2 .ensures in
+    let a = the-index .ensures in let b = the-index2 .ensures in
     (span-is _ (the-Start .args .v) _ _ (the-if1 .left) (omega arith) a b, (omega arith, omega arith))
 
 pub span-of-spec : {M : Type 1} → statement M
@@ -86,7 +86,7 @@ span-of-spec =
     returns-2
     no-span-requires-3
     returns-3
-    count-requires
-    count-requires-2
+    index-requires
+    index-requires-2
     add-t7
     returns-4)

@@ -25,26 +25,26 @@ float-from-bits-t6 c = no-nan (c .before .before .before .before .before .before
 returns-3 : tie.Need-returns-3
 returns-3 c = value-real _ (c .before .before .before .if2 .taken) (c .before .if3 .left)
 
-count-requires : tie.Need-count-requires
-count-requires c κs = search needs
+index-requires : tie.Need-index-requires
+index-requires c κs = search needs
 
-count-requires-2 : tie.Need-count-requires-2
-count-requires-2 c κs = search needs
+index-requires-2 : tie.Need-index-requires-2
+index-requires-2 c κs = search needs
 
 returns-4 : tie.Need-returns-4
-returns-4 c = rw (c .before .count .ensures, c .count2 .ensures) (value-text _ (c .before .before .if4 .taken))
+returns-4 c = rw (c .before .index .ensures, c .index2 .ensures) (value-text _ (c .before .before .if4 .taken))
 
 returns-5 : tie.Need-returns-5
 returns-5 c = value-bool _ (c .before .if5 .taken)
 
-count-requires-3 : tie.Need-count-requires-3
-count-requires-3 c κs = search needs
+index-requires-3 : tie.Need-index-requires-3
+index-requires-3 c κs = search needs
 
-count-requires-4 : tie.Need-count-requires-4
-count-requires-4 c κs = search needs
+index-requires-4 : tie.Need-index-requires-4
+index-requires-4 c κs = search needs
 
 returns-6 : tie.Need-returns-6
-returns-6 c = rw (c .before .count3 .ensures, c .count4 .ensures) (value-octets _ (c .before .before .if6 .taken))
+returns-6 c = rw (c .before .index3 .ensures, c .index4 .ensures) (value-octets _ (c .before .before .if6 .taken))
 
 returns-7 : tie.Need-returns-7
 returns-7 c =
@@ -60,11 +60,11 @@ value-of-spec =
     returns-2
     float-from-bits-t6
     returns-3
-    count-requires
-    count-requires-2
+    index-requires
+    index-requires-2
     returns-4
     returns-5
-    count-requires-3
-    count-requires-4
+    index-requires-3
+    index-requires-4
     returns-6
     returns-7)

@@ -28,7 +28,7 @@ use Rattle.glow_sizes.proofs.packed.Reads as packed-reads
 use Rattle.glow_sizes.proofs.refused.Reads as refused-reads
 use Rattle.glow_sizes.proofs.tree_size.Reads as tree-size-reads
 use Rattle.glow_rows.proofs.word_at.Reads as word-at-reads
-use Rattle.glow_member_sizes.proofs.wide.Reads as wide-reads
+use Rattle.base_casts.proofs.word.Reads as word-reads
 use Rattle.glow_sizes.proofs.+inside+items.{statement}
 use Rattle.glow_sizes.proofs.+inside+items.Tie.{close}
 
@@ -111,8 +111,8 @@ items-calls t = (
   entry-size-reads.Learnt,
   word-at-reads.Asked,
   word-at-reads.Learnt,
-  wide-reads.Asked,
-  wide-reads.Learnt,
+  word-reads.Asked,
+  word-reads.Learnt,
   inside-of-reads.Asked,
   inside-of-reads.Learnt,
   inside-below t,
@@ -214,8 +214,8 @@ items-add-below t c =
     let the-loop-test = c .before .before .before .before .before .before .before .loop-test in
     let h = the-loop-test .taken in omega arith
 
-items-wide-requires : (t : ℕ) → items-lts.Need-wide-requires (items-calls t) (items-at t) items.Post items-Inv-loop items-μ-loop
-items-wide-requires t c κs = search needs
+items-word-requires : (t : ℕ) → items-lts.Need-word-requires (items-calls t) (items-at t) items.Post items-Inv-loop items-μ-loop
+items-word-requires t c κs = search needs
 
 items-inside-of-requires : (t : ℕ) → items-lts.Need-inside-of-requires (items-calls t) (items-at t) items.Post items-Inv-loop items-μ-loop
 items-inside-of-requires t c κs = search needs
@@ -246,7 +246,7 @@ items-returns-4 t c =
     let the-if4 = c .before .if4 in
     let the-inside = c .before .before .before .before .before .inside in
     let the-inside-of = c .before .before .before .before .before .before .before .inside-of in
-    let the-wide = c .before .before .before .before .before .before .before .before .wide in
+    let the-word = c .before .before .before .before .before .before .before .before .word in
     let c1 = c .before .before .before .before .before .before .before .before in
     let the-word-at = c1 .before .word-at in
     let the-if3 = c1 .before .before .if3 in
@@ -259,7 +259,7 @@ items-returns-4 t c =
     let the-Start = c2 .before .before .before .before in
     let q = turn-kids _ _ _ _ _ _ _ _ _ _ _ (the-loop .inv .0) (the-Start .pre .1 .1) (the-loop-test .taken)
     (the-is-next .ensures ∙ not-false _ (the-if1 .left)) _ (the-entry-size .ensures)
-    (the-if3 .left) _ _ _ _ (the-word-at .ensures) (the-wide .ensures) refl (the-inside-of .ensures) _ (the-inside .ensures .0)
+    (the-if3 .left) _ _ _ _ (the-word-at .ensures) (the-word .ensures) refl (the-inside-of .ensures) _ (the-inside .ensures .0)
     (the-refused3 .ensures) (the-if4 .taken) in
     (q .0, (q .1 .0, (q .1 .1, notes-no _ _ _ _ _ _ _ _ (the-refused3 .ensures))))
 
@@ -286,7 +286,7 @@ items-returns-5 t c =
     let the-inside = c .before .before .before .before .before .before .before .inside in
     let c1 = c .before .before .before .before .before .before .before .before in
     let the-inside-of = c1 .before .inside-of in
-    let the-wide = c1 .before .before .wide in
+    let the-word = c1 .before .before .word in
     let the-word-at = c1 .before .before .before .word-at in
     let the-if3 = c1 .before .before .before .before .if3 in
     let the-entry-size = c1 .before .before .before .before .before .before .entry-size in
@@ -298,7 +298,7 @@ items-returns-5 t c =
     let the-Start = c2 .before .before .before .before .before .before in
     let q = turn-full _ _ _ _ _ _ _ _ _ _ _ (the-loop .inv .0) (the-Start .pre .1 .1) (the-loop-test .taken)
     (the-is-next .ensures ∙ not-false _ (the-if1 .left)) _ (the-entry-size .ensures)
-    (the-if3 .left) _ _ _ _ (the-word-at .ensures) (the-wide .ensures) refl (the-inside-of .ensures) _ (the-inside .ensures .0) (the-if4 .left)
+    (the-if3 .left) _ _ _ _ (the-word-at .ensures) (the-word .ensures) refl (the-inside-of .ensures) _ (the-inside .ensures .0) (the-if4 .left)
     (the-refused4 .ensures) (the-may-hold .ensures ∙ not-true _ (the-if5 .taken)) in
     (q .0, (q .1 .0, (q .1 .1, notes-no _ _ _ _ _ _ _ _ (the-refused4 .ensures))))
 
@@ -338,7 +338,7 @@ items-returns-6 t c =
     let the-if4 = c1 .before .if4 in
     let the-inside = c1 .before .before .before .before .before .inside in
     let the-inside-of = c1 .before .before .before .before .before .before .before .inside-of in
-    let the-wide = c1 .before .before .before .before .before .before .before .before .wide in
+    let the-word = c1 .before .before .before .before .before .before .before .before .word in
     let c2 = c1 .before .before .before .before .before .before .before .before in
     let the-word-at = c2 .before .word-at in
     let the-if3 = c2 .before .before .if3 in
@@ -351,7 +351,7 @@ items-returns-6 t c =
     let the-Start = c3 .before .before .before .before in
     let q = turn-links _ _ _ _ _ _ _ _ _ _ _ (the-loop .inv .0) (the-Start .pre .1 .1) (the-loop-test .taken)
     (the-is-next .ensures ∙ not-false _ (the-if1 .left)) _ (the-entry-size .ensures)
-    (the-if3 .left) _ _ _ _ (the-word-at .ensures) (the-wide .ensures) refl (the-inside-of .ensures) _ (the-inside .ensures .0) (the-if4 .left)
+    (the-if3 .left) _ _ _ _ (the-word-at .ensures) (the-word .ensures) refl (the-inside-of .ensures) _ (the-inside .ensures .0) (the-if4 .left)
     (the-may-hold .ensures ∙ not-false _ (the-if5 .left)) _ (the-inside2 .ensures .0)
     (the-refused5 .ensures) (the-if6 .taken) in
     (q .0, (q .1 .0, (q .1 .1, notes-no _ _ _ _ _ _ _ _ (the-refused5 .ensures))))
@@ -386,7 +386,7 @@ items-returns-7 t c =
     let the-inside = c1 .before .before .before .before .before .before .before .inside in
     let c2 = c1 .before .before .before .before .before .before .before .before in
     let the-inside-of = c2 .before .inside-of in
-    let the-wide = c2 .before .before .wide in
+    let the-word = c2 .before .before .word in
     let the-word-at = c2 .before .before .before .word-at in
     let the-if3 = c2 .before .before .before .before .if3 in
     let the-entry-size = c2 .before .before .before .before .before .before .entry-size in
@@ -398,7 +398,7 @@ items-returns-7 t c =
     let the-Start = c3 .before .before .before .before .before .before in
     let q = turn-linked _ _ _ _ _ _ _ _ _ _ _ (the-loop .inv .0) (the-Start .pre .1 .1) (the-loop-test .taken)
     (the-is-next .ensures ∙ not-false _ (the-if1 .left)) _ (the-entry-size .ensures)
-    (the-if3 .left) _ _ _ _ (the-word-at .ensures) (the-wide .ensures) refl (the-inside-of .ensures) _ (the-inside .ensures .0) (the-if4 .left)
+    (the-if3 .left) _ _ _ _ (the-word-at .ensures) (the-word .ensures) refl (the-inside-of .ensures) _ (the-inside .ensures .0) (the-if4 .left)
     (the-may-hold .ensures ∙ not-false _ (the-if5 .left)) _ (the-inside2 .ensures .0) (the-if6 .left)
     (the-refused6 .ensures) (the-may-hold2 .ensures ∙ not-true _ (the-if7 .taken)) in
     (q .0, (q .1 .0, (q .1 .1, notes-no _ _ _ _ _ _ _ _ (the-refused6 .ensures))))
@@ -451,7 +451,7 @@ items-returns-8 t c =
     let the-inside = c2 .before .before .before .before .before .before .inside in
     let the-inside-of = c2 .before .before .before .before .before .before .before .before .inside-of in
     let c3 = c2 .before .before .before .before .before .before .before .before in
-    let the-wide = c3 .before .wide in
+    let the-word = c3 .before .word in
     let the-word-at = c3 .before .before .word-at in
     let the-if3 = c3 .before .before .before .if3 in
     let the-entry-size = c3 .before .before .before .before .before .entry-size in
@@ -463,7 +463,7 @@ items-returns-8 t c =
     let the-Start = c4 .before .before .before .before .before in
     let q = turn-over _ _ _ _ _ _ _ _ _ _ _ (the-loop .inv .0) (the-Start .pre .1 .1) (the-loop-test .taken)
     (the-is-next .ensures ∙ not-false _ (the-if1 .left)) _ (the-entry-size .ensures)
-    (the-if3 .left) _ _ _ _ (the-word-at .ensures) (the-wide .ensures) refl (the-inside-of .ensures) _ (the-inside .ensures .0) (the-if4 .left)
+    (the-if3 .left) _ _ _ _ (the-word-at .ensures) (the-word .ensures) refl (the-inside-of .ensures) _ (the-inside .ensures .0) (the-if4 .left)
     (the-may-hold .ensures ∙ not-false _ (the-if5 .left)) _ (the-inside2 .ensures .0) (the-if6 .left)
     (the-may-hold2 .ensures ∙ not-false _ (the-if7 .left)) _ (the-tree-size .ensures)
     (the-refused7 .ensures) (the-if8 .taken) in
@@ -499,7 +499,7 @@ items-loop-again t c =
     let the-if4 = c2 .before .if4 in
     let the-inside = c2 .before .before .before .before .before .inside in
     let the-inside-of = c2 .before .before .before .before .before .before .before .inside-of in
-    let the-wide = c2 .before .before .before .before .before .before .before .before .wide in
+    let the-word = c2 .before .before .before .before .before .before .before .before .word in
     let c3 = c2 .before .before .before .before .before .before .before .before in
     let the-word-at = c3 .before .word-at in
     let the-if3 = c3 .before .before .if3 in
@@ -513,14 +513,14 @@ items-loop-again t c =
     let the-Start = c4 .before .before .before .before in
     let t = turn-on _ _ _ _ _ _ _ _ _ _ _ (the-loop .inv .0) (the-Start .pre .1 .1) (the-loop-test .taken)
     (the-is-next .ensures ∙ not-false _ (the-if1 .left)) _ (the-entry-size .ensures)
-    (the-if3 .left) _ _ _ _ (the-word-at .ensures) (the-wide .ensures) refl (the-inside-of .ensures) _ (the-inside .ensures .0) (the-if4 .left)
+    (the-if3 .left) _ _ _ _ (the-word-at .ensures) (the-word .ensures) refl (the-inside-of .ensures) _ (the-inside .ensures .0) (the-if4 .left)
     (the-may-hold .ensures ∙ not-false _ (the-if5 .left)) _ (the-inside2 .ensures .0) (the-if6 .left)
     (the-may-hold2 .ensures ∙ not-false _ (the-if7 .left)) _ (the-tree-size .ensures)
     (the-if8 .left) (the-if2 .left) (passed (the-inside .ensures .1 .0) (the-if4 .left))
     (passed (the-inside2 .ensures .1 .0) (the-if6 .left)) (the-inside2 .ensures .1 .1 .0) in
     let w = turn-keeps _ _ _ _ _ _ _ _ _ _ _ (the-loop .inv .0) (the-Start .pre .1 .1) (the-loop-test .taken)
     (the-is-next .ensures ∙ not-false _ (the-if1 .left)) _ (the-entry-size .ensures)
-    (the-if3 .left) _ _ _ _ (the-word-at .ensures) (the-wide .ensures) refl (the-inside-of .ensures) _ (the-inside .ensures .0) (the-if4 .left)
+    (the-if3 .left) _ _ _ _ (the-word-at .ensures) (the-word .ensures) refl (the-inside-of .ensures) _ (the-inside .ensures .0) (the-if4 .left)
     (the-may-hold .ensures ∙ not-false _ (the-if5 .left)) _ (the-inside2 .ensures .0) (the-if6 .left) _ (the-packed .ensures) in
     let a = passed (the-inside .ensures .1 .0) (the-if4 .left) in
     let b = passed (the-inside2 .ensures .1 .0) (the-if6 .left) in (
@@ -573,7 +573,7 @@ pub +inside+items-spec : {M : Type 1} → statement M
     (items-returns-3 t)
     (items-word-at-requires t)
     (items-add-below t)
-    (items-wide-requires t)
+    (items-word-requires t)
     (items-inside-of-requires t)
     (items-inside-requires t)
     (items-refused-requires-3 t)

@@ -31,8 +31,8 @@ sub-c c = omega arith
 cell-at-requires : tie.Need-cell-at-requires Inv-loop μ-loop
 cell-at-requires c κs = search needs
 
-wide-requires : tie.Need-wide-requires Inv-loop μ-loop
-wide-requires c κs = search needs
+word-requires : tie.Need-word-requires Inv-loop μ-loop
+word-requires c κs = search needs
 
 rule-in-requires : tie.Need-rule-in-requires Inv-loop μ-loop
 rule-in-requires c κs =
@@ -40,7 +40,7 @@ rule-in-requires c κs =
     let the-loop-test = c .before .before .loop-test in
     let h = the-loop .inv in
     let t = the-loop-test .taken in
-    let w = c .wide .ensures in
+    let w = c .word .ensures in
     omega arith
 
 member-size-requires : tie.Need-member-size-requires Inv-loop μ-loop
@@ -61,7 +61,7 @@ loop-again c =
     let the-loop = c .before .before .before .before .before .loop in
     let the-loop-test = c .before .before .before .before .loop-test in
     let the-cell-at = c .before .before .before .cell-at in
-    let the-wide = c .before .before .wide in
+    let the-word = c .before .before .word in
     let the-rule-in = c .before .rule-in in
     let the-member-size = c .member-size in
     let the-Start = c .before .before .before .before .before .before .before in
@@ -76,7 +76,7 @@ loop-again c =
           omega (arith, m, h .1 .1 .0, h .1 .0, t),
           λ kind r.
               sum-more _ _ _ _ _ _ _ _ _ _ (omega arith) (h .1 .1 .1 kind r) (the-cell-at .ensures ∙ cell-in _ _ _ l)
-              (r (the-loop .c - 1) l ∙ ap (λ (i : ℕ). the-Start .args .rules / 2 ^ (4 * i) % 16) (sym (the-wide .ensures)) ∙ the-rule-in .ensures)
+              (r (the-loop .c - 1) l ∙ ap (λ (i : ℕ). the-Start .args .rules / 2 ^ (4 * i) % 16) (sym (the-word .ensures)) ∙ the-rule-in .ensures)
               (the-member-size .ensures),
         ),
       ),
@@ -101,7 +101,7 @@ cells-size-spec =
     loop-holds
     sub-c
     cell-at-requires
-    wide-requires
+    word-requires
     rule-in-requires
     member-size-requires
     add-total

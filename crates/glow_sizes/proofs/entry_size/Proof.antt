@@ -8,7 +8,7 @@ use mathlib.Core.Bool.{true}
 use mathlib.Core.List.{List, []}
 use lib.ListN.{getD}
 use lib.Dec.{leb, eqb}
-use Rattle.ber_integers.specs.Digits.{pick}
+use Rattle.base_choices.specs.Choices.{pick}
 use Rattle.glow_grammar.specs.Grammar.{required}
 use Rattle.glow_sizes.specs.declared.Entered.{Entered}
 use Rattle.glow_sizes.specs.Sizes.{keyed, enteredAt}

@@ -8,8 +8,8 @@ use Rattle.glow_sizes.proofs.path_after.Tie as tie
 use Rattle.glow_sizes.proofs.path_after.Reads as reads
 use Rattle.glow_sizes.proofs.path_after.Lts as lts
 use Rattle.glow_sizes.proofs.few.Reads as few-reads
-use Rattle.glow_member_sizes.proofs.index.Reads as index-reads
-use Rattle.glow_member_sizes.proofs.wide.Reads as wide-reads
+use Rattle.base_casts.proofs.index.Reads as index-reads
+use Rattle.base_casts.proofs.word.Reads as word-reads
 use Rattle.ber_identifiers.proofs.read_oid.Reads as read-oid-reads
 
 few-requires : tie.Need-few-requires
@@ -53,8 +53,8 @@ read-oid-requires c κs = search needs
 enum-known-n : tie.Need-enum-known-n
 enum-known-n c = search needs
 
-wide-requires : tie.Need-wide-requires
-wide-requires c κs = search needs
+word-requires : tie.Need-word-requires
+word-requires c κs = search needs
 
 returns-4 : tie.Need-returns-4
 returns-4 c =
@@ -66,10 +66,10 @@ returns-4 c =
     let the-read-oid = c .before .before .before .before .before .read-oid in
     let the-n = c .before .before .before .n in
     let the-if5 = c .before .if5 in
-    let the-wide = c .wide in
+    let the-word = c .word in
     ap pathCap (path-counted _ _ _ _ (the-Start .pre) (kind-present _ _ 0 (the-if1 .left)) (the-if4 .taken) _ _ _ (the-index .ensures) (the-index2 .ensures)
     (the-read-oid .ensures .is) ∙ ap countOf (the-n .given .1))
-    ∙ cap-few _ (the-if5 .taken) ∙ sym (the-wide .ensures)
+    ∙ cap-few _ (the-if5 .taken) ∙ sym (the-word .ensures)
 
 returns-5 : tie.Need-returns-5
 returns-5 c =
@@ -142,7 +142,7 @@ path-after-spec =
     index-requires-2
     read-oid-requires
     enum-known-n
-    wide-requires
+    word-requires
     returns-4
     returns-5
     enum-told

@@ -5,7 +5,7 @@ use Rattle.glow_steps.proofs.kind_by.Statement.{statement}
 use Rattle.glow_steps.proofs.kind_by.Tie as tie
 use Rattle.glow_steps.proofs.kind_by.Reads as reads
 use Rattle.glow_steps.proofs.kind_by.Lts as lts
-use Rattle.glow_steps.proofs.wide.Reads as wide-reads
+use Rattle.base_casts.proofs.wide.Reads as wide-reads
 use Rattle.glow_grammar.proofs.kind_in.Reads as kind-in-reads
 
 returns : tie.Need-returns

@@ -9,7 +9,7 @@ use Rattle.glow_steps.proofs.next_rule.Reads as reads
 use Rattle.glow_steps.proofs.next_rule.Lts as lts
 use Rattle.glow_steps.proofs.in_order.Reads as in-order-reads
 use Rattle.glow_steps.proofs.is_again.Reads as is-again-reads
-use Rattle.glow_steps.proofs.wide.Reads as wide-reads
+use Rattle.base_casts.proofs.wide.Reads as wide-reads
 use Rattle.glow_grammar.proofs.rule_of.Reads as rule-of-reads
 
 returns : tie.Need-returns

@@ -61,9 +61,9 @@ use Rattle.glow_walk.proofs.leaf.Reads as leaf-reads
 use Rattle.glow_walk.proofs.on.Reads as on-reads
 use Rattle.glow_walk.proofs.onward.Reads as onward-reads
 use Rattle.glow_walk.proofs.opened.Reads as opened-reads
-use Rattle.glow_walk.proofs.size.Reads as size-reads
-use Rattle.glow_walk.proofs.wide.Reads as wide-reads
-use Rattle.glow_walk.proofs.word.Reads as word-reads
+use Rattle.base_casts.proofs.size.Reads as size-reads
+use Rattle.base_casts.proofs.wide.Reads as wide-reads
+use Rattle.base_casts.proofs.word.Reads as word-reads
 use Rattle.glow_walk.proofs.+contents+element+entry+general+item_turn+items+list+nested.{
   statement,
 }

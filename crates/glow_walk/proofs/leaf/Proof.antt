@@ -15,8 +15,8 @@ use Rattle.glow_rows.proofs.put_cell.Reads as put-cell-reads
 use Rattle.glow_steps.proofs.after_listed.Reads as after-listed-reads
 use Rattle.glow_steps.proofs.column_of.Reads as column-of-reads
 use Rattle.glow_walk.proofs.on.Reads as on-reads
-use Rattle.glow_walk.proofs.size.Reads as size-reads
-use Rattle.glow_walk.proofs.wide.Reads as wide-reads
+use Rattle.base_casts.proofs.size.Reads as size-reads
+use Rattle.base_casts.proofs.wide.Reads as wide-reads
 use Rattle.glow_walk.proofs.worded.Reads as worded-reads
 
 shared-slice-read-wide : tie.Need-shared-slice-read-wide

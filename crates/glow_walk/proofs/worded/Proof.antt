@@ -5,7 +5,7 @@ use Rattle.glow_walk.proofs.worded.Statement.{statement}
 use Rattle.glow_walk.proofs.worded.Tie as tie
 use Rattle.glow_walk.proofs.worded.Reads as reads
 use Rattle.glow_walk.proofs.worded.Lts as lts
-use Rattle.glow_walk.proofs.word.Reads as word-reads
+use Rattle.base_casts.proofs.word.Reads as word-reads
 
 returns : tie.Need-returns
 returns c =

@@ -22,19 +22,19 @@ loop-holds c = refl
 shared-slice-read-if1 : tie.Need-shared-slice-read-if1 Inv-loop μ-loop
 shared-slice-read-if1 c = search needs
 
-shared-slice-read-word : tie.Need-shared-slice-read-word Inv-loop μ-loop
-shared-slice-read-word c = search needs
+shared-slice-read-wide : tie.Need-shared-slice-read-wide Inv-loop μ-loop
+shared-slice-read-wide c = search needs
 
-word-requires : tie.Need-word-requires Inv-loop μ-loop
-word-requires c κs = search needs
+wide-requires : tie.Need-wide-requires Inv-loop μ-loop
+wide-requires c κs = search needs
 
 returns : tie.Need-returns Inv-loop μ-loop
 returns c =
     let the-loop = c .before .before .before .before .before .loop in
     let the-loop-test = c .before .before .before .before .loop-test in
     let the-if1 = c .before .before .if1 in
-    let the-word = c .word in
-    the-loop .inv ∙ refused-one _ _ (the-loop-test .taken) (the-if1 .taken) ∙ sym (the-word .ensures)
+    let the-wide = c .wide in
+    the-loop .inv ∙ refused-one _ _ (the-loop-test .taken) (the-if1 .taken) ∙ sym (the-wide .ensures .0)
 
 add-j : tie.Need-add-j Inv-loop μ-loop
 add-j c = omega arith
@@ -63,8 +63,8 @@ first-refused-spec =
     μ-loop
     loop-holds
     shared-slice-read-if1
-    shared-slice-read-word
-    word-requires
+    shared-slice-read-wide
+    wide-requires
     returns
     add-j
     loop-less

@@ -10,10 +10,10 @@ use Rattle.sheet_writer.proofs.put_entries.Reads as reads
 use Rattle.sheet_writer.proofs.put_entries.Lts as lts
 use Rattle.ber_identifiers.proofs.write_oid.Reads as write-oid-reads
 use Rattle.sheet_writer.proofs.end_of.Reads as end-of-reads
-use Rattle.sheet_writer.proofs.index.Reads as index-reads
+use Rattle.base_casts.proofs.index.Reads as index-reads
 use Rattle.desk_rows.proofs.matrix_row.Reads as matrix-row-reads
 use Rattle.sheet_writer.proofs.put_links.Reads as put-links-reads
-use Rattle.sheet_writer.proofs.wide.Reads as wide-reads
+use Rattle.base_casts.proofs.word.Reads as word-reads
 
 index-requires : tie.Need-index-requires
 index-requires c κs = search needs
@@ -27,8 +27,8 @@ write-oid-requires c κs = search needs
 end-of-requires : tie.Need-end-of-requires
 end-of-requires c κs = search needs
 
-wide-requires : tie.Need-wide-requires
-wide-requires c κs = search needs
+word-requires : tie.Need-word-requires
+word-requires c κs = search needs
 
 matrix-row-requires : tie.Need-matrix-row-requires
 matrix-row-requires c κs = search needs
@@ -78,12 +78,12 @@ returns c =
     let the-index2 = c .before .before .before .before .before .before .before .before .before .before .before .before .before .index2 in
     let the-write-oid = c .before .before .before .before .before .before .before .before .before .before .before .write-oid in
     let the-end-of = c .before .before .before .before .before .before .before .before .end-of in
-    let the-wide = c .before .before .before .before .before .before .before .wide in
+    let the-word = c .before .before .before .before .before .before .before .word in
     let the-matrix-row = c .before .before .before .before .before .before .matrix-row in
     let the-put-links = c .before .before .before .put-links in
     let lens = the-Start .pre .1 in
     entries-put (deskAt (the-Start .args .f) (the-Start .args .path .now) (the-Start .args .cells .now)) (the-Start .pre .0) (the-Start .args .rows .now) (omega (arith, lens))
-    (the-Start .args .octets .now) (omega (arith, lens)) (the-write-oid .ensures) (the-end-of .ensures) (the-wide .ensures) (the-matrix-row .ensures)
+    (the-Start .args .octets .now) (omega (arith, lens)) (the-write-oid .ensures) (the-end-of .ensures) (the-word .ensures) (the-matrix-row .ensures)
     (the-index .ensures) (the-index2 .ensures) (the-put-links .ensures)
 
 pub put-entries-spec : {M : Type 1} → statement M
@@ -94,7 +94,7 @@ put-entries-spec =
     index-requires-2
     write-oid-requires
     end-of-requires
-    wide-requires
+    word-requires
     matrix-row-requires
     slice-set-from-rows
     put-links-requires

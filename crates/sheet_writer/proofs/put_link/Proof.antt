@@ -8,7 +8,7 @@ use Rattle.sheet_writer.proofs.put_link.Lts as lts
 use Rattle.desk_rows.proofs.link_row.Reads as link-row-reads
 use Rattle.desk_rows.proofs.list_of.Reads as list-of-reads
 use Rattle.sheet_writer.proofs.put_sources.Reads as put-sources-reads
-use Rattle.sheet_writer.proofs.wide.Reads as wide-reads
+use Rattle.base_casts.proofs.word.Reads as word-reads
 
 mul-from : tie.Need-mul-from
 mul-from c = search needs
@@ -30,19 +30,19 @@ put-sources-requires c κs =
     let the-Start = c .before .before .before .before in
     let s = part-short (the-Start .args .w) (the-Start .args .cells .now) (the-Start .args .t) in (omega (arith, s, the-Start .pre .0 .1), the-Start .pre .1 .1 .1)
 
-wide-requires : tie.Need-wide-requires
-wide-requires c κs = search needs
+word-requires : tie.Need-word-requires
+word-requires c κs = search needs
 
-wide-requires-2 : tie.Need-wide-requires-2
-wide-requires-2 c κs = search needs
+word-requires-2 : tie.Need-word-requires-2
+word-requires-2 c κs = search needs
 
-sub-wide : tie.Need-sub-wide
-sub-wide c =
+sub-word : tie.Need-sub-word
+sub-word c =
     let the-put-sources = c .before .before .before .before .put-sources in
     wrote-end _ _ _ (the-put-sources .ensures .0)
 
-wide-requires-3 : tie.Need-wide-requires-3
-wide-requires-3 c κs = search needs
+word-requires-3 : tie.Need-word-requires-3
+word-requires-3 c κs = search needs
 
 list-of-requires : tie.Need-list-of-requires
 list-of-requires c κs = search needs
@@ -69,13 +69,13 @@ returns : tie.Need-returns
 returns c =
     let the-Start = c .before .before .before .before .before .before .before .before .before .before .before .before in
     let the-put-sources = c .before .before .before .before .before .before .before .put-sources in
-    let the-wide = c .before .before .before .before .wide in
-    let the-wide2 = c .before .before .before .wide2 in
-    let the-wide3 = c .before .before .wide3 in
+    let the-word = c .before .before .before .before .word in
+    let the-word2 = c .before .before .before .word2 in
+    let the-word3 = c .before .before .word3 in
     let the-list-of = c .before .list-of in
     let the-link-row = c .link-row in (
       link-put (the-Start .args .w) (the-Start .args .cells .now) (the-Start .args .t) _ _ _ (the-put-sources .ensures .0)
-          (the-wide .ensures) (the-wide2 .ensures) (the-wide3 .ensures) (the-list-of .ensures) (the-link-row .ensures),
+          (the-word .ensures) (the-word2 .ensures) (the-word3 .ensures) (the-list-of .ensures) (the-link-row .ensures),
       omega (arith, the-put-sources .ensures .1, part-short (the-Start .args .w) (the-Start .args .cells .now) (the-Start .args .t), the-Start .pre .0 .1),
     )
 
@@ -89,10 +89,10 @@ put-link-spec =
     part-put-sources-start
     part-put-sources-end
     put-sources-requires
-    wide-requires
-    wide-requires-2
-    sub-wide
-    wide-requires-3
+    word-requires
+    word-requires-2
+    sub-word
+    word-requires-3
     list-of-requires
     link-row-requires
     add-t21

@@ -6,7 +6,7 @@ use Rattle.ember.proofs.after.later.Reads as reads
 use Rattle.ember.proofs.after.later.Lts as lts
 use Rattle.ember.proofs.after.make.Reads as make-reads
 use Rattle.ember.proofs.after.refused.Reads as refused-reads
-use Rattle.framing_words.proofs.word.Reads as word-reads
+use Rattle.base_casts.proofs.word.Reads as word-reads
 
 enum-told : tie.Need-enum-told
 enum-told c = search needs

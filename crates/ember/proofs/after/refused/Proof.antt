@@ -5,7 +5,7 @@ use Rattle.ember.proofs.after.refused.Tie as tie
 use Rattle.ember.proofs.after.refused.Reads as reads
 use Rattle.ember.proofs.after.refused.Lts as lts
 use Rattle.ember.proofs.after.make.Reads as make-reads
-use Rattle.framing_words.proofs.word.Reads as word-reads
+use Rattle.base_casts.proofs.word.Reads as word-reads
 
 enum-told : tie.Need-enum-told
 enum-told c = search needs

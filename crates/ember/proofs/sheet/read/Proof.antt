@@ -4,7 +4,7 @@ use Rattle.ember.proofs.sheet.read.Statement.{statement}
 use Rattle.ember.proofs.sheet.read.Tie as tie
 use Rattle.ember.proofs.sheet.read.Reads as reads
 use Rattle.ember.proofs.sheet.read.Lts as lts
-use Rattle.framing_words.proofs.word.Reads as word-reads
+use Rattle.base_casts.proofs.word.Reads as word-reads
 use Rattle.ember.proofs.words.put_figures.Reads as put-figures-reads
 
 enum-told : tie.Need-enum-told

@@ -4,7 +4,7 @@ use Rattle.ember.proofs.sheet.wrote.Statement.{statement}
 use Rattle.ember.proofs.sheet.wrote.Tie as tie
 use Rattle.ember.proofs.sheet.wrote.Reads as reads
 use Rattle.ember.proofs.sheet.wrote.Lts as lts
-use Rattle.framing_words.proofs.word.Reads as word-reads
+use Rattle.base_casts.proofs.word.Reads as word-reads
 
 enum-told : tie.Need-enum-told
 enum-told c = search needs

@@ -24,7 +24,7 @@ use Rattle.glow_sizes.proofs.stands_in.Reads as stands-in-reads
 use Rattle.glow_rows.proofs.word_at.Reads as word-at-reads
 use Rattle.glow_sizes.proofs.wrapped_size.Reads as wrapped-size-reads
 use Rattle.glow_member_sizes.proofs.plus.Reads as plus-reads
-use Rattle.glow_member_sizes.proofs.wide.Reads as wide-reads
+use Rattle.base_casts.proofs.word.Reads as word-reads
 use Rattle.glow_writer.proofs.write.put_entry.Reads as put-entry-reads
 use Rattle.glow_writer.proofs.write.put_outer.Reads as put-outer-reads
 use Rattle.glow_writer.proofs.write.tag_of.Reads as tag-of-reads
@@ -102,8 +102,8 @@ abbrev put-item-calls : ℕ → put-item-lts.Claims
 put-item-calls t = (
   word-at-reads.Asked,
   word-at-reads.Learnt,
-  wide-reads.Asked,
-  wide-reads.Learnt,
+  word-reads.Asked,
+  word-reads.Learnt,
   wrapped-size-reads.Asked,
   wrapped-size-reads.Learnt,
   plus-reads.Asked,
@@ -129,14 +129,14 @@ put-item-shared-slice-read-w t c =
     let the-Start = c .before .before .before .before .before in
     let q = the-Start .pre .1 in omega arith
 
-put-item-wide-requires : (t : ℕ) → put-item-lts.Need-wide-requires (put-item-calls t) (put-item-at t) put-item.Post
-put-item-wide-requires t c κs = search needs
+put-item-word-requires : (t : ℕ) → put-item-lts.Need-word-requires (put-item-calls t) (put-item-at t) put-item.Post
+put-item-word-requires t c κs = search needs
 
 put-item-add-me : (t : ℕ) → put-item-lts.Need-add-me (put-item-calls t) (put-item-at t) put-item.Post
 put-item-add-me t c =
-    let the-wide = c .wide in
+    let the-word = c .word in
     let the-Start = c .before .before .before .before .before .before in
-    let q = the-Start .pre .1 in let z = the-Start .fits .count .fits in let w = the-wide .ensures in omega arith
+    let q = the-Start .pre .1 in let z = the-Start .fits .count .fits in let w = the-word .ensures in omega arith
 
 put-item-wrapped-size-requires : (t : ℕ) → put-item-lts.Need-wrapped-size-requires (put-item-calls t) (put-item-at t) put-item.Post
 put-item-wrapped-size-requires t c κs = search needs
@@ -200,14 +200,14 @@ put-item-returns t c =
     let the-plus = c2 .before .before .plus in
     let the-wrapped-size2 = c2 .before .before .before .wrapped-size2 in
     let the-wrapped-size = c2 .before .before .before .before .wrapped-size in
-    let the-wide = c2 .before .before .before .before .before .wide in
+    let the-word = c2 .before .before .before .before .before .word in
     let the-word-at = c2 .before .before .before .before .before .before .before .word-at in
     let c3 = c2 .before .before .before .before .before .before .before .before in
     let the-Start = c3 .before .before .before in
     let q = the-Start .pre .1 in
     let m = the-put-inside .ensures .1 in
     let r = the-put-inside2 .ensures .1 in
-    let w = the-wide .ensures in (
+    let w = the-word .ensures in (
       item-put _ _ _ _ _ _ (the-word-at .ensures) (q .1 .1 .1 _ (q .0)) _ _ _ _ (refl, (refl, (refl, refl))) _ _ (omega arith) (omega arith)
           _ _ _ _ (the-wrapped-size .ensures) (the-wrapped-size2 .ensures) (the-plus .ensures) (the-plus2 .ensures) _ (the-tag-of .ensures) _ _ _ _
           (the-put-outer .ensures) _ _ (the-put-entry .ensures) _ _ (the-put-inside .ensures .0) _ _ (the-put-inside2 .ensures .0),
@@ -357,7 +357,7 @@ pub +put-inside+put-item+put-items-spec : {M : Type 1} → statement M
     (put-item-word-at-requires t)
     (put-item-mul-w t)
     (put-item-shared-slice-read-w t)
-    (put-item-wide-requires t)
+    (put-item-word-requires t)
     (put-item-add-me t)
     (put-item-wrapped-size-requires t)
     (put-item-wrapped-size-requires-2 t)

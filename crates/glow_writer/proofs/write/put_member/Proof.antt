@@ -6,7 +6,7 @@ use Rattle.glow_writer.proofs.write.put_member.Statement.{statement}
 use Rattle.glow_writer.proofs.write.put_member.Tie as tie
 use Rattle.glow_writer.proofs.write.put_member.Reads as reads
 use Rattle.glow_writer.proofs.write.put_member.Lts as lts
-use Rattle.glow_member_sizes.proofs.index.Reads as index-reads
+use Rattle.base_casts.proofs.index.Reads as index-reads
 use Rattle.glow_member_sizes.proofs.is_part.Reads as is-part-reads
 use Rattle.glow_member_sizes.proofs.place.Reads as place-reads
 use Rattle.glow_member_sizes.proofs.word_size.Reads as word-size-reads

@@ -28,21 +28,21 @@ returns c =
     let e = the-judge .ensures .0 ∙ ap (λ (x : ℕ). cap (taggedSize x)) (the-around .ensures) ∙ the-around2 .ensures in
     write-long _ _ _ _ _ e _ (the-if1 .taken)
 
-wide-requires : tie.Need-wide-requires
-wide-requires c κs = search needs
+word-requires : tie.Need-word-requires
+word-requires c κs = search needs
 
 returns-2 : tie.Need-returns-2
 returns-2 c =
     let the-if2 = c .before .if2 in
-    let the-wide = c .before .before .wide in
+    let the-word = c .before .before .word in
     let the-if1 = c .before .before .before .if1 in
     let the-around2 = c .before .before .before .before .around2 in
     let the-around = c .before .before .before .before .before .around in
     let the-judge = c .before .before .before .before .before .before .before .before .judge in
     let e = the-judge .ensures .0 ∙ ap (λ (x : ℕ). cap (taggedSize x)) (the-around .ensures) ∙ the-around2 .ensures in
     let t = the-if2 .taken in
-    let k : the-wide .result < the-around2 .result = omega arith in
-    write-short _ _ _ _ _ e _ (the-if1 .left) _ (the-wide .ensures) k
+    let k : the-word .result < the-around2 .result = omega arith in
+    write-short _ _ _ _ _ e _ (the-if1 .left) _ (the-word .ensures) k
 
 put-head-requires : tie.Need-put-head-requires
 put-head-requires c κs = search needs
@@ -78,7 +78,7 @@ returns-3 c =
     let the-root-tag = c1 .before .before .root-tag in
     let the-put-head = c1 .before .before .before .before .before .put-head in
     let the-if2 = c1 .before .before .before .before .before .before .before .if2 in
-    let the-wide = c1 .before .before .before .before .before .before .before .before .wide in
+    let the-word = c1 .before .before .before .before .before .before .before .before .word in
     let c2 = c1 .before .before .before .before .before .before .before .before in
     let the-if1 = c2 .before .if1 in
     let the-around2 = c2 .before .before .around2 in
@@ -88,8 +88,8 @@ returns-3 c =
     let h = the-if1 .left in
     let j = the-judge .ensures .1 (trees-small _ _ _ (the-around .ensures) (the-around2 .ensures) h) in
     let t = the-if2 .left in
-    let k : the-around2 .result ≤ the-wide .result = omega arith in
-    write-put _ _ _ _ _ e _ h _ (the-wide .ensures) k _ (j .octets) _ (the-around .ensures) _ _ (the-put-head .ensures) _
+    let k : the-around2 .result ≤ the-word .result = omega arith in
+    write-put _ _ _ _ _ e _ h _ (the-word .ensures) k _ (j .octets) _ (the-around .ensures) _ _ (the-put-head .ensures) _
     (the-root-tag .ensures) _ _ (the-put-head2 .ensures) _ _ (the-put-items .ensures .0 62 0)
 
 pub write-spec : {M : Type 1} → statement M
@@ -101,7 +101,7 @@ write-spec =
     around-requires
     around-requires-2
     returns
-    wide-requires
+    word-requires
     returns-2
     put-head-requires
     root-tag-requires

@@ -9,7 +9,7 @@ use Rattle.program_lines.proofs.text.number.Tie as tie
 use Rattle.program_lines.proofs.text.number.Reads as reads
 use Rattle.program_lines.proofs.text.number.Lts as lts
 use Rattle.program_lines.proofs.text.more.Reads as more-reads
-use Rattle.program_lines.proofs.text.wide.Reads as wide-reads
+use Rattle.base_casts.proofs.wide.Reads as wide-reads
 
 abbrev Inv-loop : tie.InvT-loop
 Inv-loop line from end n₀ i₀ n i = (i ≤ end) × ((n < 18446744073709551616) × (digitsAfter n (left line from end i) ≡ numberIn line from end))
@@ -59,7 +59,7 @@ wide-requires c κs = search needs
 more-requires : tie.Need-more-requires Inv-loop μ-loop
 more-requires c κs =
     let the-wide = c .wide in
-    omega (arith, the-wide .ensures)
+    omega (arith, the-wide .ensures .0)
 
 add-i : tie.Need-add-i Inv-loop μ-loop
 add-i c = search needs
@@ -76,7 +76,7 @@ loop-again c =
     let the-if4 = c .before .before .if4 in
     let the-wide = c .before .wide in
     let the-more = c .more in
-    let e = the-wide .ensures in
+    let e = the-wide .ensures .0 in
     let fits : the-more .result < 18446744073709551616 = omega (arith, the-more .ensures) in (
       omega arith,
       (

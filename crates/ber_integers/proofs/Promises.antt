@@ -5,10 +5,10 @@ use Rattle.ber_integers.specs.declared.Natural.{Natural}
 use Rattle.ber_integers.specs.declared.Natural.the-variants.{Nat, Refused as NoNat}
 use Rattle.ber_integers.specs.declared.Number.{Number}
 use Rattle.ber_integers.specs.declared.Number.the-variants.{Int, Refused}
-use Rattle.ber_integers.specs.Said.{Told, integerSays, integerOr, naturalSays, naturalOr}
+use Rattle.ber_integers.specs.Readings.{Promised, integerSays, integerOr, naturalSays, naturalOr}
 
-pub told : {A C : Type 0} {says row : A → C} {rule r : A} → ((x : A) → says x ≡ row x) → r ≡ rule → Told says row rule r
-told {row = row} {r = r} by e = record { is = e; said = by r ∙ ap row e }
+pub promised : {A C : Type 0} {says row : A → C} {rule r : A} → ((x : A) → says x ≡ row x) → r ≡ rule → Promised says row rule r
+promised {row = row} {r = r} by e = record { is = e; said = by r ∙ ap row e }
 
 pub integer-row : (x : Number) → integerSays x ≡ integerOr 30 x
 integer-row (Int z) = refl

@@ -1,0 +1,2 @@
+-- What a test and its answers say.
+pub mod Laws

@@ -1,0 +1,1 @@
+// Choices by a test: definitions and laws alone.
