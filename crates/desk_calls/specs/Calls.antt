@@ -9,6 +9,8 @@ use Rattle.glow_rows.specs.Entry.{Rows}
 use Rattle.glow_trees.specs.Content.{Item}
 use Rattle.glow_trees.specs.Rows.{itemsIn}
 use Rattle.glow_sizes.specs.Accepted.{accepted}
+use Rattle.glow_reader.specs.declared.Answer as reader
+use Rattle.glow_reader.specs.declared.Answer.the-variants.{Setup, Refused, Room, Read}
 use Rattle.desk_crosspoints.specs.Crosspoints.{Cells, clear}
 use Rattle.desk_crosspoints.specs.Desk.{Desk, withCells, deskLegal, Answer, answer}
 use Rattle.desk_requests.specs.Request.{Request, request, requested}
@@ -80,3 +82,14 @@ called d root rows n s = pick (isReady d root rows n s) (laid (handled d (itemsI
 -- what the answer says, with the crosspoints after it
 abbrev pub outcomeOf : Called → Cells → Outcome
 outcomeOf r cells = outcome (r .number) (r .count) (r .answers) cells
+
+-- where the desk is not called: no answers, and the crosspoints as they were
+abbrev pub uncalled : Cells → Outcome
+uncalled cells = outcome 0 0 (clear 256) cells
+
+-- After the tree reader's call on the message s: if it gave 0, the call on those entries, as read.
+abbrev pub calledAfter : Desk → List ℕ → reader.Answer → Rows → Outcome
+calledAfter d s Setup table = uncalled (d .crosspoints)
+calledAfter d s (Refused number place) table = uncalled (d .crosspoints)
+calledAfter d s (Room count) table = uncalled (d .crosspoints)
+calledAfter d s (Read root count) table = called d root table count s

@@ -5,6 +5,7 @@ use desk_crosspoints::Figures;
 use desk_crosspoints::SIDE;
 use desk_sources::sources_of;
 use glow_paths::is_path;
+use glow_reader::Answer;
 use glow_rows::KIND;
 use glow_rows::PARENT;
 use glow_rows::kinds;
@@ -18,7 +19,8 @@ ghost use Rattle.desk_crosspoints.specs.Figures.{cellsOf};
 ghost use Rattle.desk_crosspoints.specs.Crosspoints.{clear, count, takenFrom, withRow, legal};
 ghost use Rattle.desk_crosspoints.specs.Desk.{deskAt, answer};
 ghost use Rattle.desk_requests.specs.Request.{request, named, others, requested};
-ghost use Rattle.desk_calls.specs.Calls.{outcome, called, outcomeOf};
+ghost use Rattle.glow_reader.specs.Message.{result, readAt};
+ghost use Rattle.desk_calls.specs.Calls.{outcome, called, outcomeOf, calledAfter};
 ghost use Rattle.desk_calls.specs.Steps.{askedOf, answeredAt, servedIn, Takes};
 
 // What the call answers: 0, or 1 SETUP; how many connections were answered; and their answers in order, then zeros.
@@ -26,6 +28,12 @@ pub struct Called {
     pub number: u64,
     pub count: usize,
     pub answers: [u8; 256],
+}
+
+// What the tree reader answers and, where that is 0, what the desk's call answers; else zeros.
+pub struct ReadCalled {
+    pub answer: Answer,
+    pub called: Called,
 }
 
 // The first source named, 0 if there is none.
@@ -283,4 +291,48 @@ pub fn call(
         count: answered,
         answers,
     }
+}
+
+// The desk is not called.
+fn uncalled() -> Called
+    ensures { λ r. ⌜ r ≡ record { number = 0; count = 0; answers = clear 256 } ⌝ }
+{
+    Called {
+        number: 0,
+        count: 0,
+        answers: [0u8; 256],
+    }
+}
+
+// The tree reader's call on a message and, if it gives 0, the desk's call on those entries. Entries as read make a tree that the reader accepts, so they are not
+// judged again; the desk is.
+pub fn read_and_call(
+    m: &[u8],
+    table: &mut [[u64; 50]],
+    f: Figures,
+    path: &[u64],
+    crosspoints: &mut [u8],
+) -> ReadCalled
+    ensures { λ r. ⌜ readAt (now (m .entry)) (now (table .entry)) ≡ result (r .answer) (now (table .exit)) ⌝ }
+    ensures { λ r. ⌜ calledAfter (deskAt f (now (path .entry)) (now (crosspoints .entry))) (now (m .entry)) (r .answer) (now (table .exit))
+        ≡ outcomeOf (r .called) (now (crosspoints .exit)) ⌝ }
+{
+    let answer = glow_reader::read(m, table);
+    let Answer::Read { root: _, count } = answer else {
+        let called = uncalled();
+        return ReadCalled { answer, called };
+    };
+    let fit = desk_crosspoints::desk_is_legal(f, path, crosspoints);
+    if !fit {
+        let called = unready();
+        return ReadCalled { answer, called };
+    }
+    let mut answers = [0u8; 256];
+    let answered = serve(f, path, table, count, m, crosspoints, &mut answers);
+    let called = Called {
+        number: 0,
+        count: answered,
+        answers,
+    };
+    ReadCalled { answer, called }
 }

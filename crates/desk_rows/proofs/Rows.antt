@@ -54,7 +54,10 @@ module _ (f : Figures) (len path : ℕ) (p : path ≡ len) (t g s a b : Number) 
       → r ≡ row (matrixEntry f len)
   matrix-is c d e h k r q =
       q ∙ matrix-cells _
-      ∙ ap (λ (n : ℕ). row (entry 7 0 (cells n (members.numberCell t) (members.numberCell g) (members.numberCell s) (members.numberCell a) (members.numberCell b)))) p
+      ∙ ap
+      (λ (n : ℕ). row (entry 7 0
+      (cells n (members.numberCell t) (members.numberCell g) (members.numberCell s) (members.numberCell a) (members.numberCell b))))
+      p
       ∙ ap (λ (x : Cell). row (entry 7 0 (cells len x (members.numberCell g) (members.numberCell s) (members.numberCell a) (members.numberCell b)))) c
       ∙ ap (λ (x : Cell). row (entry 7 0 (cells len (numberCell (f .kind)) x (members.numberCell s) (members.numberCell a) (members.numberCell b)))) d
       ∙ ap (λ (x : Cell). row (entry 7 0 (cells len (numberCell (f .kind)) (numberCell (f .targets)) x (members.numberCell a) (members.numberCell b)))) e

@@ -1,5 +1,5 @@
--- A desk's entries as rows (document 01, "Desk": "the qualified matrix with type, counts and limits, every target and its sources ascending, operation and empty
--- lists left out"). The octets of path and sources stand beside the rows.
+-- A desk's entries as rows (document 01, "Desk": "the qualified matrix with type, counts and limits, every target and its sources ascending,
+-- operation and empty lists left out"). The octets of path and sources stand beside the rows.
 use Prim.Native.Nat.{ℕ}
 use mathlib.Core.List.{List, _∷_}
 use lib.Dec.{eqb}

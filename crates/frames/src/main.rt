@@ -11,7 +11,8 @@ ghost use mathlib.Core.Path.{_≡_};
 ghost use Prim.Native.Nat.{_+_, _≤_, min};
 ghost use lib.ListN.{length};
 ghost use Rattle.framing_session.specs.Session.{saidBy};
-ghost use Rattle.framing_lines.specs.Text.{wrote, badLineText, eventText, endText, lineRoom};
+ghost use Rattle.base_output.specs.Output.{wrote};
+ghost use Rattle.framing_lines.specs.Text.{badLineText, eventText, endText, lineRoom};
 
 // What is kept from chunk to chunk: the session, the count of bytes consumed, how many bytes of output wait, and
 // whether all is done.

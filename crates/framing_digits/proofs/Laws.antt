@@ -1,15 +1,18 @@
 -- Laws of lists and of a scan, at plain variables.
 use Prim.Native.Nat.{ℕ, zero, suc, _+_, _*_, _≤_, _<_, min}
-use mathlib.Core.Path.{_≡_, refl, ap, _∙_}
+use mathlib.Core.Path.{_≡_, refl, sym}
 use mathlib.Core.Bool.{Bool, true, false}
 use mathlib.Core.List.{List, [], _∷_, _++_}
 use native.Mathlib.Omega.{arith}
 use native.Mathlib.Numerals.{add-one}
 use borrow.Author.Tests.{eq-eqb, ne-eqb}
-use lib.ListN.{length, drop, getD, set}
+use lib.ListN.{length, drop, getD}
 use lib.Seq.{drop-cons}
+use Rattle.base_hex.specs.Digits.{digitOf}
+use Rattle.base_output.specs.Output.{Wrote, wrote}
+use Rattle.base_output.proofs.Laws.{wrote-byte}
 use Rattle.framing_digits.specs.declared.Stop.the-variants.{Input, Fault}
-use Rattle.framing_digits.specs.Lines.{Whole, digitOf, stops, lineEnds, scanned}
+use Rattle.framing_digits.specs.Lines.{Whole, stops, lineEnds, scanned}
 
 -- ---- the rest of a list
 
@@ -34,18 +37,19 @@ module _ (s : List ℕ) (i h : ℕ) (g : Bool) (c : List ℕ) (n : ℕ) where
     unfolding scanned
     scan-line p = rw (drop-cons s i 0 below) (simp (eq-eqb _ _ p))
 
-    module _ (d : ℕ) (is : d ≡ digitOf (getD s i 0)) (no : getD s i 0 ≡ 10 → ⊥) where
+    module _ (d : ℕ) (is : digitOf (getD s i 0) ≡ d) (no : getD s i 0 ≡ 10 → ⊥) where
       pub scan-fault : d ≡ 16 → scanned (drop i s) i h g c n ≡ record { answer = stops Fault (i + 1) 16 false n; chunk = c }
       unfolding scanned
-      scan-fault p = rw (drop-cons s i 0 below) (simp (ne-eqb _ _ no, ← is, eq-eqb _ _ p))
+      scan-fault p = rw (drop-cons s i 0 below) (simp (ne-eqb _ _ no, is, eq-eqb _ _ p))
 
       pub scan-high : (d ≡ 16 → ⊥) → h ≡ 16 → scanned (drop i s) i h g c n ≡ scanned (drop (i + 1) s) (i + 1) d true c n
       unfolding scanned
-      scan-high p q = rw (rest-more s i below) (simp (ne-eqb _ _ no, ← is, ne-eqb _ _ p, eq-eqb _ _ q))
+      scan-high p q = rw (rest-more s i below) (simp (ne-eqb _ _ no, is, ne-eqb _ _ p, eq-eqb _ _ q))
 
-      pub scan-pair : (d ≡ 16 → ⊥) → (h ≡ 16 → ⊥) → scanned (drop i s) i h g c n ≡ scanned (drop (i + 1) s) (i + 1) 16 true (set c n (h * 16 + d)) (n + 1)
+      pub scan-pair : (d ≡ 16 → ⊥) → (h ≡ 16 → ⊥) → {w : Wrote} → wrote c n ((h * 16 + d) ∷ []) ≡ w
+          → scanned (drop i s) i h g c n ≡ scanned (drop (i + 1) s) (i + 1) 16 true (w .output) (w .next)
       unfolding scanned
-      scan-pair p q = rw (rest-more s i below) (simp (ne-eqb _ _ no, ← is, ne-eqb _ _ p, ne-eqb _ _ q))
+      scan-pair p q e = rw (sym e, wrote-byte c n (h * 16 + d), rest-more s i below) (simp (ne-eqb _ _ no, is, ne-eqb _ _ p, ne-eqb _ _ q))
 
 -- a number that is no digit counts as 16
 pub scan-first : (bs : List ℕ) (at high first : ℕ) (g : Bool) (c : List ℕ) {w : Whole}

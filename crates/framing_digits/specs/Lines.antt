@@ -1,24 +1,14 @@
--- Lines of hexadecimal digits, read byte by byte.
-use Prim.Native.Nat.{ℕ, _+_, _-_, _*_}
+-- Lines of hexadecimal digits of either case, read byte by byte.
+use Prim.Native.Nat.{ℕ, _+_, _*_}
 use mathlib.Core.Bool.{Bool, true, false}
 use mathlib.Core.List.{List, [], _∷_}
-use lib.Dec.{ltb, eqb}
+use lib.Dec.{eqb}
 use lib.ListN.{set}
 use Rattle.base_choices.specs.Choices.{pick}
+use Rattle.base_hex.specs.Digits.{digitOf}
 use Rattle.framing_digits.specs.declared.Scanned.{Scanned}
 use Rattle.framing_digits.specs.declared.Stop.{Stop}
 use Rattle.framing_digits.specs.declared.Stop.the-variants.{Input, Line, Fault}
-
--- "either case": the value of a digit, 16 for any other byte
-unfoldable pub digitOf : ℕ → ℕ
-digitOf b =
-    pick (ltb b 48) 16
-    (pick (ltb b 58) (b - 48)
-    (pick (ltb b 65) 16
-    (pick (ltb b 71) (b - 55)
-    (pick (ltb b 97) 16
-    (pick (ltb b 103) (b - 87)
-    16)))))
 
 -- What a scan gives, and leaves in the chunk.
 pub record Whole : Type 0 where

@@ -2,8 +2,8 @@
 ghost use mathlib.Core.Path.{_≡_};
 ghost use mathlib.Core.Bool.{false};
 ghost use Prim.Native.Nat.{_≤_, _<_, min};
-ghost use lib.ListN.{length, drop, set};
-ghost use Rattle.framing_digits.specs.Lines.{digitOf, stops, lineEnds, scanned};
+ghost use lib.ListN.{length, drop};
+ghost use Rattle.framing_digits.specs.Lines.{stops, lineEnds, scanned};
 
 // `high` is the first digit of a pair that is not whole yet, or 16. `begun`: the line has a digit.
 pub struct Line {
@@ -33,28 +33,6 @@ pub fn start() -> Line
     Line {
         high: 16,
         begun: false,
-    }
-}
-
-// The value of a hexadecimal digit of either case, or 16.
-fn digit(b: u8) -> u8
-    ensures { λ r. ⌜ r ≡ digitOf b ⌝ }
-    ensures { λ r. ⌜ r ≤ 16 ⌝ }
-{
-    if b < 48 {
-        16
-    } else if b < 58 {
-        b - 48
-    } else if b < 65 {
-        16
-    } else if b < 71 {
-        b - 55
-    } else if b < 97 {
-        16
-    } else if b < 103 {
-        b - 87
-    } else {
-        16
     }
 }
 
@@ -92,15 +70,6 @@ fn first_digit(high: u8) -> u8
     if high < 16 { high } else { 16 }
 }
 
-// Puts a byte into the chunk, if it has the place.
-fn put_byte(chunk: &mut [u8], at: usize, b: u8)
-    ensures { λ _. ⌜ now (chunk .exit) ≡ set (now (chunk .entry)) at b ⌝ }
-{
-    if at < chunk.len() {
-        chunk[at] = b;
-    }
-}
-
 // Reads bytes of the block up to a line's end, a fault or the block's end, and puts the pairs into the chunk. Those that
 // it has no place for are counted and not put.
 pub fn scan(block: &[u8], from: usize, line: Line, chunk: &mut [u8]) -> Scanned
@@ -119,7 +88,7 @@ pub fn scan(block: &[u8], from: usize, line: Line, chunk: &mut [u8]) -> Scanned
         if b == 10 {
             return end_line(i, high, begun, count);
         }
-        let d = digit(b);
+        let d = base_hex::digit(b);
         if d == 16 {
             return stop_at(Stop::Fault, i, count);
         }
@@ -127,8 +96,7 @@ pub fn scan(block: &[u8], from: usize, line: Line, chunk: &mut [u8]) -> Scanned
         if high == 16 {
             high = d;
         } else {
-            put_byte(chunk, count, high * 16 + d);
-            count += 1;
+            count = base_output::put(chunk, count, high * 16 + d);
             high = 16;
         }
     }

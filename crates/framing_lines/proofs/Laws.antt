@@ -12,28 +12,13 @@ use lib.Seq.{sets, drop-cons}
 use Rattle.framing_session.specs.declared.Event.{Event}
 use Rattle.framing_events.specs.Events.{lengthOf}
 use Rattle.framing_events.proofs.Said.{said-is}
-use Rattle.framing_session.proofs.Lists.{sets-append}
 use Rattle.framing_content.specs.Numbers.{storeLength}
 use Rattle.framing_session.specs.Session.{saidBy}
-use Rattle.framing_lines.specs.Text.{Wrote, wrote, lineRoom, wroteLine, wroteEvent, space, newline, glyphOf, hexText, wordText, dash, decimalText, headText, eventText}
+use Rattle.base_hex.specs.Digits.{hexText}
+use Rattle.base_output.specs.Output.{Wrote, wrote}
+use Rattle.framing_lines.specs.Text.{lineRoom, wroteLine, wroteEvent, space, newline, wordText, dash, decimalText, headText, eventText}
 
 -- ---- text put into an output
-
-module _ (o : List ℕ) (at : ℕ) where
-  pub wrote-none : wrote o at [] ≡ record { next = at; output = o }
-  unfolding wrote
-  wrote-none = let e : at + 0 ≡ at = omega arith in ap (λ (k : ℕ). record { next = k; output = o }) e
-
-  pub wrote-byte : (b : ℕ) → wrote o at (b ∷ []) ≡ record { next = at + 1; output = set o at b }
-  unfolding wrote
-  wrote-byte b = refl
-
-  -- text, and then more
-  pub wrote-then : (xs ys : List ℕ) {w : Wrote} → wrote o at xs ≡ w → wrote o at (xs ++ ys) ≡ wrote (w .output) (w .next) ys
-  unfolding wrote
-  wrote-then xs ys e =
-      let n : at + length (xs ++ ys) ≡ at + length xs + length ys = simp length-append (omega arith) in
-      rw (← e, sets-append xs ys o at, n)
 
 -- a line is put, or nothing is
 module _ (o : List ℕ) (at : ℕ) (text : List ℕ) (room : Bool) (is : room ≡ leb (at + lineRoom) (length o)) where
@@ -66,20 +51,7 @@ module _ (o : List ℕ) (at : ℕ) (room : at + lineRoom ≤ length o) where
       → wroteEvent o at offset e store ≡ wrote o at (eventText offset (saidBy e store))
   event-whole offset e store h = store-fits o at offset e store h ∙ line-whole _
 
--- ---- digits
-
-pub hex-more : (s : List ℕ) (i : ℕ)
-    → i < length s
-    → hexText (drop i s) ≡ (glyphOf (getD s i 0 / 16) ∷ []) ++ ((glyphOf (getD s i 0 % 16) ∷ []) ++ hexText (drop (i + 1) s))
-unfolding hexText
-hex-more s i h = rw (add-one i, drop-cons s i 0 h)
-
-pub hex-end : (s : List ℕ) (i : ℕ) → length s ≤ i → hexText (drop i s) ≡ []
-unfolding hexText
-hex-end [] zero h = refl
-hex-end [] (suc i) h = refl
-hex-end (x ∷ s) zero h = absurd (omega arith)
-hex-end (x ∷ s) (suc i) h = hex-end s i (omega arith)
+-- ---- words and numbers
 
 pub word-none : (s : List ℕ) → length s ≡ 0 → wordText s ≡ dash
 unfolding wordText

@@ -4,7 +4,6 @@ use mathlib.Core.Bool.{Bool, cond}
 use mathlib.Core.List.{List, [], _∷_, _++_}
 use lib.Dec.{ltb, leb, eqb}
 use lib.ListN.{length}
-use lib.Seq.{sets}
 use Rattle.framing_session.specs.declared.Event.{Event}
 use Rattle.framing_session.specs.declared.Frame.{Frame}
 use Rattle.framing_session.specs.declared.Frame.the-variants.{Outside, Stray, Inside, Escaped, BadByte, TooLong}
@@ -12,17 +11,11 @@ use Rattle.framing_session.specs.declared.Pending.{Pending}
 use Rattle.framing_session.specs.declared.Pending.the-variants.{Nothing, Part}
 use Rattle.framing_session.specs.declared.Session.{Session}
 use Rattle.base_choices.specs.Choices.{pick}
+use Rattle.base_hex.specs.Digits.{hexText}
+use Rattle.base_output.specs.Output.{Wrote, wrote}
 use Rattle.framing_content.specs.Numbers.{storeLength}
 use Rattle.framing_session.specs.Rules.{Said}
 use Rattle.framing_session.specs.Session.{saidBy}
-
--- Text put into an output from a place on, and the place after it.
-pub record Wrote : Type 0 where
-  pub next : ℕ
-  pub output : List ℕ
-
-unfoldable pub wrote : List ℕ → ℕ → List ℕ → Wrote
-wrote o at text = record { next = at + length text; output = sets o at text }
 
 -- more than any line has
 abbrev pub lineRoom : ℕ
@@ -41,14 +34,6 @@ space = 32 ∷ []
 
 abbrev pub dash : List ℕ
 dash = 45 ∷ []
-
--- "upper-case hexadecimal"
-abbrev pub glyphOf : ℕ → ℕ
-glyphOf d = pick (ltb d 10) (48 + d) (55 + d)
-
-unfoldable pub hexText : List ℕ → List ℕ
-hexText [] = []
-hexText (b ∷ bs) = glyphOf (b / 16) ∷ glyphOf (b % 16) ∷ hexText bs
 
 -- ".. or `-` if it has no bytes"
 unfoldable pub wordText : List ℕ → List ℕ

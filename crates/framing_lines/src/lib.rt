@@ -1,4 +1,5 @@
 // The lines for a stream's events, put into an output from a place on.
+use base_output::put;
 use framing_session::Event;
 use framing_session::Frame;
 use framing_session::Pending;
@@ -10,40 +11,26 @@ ghost use lib.Dec.{leb};
 ghost use mathlib.Core.List.{[], _∷_, _++_};
 ghost use lib.ListN.{length, take};
 ghost use Rattle.framing_session.specs.Session.{saidBy};
-ghost use Rattle.framing_lines.specs.Text.{wrote, glyphOf, hexText, wordText, decimalText, frameText, pendingText, space, headText, badLineText, eventText, endText, lineRoom, wroteLine, wroteEvent};
+ghost use Rattle.base_hex.specs.Digits.{hexText};
+ghost use Rattle.base_output.specs.Output.{wrote};
+ghost use Rattle.framing_lines.specs.Text.{wordText, decimalText, frameText, pendingText, space, headText, badLineText, eventText, endText};
+ghost use Rattle.framing_lines.specs.Text.{lineRoom, wroteLine, wroteEvent};
 
 // More than any line has.
 pub const LINE_ROOM: usize = 35000;
-
-fn put(out: &mut [u8], at: usize, b: u8) -> usize
-    requires { ⌜ at < length (now out) ⌝ }
-    ensures { λ r. ⌜ wrote (now (out .entry)) at (b ∷ []) ≡ record { next = r; output = now (out .exit) } ⌝ }
-    ensures { λ r. ⌜ r ≡ at + 1 ⌝ }
-{
-    out[at] = b;
-    at + 1
-}
-
-// A digit, in upper case.
-fn glyph(d: u8) -> u8
-    requires { ⌜ d < 16 ⌝ }
-    ensures { λ r. ⌜ r ≡ glyphOf d ⌝ }
-{
-    if d < 10 { 48 + d } else { 55 + d }
-}
 
 // Two digits for each byte.
 fn put_hex(out: &mut [u8], at: usize, s: &[u8]) -> usize
     requires { ⌜ at + 2 * length (now s) ≤ length (now out) ⌝ }
     ensures { λ r. ⌜ wrote (now (out .entry)) at (hexText (now (s .entry))) ≡ record { next = r; output = now (out .exit) } ⌝ }
-    ensures { λ r. ⌜ r ≡ at + 2 * length (now (s .entry)) ⌝ }
+    ensures { λ r. ⌜ r ≤ at + 2 * length (now (s .entry)) ⌝ }
 {
     let mut next = at;
     let mut i = 0;
     while i < s.len() {
         let b = s[i];
-        next = put(out, next, glyph(b / 16));
-        next = put(out, next, glyph(b % 16));
+        next = put(out, next, base_hex::high(b));
+        next = put(out, next, base_hex::low(b));
         i += 1;
     }
     next
@@ -146,7 +133,7 @@ fn put_event_line(out: &mut [u8], at: usize, offset: u64, event: Event, store: &
 fn put_bytes(out: &mut [u8], at: usize, s: &[u8]) -> usize
     requires { ⌜ at + length (now s) ≤ length (now out) ⌝ }
     ensures { λ r. ⌜ wrote (now (out .entry)) at (now (s .entry)) ≡ record { next = r; output = now (out .exit) } ⌝ }
-    ensures { λ r. ⌜ r ≡ at + length (now (s .entry)) ⌝ }
+    ensures { λ r. ⌜ r ≤ at + length (now (s .entry)) ⌝ }
 {
     let mut next = at;
     let mut i = 0;

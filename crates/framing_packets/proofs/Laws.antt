@@ -1,4 +1,4 @@
--- One law for each answer of the definitions of Written, at plain variables, and what a run of stores adds up to.
+-- One law for each answer of the definitions of Written, at plain variables.
 use Prim.Native.Nat.{ℕ, suc, _+_, _-_, _/_, _%_, _≤_, _<_}
 use mathlib.Core.Bool.{Bool, true, false}
 use mathlib.Core.List.{List, [], _∷_, _++_, append-assoc}
@@ -11,41 +11,12 @@ use lib.Bits.{bitXor}
 use lib.ListN.{length, getD, set, take, drop, length-append, length-drop, drop-of-length-le}
 use lib.Seq.{sets, sets-eq, set-out, take-all, take-append-seam, drop-cons, drop-drop}
 use Rattle.framing_checksum.specs.Checksum.{crcFrom, checksum}
-use Rattle.framing_session.proofs.Lists.{sets-append}
 use Rattle.base_choices.specs.Choices.{pick}
+use Rattle.base_output.specs.Output.{Wrote, wrote}
+use Rattle.base_output.proofs.Laws.{wrote-all, wrote-count}
 use Rattle.framing_content.specs.Numbers.{BOF, EOF, CE}
 use Rattle.framing_packets.specs.declared.Written.the-variants.{Done, Out}
 use Rattle.framing_packets.specs.Written.{escape, escapes, frame, flags, header, packet, packets, payloadLimit, earlier, Outcome, outcome, into, limited}
-use Rattle.framing_packets.specs.Stores.{Wrote, wrote}
-
--- ---- stores
-
-module _ (o : List ℕ) (at : ℕ) where
-  pub wrote-none : wrote o at [] ≡ record { next = at; output = o }
-  unfolding wrote
-  wrote-none = let e : at + 0 ≡ at = omega arith in ap (λ (k : ℕ). record { next = k; output = o }) e
-
-  pub wrote-byte : (b : ℕ) → wrote o at (b ∷ []) ≡ record { next = at + 1; output = set o at b }
-  unfolding wrote
-  wrote-byte b = refl
-
-  pub wrote-past : (b : ℕ) → length o ≤ at → wrote o at (b ∷ []) ≡ record { next = at + 1; output = o }
-  unfolding wrote
-  wrote-past b h = rw (set-out o at b h)
-
-  -- bytes, and then more
-  pub wrote-then : (xs ys : List ℕ) {w : Wrote} → wrote o at xs ≡ w → wrote o at (xs ++ ys) ≡ wrote (w .output) (w .next) ys
-  unfolding wrote
-  wrote-then xs ys e =
-      let n : at + length (xs ++ ys) ≡ at + length xs + length ys = simp length-append (omega arith) in
-      rw (← e, sets-append xs ys o at, n)
-
--- from 0, where there is room
-wrote-all : (o xs : List ℕ) {w : Wrote} → length xs ≤ length o → wrote o 0 xs ≡ w → xs ++ drop (length xs) o ≡ w .output
-unfolding wrote
-wrote-all o xs h e =
-    let z : 0 + length xs ≡ length xs = omega arith in
-    sym (sets-eq xs o 0 (omega arith) ∙ ap (λ (k : ℕ). xs ++ drop k o) z) ∙ ap (λ (w : Wrote). w .output) e
 
 -- ---- escapes
 
@@ -121,15 +92,6 @@ module _ (first : Bool) (m : List ℕ) (from : ℕ) where
       rw (k, ← (drop-drop payloadLimit from m)) (packets-more first (drop from m) (omega arith))
 
 -- ---- answers
-
-sets-none : (i : ℕ) (xs : List ℕ) → sets [] i xs ≡ []
-sets-none i [] = refl
-sets-none i (x ∷ xs) = sets-none (suc i) xs
-
--- over an output of no bytes, writing counts
-wrote-count : (xs : List ℕ) → wrote [] 0 xs ≡ record { next = length xs; output = [] }
-unfolding wrote
-wrote-count xs = let e : 0 + length xs ≡ length xs = omega arith in rw (sets-none 0 xs, e)
 
 -- v is what counting leaves, and w what writing leaves
 module _ (bs o : List ℕ) where

@@ -1,4 +1,5 @@
 // The S101 writer: frames, keep-alives and messages as packets, into a lent output.
+use base_output::put;
 pub use framing_packets::BODY_LIMIT;
 pub use framing_packets::PAYLOAD_LIMIT;
 pub use framing_packets::Written;
@@ -12,31 +13,22 @@ ghost use mathlib.Core.List.{[], _∷_, _++_};
 ghost use lib.ListN.{length};
 ghost use Rattle.base_choices.specs.Choices.{pick};
 ghost use Rattle.framing_content.specs.Numbers.{messageLimit};
-ghost use Rattle.framing_packets.specs.Written.{escape, escapes, frame, bodyLimit, requestBody, responseBody, flags, packet, payloadLimit, inPackets, outcome, into, frameInto, messageInto};
-ghost use Rattle.framing_packets.specs.Stores.{wrote, room};
+ghost use Rattle.framing_packets.specs.Written.{escape, escapes, frame, bodyLimit, requestBody, responseBody, flags, packet, payloadLimit};
+ghost use Rattle.framing_packets.specs.Written.{inPackets, outcome, into, frameInto, messageInto};
+ghost use Rattle.base_output.specs.Output.{wrote};
+ghost use Rattle.framing_writer.specs.Steps.{room};
 
-// A byte, stored only where the output has a place for it. So over an output of no bytes the functions below count.
-fn emit(out: &mut [u8], at: usize, b: u8) -> usize
-    requires { ⌜ at < room ⌝ }
-    ensures { λ r. ⌜ wrote (now (out .entry)) at (b ∷ []) ≡ record { next = r; output = now (out .exit) } ⌝ }
-    ensures { λ r. ⌜ r ≤ at + 1 ⌝ }
-{
-    if at < out.len() {
-        out[at] = b;
-    }
-    at + 1
-}
-
+// Over an output of no bytes these functions count (`put`).
 fn emit_escaped(out: &mut [u8], at: usize, b: u8) -> usize
     requires { ⌜ at + 2 ≤ room ⌝ }
     ensures { λ r. ⌜ wrote (now (out .entry)) at (escape b) ≡ record { next = r; output = now (out .exit) } ⌝ }
     ensures { λ r. ⌜ r ≤ at + 2 ⌝ }
 {
     if 0xf8 <= b {
-        let next = emit(out, at, CE);
-        emit(out, next, b ^ 0x20)
+        let next = put(out, at, CE);
+        put(out, next, b ^ 0x20)
     } else {
-        emit(out, at, b)
+        put(out, at, b)
     }
 }
 
@@ -73,12 +65,12 @@ fn emit_frame(out: &mut [u8], at: usize, head: &[u8], rest: &[u8]) -> usize
     ensures { λ r. ⌜ r ≤ at + 2050 ⌝ }
 {
     let crc = 0xffff - framing_checksum::crc_from(framing_checksum::crc_from(0xffff, head), rest);
-    let opened = emit(out, at, BOF);
+    let opened = put(out, at, BOF);
     let headed = emit_slice(out, opened, head);
     let filled = emit_slice(out, headed, rest);
     let first = emit_escaped(out, filled, low(crc));
     let second = emit_escaped(out, first, high(crc));
-    emit(out, second, EOF)
+    put(out, second, EOF)
 }
 
 fn bit(on: bool, value: u8) -> u8

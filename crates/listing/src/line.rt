@@ -29,20 +29,6 @@ fn is_short(line: Line) -> bool {
     line.high < 16 || !line.begun
 }
 
-// The value of a hexadecimal digit of either case, or 16.
-fn digit(b: u8) -> u8 {
-    if b'0' <= b && b <= b'9' {
-        return b - b'0';
-    }
-    if b'A' <= b && b <= b'F' {
-        return b - b'A' + 10;
-    }
-    if b'a' <= b && b <= b'f' {
-        return b - b'a' + 10;
-    }
-    16
-}
-
 // A stop before a new line.
 fn stop(end: usize, next: usize, bad: bool) -> Scanned
     ensures { λ r. ⌜ (r .end ≡ end) × (r .next ≡ next) ⌝ }
@@ -71,7 +57,7 @@ pub(crate) fn scan(block: &mut [u8], from: usize, line: Line) -> Scanned
         if b == b'\n' {
             return stop(end, i, is_short(Line { high, begun }));
         }
-        let d = digit(b);
+        let d = base_hex::digit(b);
         if 15 < d {
             return stop(end, i, true);
         }

@@ -31,16 +31,6 @@ pub fn out() {
     say(b"46\n");
 }
 
-fn digit(n: u8) -> u8 {
-    if n < 10 {
-        return b'0' + n;
-    }
-    if n < 16 {
-        return b'A' + (n - 10);
-    }
-    b'?'
-}
-
 // Writes the first n bytes of a space.
 fn flush(space: &[u8], n: usize) {
     if n <= space.len() {
@@ -70,8 +60,8 @@ fn pair(b: u8, space: &mut [u8], n: usize) -> usize {
     if space.len() - at < 2 {
         return 0;
     }
-    space[at] = digit(b / 16);
-    space[at + 1] = digit(b % 16);
+    space[at] = base_hex::high(b);
+    space[at + 1] = base_hex::low(b);
     at + 2
 }
 

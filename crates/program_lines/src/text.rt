@@ -34,24 +34,10 @@ pub fn starts(line: &[u8], text: &[u8]) -> bool
     true
 }
 
-// A hexadecimal digit, or 16.
-fn nibble(b: u8) -> u8 {
-    if b'0' <= b && b <= b'9' {
-        return b - b'0';
-    }
-    if b'A' <= b && b <= b'F' {
-        return b - b'A' + 10;
-    }
-    if b'a' <= b && b <= b'f' {
-        return b - b'a' + 10;
-    }
-    16
-}
-
 // The octet of two hexadecimal digits, or 256.
 fn octet(a: u8, b: u8) -> u64 {
-    let x = nibble(a);
-    let y = nibble(b);
+    let x = base_hex::digit(a);
+    let y = base_hex::digit(b);
     if x < 16 {
         if y < 16 {
             return wide(x) * 16 + wide(y);

@@ -9,12 +9,13 @@ use borrow.Author.Tests.{ne-eqb}
 use lib.Bits.{bitXor, xor-block, xor-zero-r}
 use lib.ListN.{length, take, drop}
 use lib.Dec.{eqb}
+use Rattle.base_hex.specs.Digits.{hexText}
 use Rattle.ber_integers.proofs.Radix.{lt-or-le}
 use Rattle.framing_checksum.specs.Checksum.{checksum, octetsOf}
 use Rattle.framing_packets.specs.Written.{escape, escapes, sealed, frame, flags, header, packetBody, packet, packets, payloadLimit, earlier, inPackets}
 use Rattle.framing_packets.specs.Read.{Bytes}
 use Rattle.framing_packets.proofs.Laws.{escape-plain, escape-high}
-use Rattle.sheet_rules.specs.Sheet.{hexText, broken, breaks, lineOf, packetLines, messageLines}
+use Rattle.sheet_rules.specs.Sheet.{broken, breaks, lineOf, packetLines, messageLines}
 use Rattle.sheet_rules.proofs.Stream.{bytes-append, bytes-take, bytes-drop, checksum-small, flags-small}
 
 -- bytes below EOF

@@ -6,13 +6,14 @@ use mathlib.Core.Bool.{Bool, true, false}
 use mathlib.Core.Logic.{⊎-elim}
 use native.Mathlib.Numerals.{add-one}
 use native.Mathlib.Omega.{arith}
-use borrow.Author.Tests.{lt-ltb, le-ltb, eq-eqb, ne-eqb}
+use borrow.Author.Tests.{eq-eqb, ne-eqb}
 use lib.ListN.{length, take, drop, getD, drop-of-length-le}
 use lib.Seq.{drop-cons}
-use lib.Dec.{ltb, eqb}
+use lib.Dec.{eqb}
 use Rattle.base_choices.specs.Choices.{pick}
-use Rattle.sheet_rules.specs.Sheet.{glyphOf, broken, breaks}
-use Rattle.sheet_rules.specs.Lines.{digitOf, Stream, bad, stream, push, Come, fresh, pairs, half, linesFrom, linesIn, isBad}
+use Rattle.base_hex.specs.Digits.{digitOf, glyphOf}
+use Rattle.sheet_rules.specs.Sheet.{broken, breaks}
+use Rattle.sheet_rules.specs.Lines.{Stream, bad, stream, push, Come, fresh, pairs, half, linesFrom, linesIn, isBad}
 use Rattle.sheet_rules.specs.Steps.{stepLine, badFrom, comes}
 
 -- ---- a byte's digits
@@ -34,52 +35,6 @@ module _ (s : List ℕ) (i : ℕ) where
   pub breaks-end : length s ≤ i → breaks (drop i s) ≡ []
   unfolding breaks
   breaks-end h = rw (drop-of-length-le s h)
-
--- ---- digits
-
-module _ (b : ℕ) where
-  pub digit-a : b < 48 → digitOf b ≡ 16
-  unfolding digitOf
-  digit-a h = simp (lt-ltb _ _ h)
-
-  pub digit-b : 48 ≤ b → b < 58 → digitOf b ≡ b - 48
-  unfolding digitOf
-  digit-b h k = simp (le-ltb _ _ h, lt-ltb _ _ k)
-
-  pub digit-c : 58 ≤ b → b < 65 → digitOf b ≡ 16
-  unfolding digitOf
-  digit-c h k = let g : 48 ≤ b = omega arith in simp (le-ltb _ _ g, le-ltb _ _ h, lt-ltb _ _ k)
-
-  pub digit-d : 65 ≤ b → b < 71 → digitOf b ≡ b - 55
-  unfolding digitOf
-  digit-d h k = let g : 48 ≤ b = omega arith in let f : 58 ≤ b = omega arith in simp (le-ltb _ _ g, le-ltb _ _ f, le-ltb _ _ h, lt-ltb _ _ k)
-
-  pub digit-e : 71 ≤ b → b < 97 → digitOf b ≡ 16
-  unfolding digitOf
-  digit-e h k =
-      let g : 48 ≤ b = omega arith in
-      let f : 58 ≤ b = omega arith in
-      let e : 65 ≤ b = omega arith in
-      rw (le-ltb _ _ g, le-ltb _ _ f, le-ltb _ _ e, le-ltb _ _ h, lt-ltb _ _ k) refl
-
-  pub digit-f : 97 ≤ b → b < 103 → digitOf b ≡ b - 87
-  unfolding digitOf
-  digit-f h k =
-      let g : 48 ≤ b = omega arith in
-      let f : 58 ≤ b = omega arith in
-      let e : 65 ≤ b = omega arith in
-      let d : 71 ≤ b = omega arith in
-      rw (le-ltb _ _ g, le-ltb _ _ f, le-ltb _ _ e, le-ltb _ _ d, le-ltb _ _ h, lt-ltb _ _ k) refl
-
-  pub digit-g : 103 ≤ b → digitOf b ≡ 16
-  unfolding digitOf
-  digit-g h =
-      let g : 48 ≤ b = omega arith in
-      let f : 58 ≤ b = omega arith in
-      let e : 65 ≤ b = omega arith in
-      let d : 71 ≤ b = omega arith in
-      let c : 97 ≤ b = omega arith in
-      rw (le-ltb _ _ g, le-ltb _ _ f, le-ltb _ _ e, le-ltb _ _ d, le-ltb _ _ c, le-ltb _ _ h) refl
 
 -- ---- lines
 

@@ -79,7 +79,7 @@ path-size (n ∷ ns) r = go (leb n 2147483647) refl r (path-size ns)
     go false e k q = let z : false ≡ true = k in let y : _≡_ {A = ℕ} 0 1 = cc in absurd (omega arith)
 
 -- sources under 128: one octet each
-sources-size : (s : ℕ) (cs : Cells) → s + length cs ≤ 128 → length (oidOctets (sourcesFrom s cs)) ≤ length cs
+pub sources-size : (s : ℕ) (cs : Cells) → s + length cs ≤ 128 → length (oidOctets (sourcesFrom s cs)) ≤ length cs
 unfolding oidOctets sourcesFrom
 sources-size s [] h = omega arith
 sources-size s (c ∷ cs) h = go (eqb c 0) (sources-size (suc s) cs (omega arith))
@@ -89,7 +89,7 @@ sources-size s (c ∷ cs) h = go (eqb c 0) (sources-size (suc s) cs (omega arith
     go true r = omega arith
     go false r = omega (arith, length-append (septets s) (oidOctets (sourcesFrom (suc s) cs)), septets-one s (omega arith), r)
 
-row-size : (d : Desk) (t : ℕ) → d .figures .sources ≤ side → length (oidOctets (sourcesAt d t)) ≤ side
+pub row-size : (d : Desk) (t : ℕ) → d .figures .sources ≤ side → length (oidOctets (sourcesAt d t)) ≤ side
 unfolding rowAt
 row-size d t h =
     let w = d .figures .sources in

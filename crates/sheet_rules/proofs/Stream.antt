@@ -5,11 +5,13 @@ use mathlib.Core.List.{List, [], _∷_, _++_, append-assoc, append-nil}
 use mathlib.Core.Bool.{Bool, true, false}
 use mathlib.Core.Logic.{⊎-elim}
 use native.Mathlib.Omega.{arith}
-use borrow.Author.Tests.{lt-ltb, le-ltb, ne-eqb}
+use borrow.Author.Tests.{ne-eqb}
 use lib.ListN.{length, take, drop}
 use lib.Bits.{bitXor, xor-block, xor-zero-r}
 use lib.Dec.{eqb}
 use Rattle.base_choices.specs.Choices.{pick}
+use Rattle.base_hex.specs.Digits.{digitOf, glyphOf, hexText}
+use Rattle.base_hex.proofs.Laws.{glyph-read}
 use Rattle.ber_integers.proofs.Radix.{lt-or-le}
 use Rattle.framing_content.specs.Numbers as framing
 use Rattle.framing_content.specs.Numbers.{messageLimit}
@@ -22,31 +24,12 @@ use Rattle.framing_packets.proofs.Laws.{escape-plain, escape-high}
 use Rattle.framing_packets.specs.Read.{Bytes, packetEvents, messageEvents}
 use Rattle.framing_packets.proofs.Reading.{opens-outside}
 use Rattle.framing_packets.proofs.Back.{message-back}
-use Rattle.sheet_rules.specs.Sheet.{glyphOf, hexText, lineOf, packetLines, messageLines}
-use Rattle.sheet_rules.specs.Lines.{digitOf, Stream, bad, stream, push, fresh, pairs, half, linesFrom, linesIn}
+use Rattle.sheet_rules.specs.Sheet.{lineOf, packetLines, messageLines}
+use Rattle.sheet_rules.specs.Lines.{Stream, bad, stream, push, fresh, pairs, half, linesFrom, linesIn}
 use Rattle.sheet_rules.specs.KeepAlives.{Digits, nothing, pair, Lines, over, line, last, packetFrames}
 use Rattle.sheet_rules.specs.Reading.{finished, somethingOpen, firstFault, ofMessage, ofEvents, heldIn, ofHeld}
 
--- ---- digits
-
--- a digit's glyph is read as the digit
-glyph-read : (d : ℕ) → d < 16 → digitOf (glyphOf d) ≡ d
-unfolding digitOf
-glyph-read d h =
-    ⊎-elim
-    (λ (k : d < 10).
-    let e : glyphOf d ≡ 48 + d = simp (lt-ltb _ _ k) in
-    let a : 48 ≤ 48 + d = omega arith in
-    let b : 48 + d < 58 = omega arith in
-    rw (e, le-ltb _ _ a, lt-ltb _ _ b) (omega arith))
-    (λ (k : 10 ≤ d).
-    let e : glyphOf d ≡ 55 + d = simp (le-ltb _ _ k) in
-    let a : 48 ≤ 55 + d = omega arith in
-    let b : 58 ≤ 55 + d = omega arith in
-    let c : 65 ≤ 55 + d = omega arith in
-    let f : 55 + d < 71 = omega arith in
-    rw (e, le-ltb _ _ a, le-ltb _ _ b, le-ltb _ _ c, lt-ltb _ _ f) (omega arith))
-    (lt-or-le d 10)
+-- ---- lines as bytes
 
 abbrev pushes : List ℕ → Stream → Stream
 pushes [] x = x

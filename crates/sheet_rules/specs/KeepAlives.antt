@@ -5,11 +5,11 @@ use mathlib.Core.Bool.{Bool, true, false}
 use mathlib.Core.List.{List, [], _∷_, _++_}
 use mathlib.Core.Path.{_≡_}
 use lib.ListN.{length, take, drop}
+use Rattle.base_hex.specs.Digits.{digitOf}
 use Rattle.framing_packets.specs.Read.{Bytes}
 use Rattle.framing_packets.specs.Written.{bodyLimit, frame, requestBody, responseBody, packet, payloadLimit, earlier}
 use Rattle.desk_crosspoints.specs.Desk.{Desk}
 use Rattle.sheet_rules.specs.Sheet.{sheetMessage}
-use Rattle.sheet_rules.specs.Lines.{digitOf}
 
 -- "pairs of hexadecimal digits of either case": the bytes, and a text of them
 pub data Digits : List ℕ → List ℕ → Type 0 where

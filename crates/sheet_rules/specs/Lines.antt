@@ -1,21 +1,11 @@
 -- Lines of hexadecimal digits (document 01, "Desk"): "A line ends at 0A or the input's end and is bad unless it is one or more pairs of hexadecimal digits
 -- of either case."
-use Prim.Native.Nat.{ℕ, _+_, _-_, _*_}
+use Prim.Native.Nat.{ℕ, _+_, _*_}
 use mathlib.Core.Bool.{Bool, true, false}
 use mathlib.Core.List.{List, [], _∷_}
-use lib.Dec.{ltb, eqb}
+use lib.Dec.{eqb}
 use Rattle.base_choices.specs.Choices.{pick}
-
--- "of either case": the value of a digit, 16 for any other byte
-unfoldable pub digitOf : ℕ → ℕ
-digitOf b =
-    pick (ltb b 48) 16
-    (pick (ltb b 58) (b - 48)
-    (pick (ltb b 65) 16
-    (pick (ltb b 71) (b - 55)
-    (pick (ltb b 97) 16
-    (pick (ltb b 103) (b - 87)
-    16)))))
+use Rattle.base_hex.specs.Digits.{digitOf}
 
 -- All lines, as one stream of bytes; or a bad one among them.
 pub data Stream : Type 0 where

@@ -4,9 +4,11 @@ use Prim.Native.Nat.{ℕ, zero, suc, _+_, _/_, _%_}
 use mathlib.Core.List.{List, [], _∷_, _++_}
 use mathlib.Core.Bool.{Bool, true, false}
 use lib.ListN.{length, take, drop}
-use lib.Dec.{ltb, eqb}
+use lib.Dec.{eqb}
 use Rattle.base_choices.specs.Choices.{pick}
+use Rattle.base_hex.specs.Digits.{glyphOf, hexText}
 use Rattle.ber_identifiers.specs.Identifier.{oidOctets}
+use Rattle.glow_rows.specs.Cell.{integer, numbers}
 use Rattle.glow_grammar.specs.Grammar.{qualifiedMatrix, connection}
 use Rattle.glow_trees.specs.Content.{Content, nothing, word, bytes}
 use Rattle.glow_trees.specs.Trees.{Trees, none, tree}
@@ -15,26 +17,20 @@ use Rattle.framing_packets.specs.Written.{packet, payloadLimit, earlier, Outcom
 use Rattle.desk_crosspoints.specs.declared.Limit.{Limit}
 use Rattle.desk_crosspoints.specs.declared.Limit.the-variants.{Absent, Most}
 use Rattle.desk_crosspoints.specs.declared.Figures.{Figures}
-use Rattle.desk_crosspoints.specs.Crosspoints.{Cells, rowAt}
 use Rattle.desk_crosspoints.specs.Desk.{Desk}
+use Rattle.desk_rows.specs.Sources.{sourcesIn}
+unfoldable pub use Rattle.desk_rows.specs.Sources.{sourcesFrom}
 
--- "its sources ascending": the places of the cells that are set, from s on
-unfoldable pub sourcesFrom : ℕ → Cells → List ℕ
-sourcesFrom s [] = []
-sourcesFrom s (c ∷ cs) =
-    let later : List ℕ = sourcesFrom (suc s) cs in
-    pick (eqb c 0) later (s ∷ later)
-
--- those of a target
+-- the sources of a target
 abbrev pub sourcesAt : Desk → ℕ → List ℕ
-sourcesAt d t = sourcesFrom 0 (rowAt (d .figures .sources) (d .crosspoints) t)
+sourcesAt d t = sourcesIn (d .figures .sources) (d .crosspoints) t
 
 -- members: integers, relative identifiers, and those left out
 abbrev pub number : ℕ → Content
-number n = word 2 n
+number n = word integer n
 
 abbrev pub identifier : List ℕ → Content
-identifier ns = bytes 13 (oidOctets ns)
+identifier ns = bytes numbers (oidOctets ns)
 
 -- "empty lists left out"
 abbrev pub list : List ℕ → Content
@@ -72,14 +68,7 @@ sheetTree d = tree qualifiedMatrix (matrixMembers (d .figures) (d .path)) none (
 unfoldable pub sheetMessage : Desk → List ℕ
 sheetMessage d = messageOctets writtenReal 0 (sheetTree d)
 
--- "upper-case hexadecimal": a digit, a byte, and a frame and 0A
-abbrev pub glyphOf : ℕ → ℕ
-glyphOf d = pick (ltb d 10) (48 + d) (55 + d)
-
-unfoldable pub hexText : List ℕ → List ℕ
-hexText [] = []
-hexText (b ∷ bs) = glyphOf (b / 16) ∷ glyphOf (b % 16) ∷ hexText bs
-
+-- "upper-case hexadecimal": a frame and 0A
 abbrev pub lineOf : List ℕ → List ℕ
 lineOf frame = hexText frame ++ (10 ∷ [])
 

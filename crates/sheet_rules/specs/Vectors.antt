@@ -8,8 +8,10 @@ use Rattle.ber_integers.specs.Integer.{shortest, sizeBy}
 use Rattle.ber_integers.specs.Integer as int
 use Rattle.ber_tags.specs.Write.{septets, tagOctets, lengthOctets}
 use Rattle.ber_identifiers.specs.Identifier.{oidOctets, arcIs, arcFrom, arcAt, arcsFrom}
+use Rattle.glow_rows.specs.Cell.{numbers}
+use Rattle.glow_rows.specs.Kind as kinds
 use Rattle.glow_grammar.specs.Grammar.{applications, contentsOf, contentsRows}
-use Rattle.glow_trees.specs.Content.{Item, item, nothing, word, bytes, intOf}
+use Rattle.glow_trees.specs.Content.{Content, Item, item, nothing, bytes, intOf}
 use Rattle.glow_trees.specs.Trees.{flat, count}
 use Rattle.glow_trees.specs.Legal.{inner}
 use Rattle.glow_trees.specs.Written.{messageOctets, tagged, spelled, memberOctets, membersOctets, wrapped, own, treesOctets, rootNumber}
@@ -29,8 +31,9 @@ use Rattle.desk_requests.specs.Request.{firstOf, checks, judged, asked, request
 use Rattle.glow_paths.specs.Paths.{numbersIn, isQualified, pathUp, same}
 use Rattle.desk_connections.specs.Connections.{askOf, asksIn}
 use Rattle.desk_calls.specs.Calls.{answered, served, handled}
-use Rattle.sheet_rules.specs.Sheet.{sourcesFrom, leftOut, links, sheetTree, sheetMessage, hexText, packetLines}
-use Rattle.sheet_rules.specs.Lines.{digitOf, bad, stream, linesFrom, linesIn}
+use Rattle.sheet_rules.specs.Sheet.{sourcesFrom, number, leftOut, links, sheetTree, sheetMessage, packetLines}
+use Rattle.base_hex.specs.Digits.{digitOf, hexText}
+use Rattle.sheet_rules.specs.Lines.{bad, stream, linesFrom, linesIn}
 use Rattle.sheet_rules.specs.Reading.{refused, read, firstRefused, applied, begun, opens, allLinks, ofEntries, finished, somethingOpen}
 use Rattle.sheet_rules.specs.Reading.{refusal, firstFault, ofEvents, readSheet}
 
@@ -125,11 +128,14 @@ unfolding firstFault finished somethingOpen ofEvents readSheet linesFrom digitOf
 v-read-events = (refl, refl, refl, refl, refl, refl, refl, refl, refl, refl)
 
 -- the entries of a sheet, and what else may stand there
+abbrev matrixWith : List ℕ → List Content → Item
+matrixWith path members = item kinds.qualifiedMatrix 0 (bytes numbers path ∷ nothing ∷ nothing ∷ members)
+
 abbrev matrix : List ℕ → Item
-matrix path = item 7 0 (bytes 13 path ∷ nothing ∷ nothing ∷ word 2 2 ∷ nothing ∷ word 2 2 ∷ word 2 3 ∷ nothing ∷ word 2 2 ∷ [])
+matrix path = matrixWith path (number 2 ∷ nothing ∷ number 2 ∷ number 3 ∷ nothing ∷ number 2 ∷ [])
 
 abbrev link : ℕ → List ℕ → Item
-link target sources = item 8 1 (word 2 target ∷ bytes 13 sources ∷ [])
+link target sources = item kinds.connection 1 (number target ∷ bytes numbers sources ∷ [])
 
 pub v-read-entries :
     (ofEntries (flat 0 0 (sheetTree larger)) ≡ read larger) ×
@@ -141,17 +147,17 @@ pub v-read-entries :
     (ofEntries (matrix (1 ∷ []) ∷ link 0 (0 ∷ 1 ∷ 2 ∷ []) ∷ []) ≡ refused 43) ×
     -- 33: no entry, another element first, another after it, two matrices
     (ofEntries [] ≡ refused 33) ×
-    (ofEntries (item 4 0 (word 2 1 ∷ []) ∷ []) ≡ refused 33) ×
-    (ofEntries (matrix (1 ∷ []) ∷ item 2 1 (word 2 32 ∷ []) ∷ []) ≡ refused 33) ×
+    (ofEntries (item kinds.matrix 0 (number 1 ∷ []) ∷ []) ≡ refused 33) ×
+    (ofEntries (matrix (1 ∷ []) ∷ item kinds.command 1 (number 32 ∷ []) ∷ []) ≡ refused 33) ×
     (ofEntries (matrix (1 ∷ []) ∷ link 9 [] ∷ matrix (2 ∷ []) ∷ []) ≡ refused 33) ×
     -- 45 before any connection: a missing count, the mode, a limit of 0, a path
-    (ofEntries (item 7 0 (bytes 13 (1 ∷ []) ∷ nothing ∷ nothing ∷ nothing ∷ nothing ∷ nothing ∷ word 2 1 ∷ []) ∷ link 9 [] ∷ []) ≡ refused 45) ×
-    (ofEntries (item 7 0 (bytes 13 (1 ∷ []) ∷ nothing ∷ nothing ∷ nothing ∷ nothing ∷ word 2 1 ∷ []) ∷ []) ≡ refused 45) ×
-    (ofEntries (item 7 0 (bytes 13 (1 ∷ []) ∷ nothing ∷ nothing ∷ nothing ∷ word 2 1 ∷ word 2 1 ∷ word 2 1 ∷ []) ∷ []) ≡ refused 45) ×
-    (ofEntries (item 7 0 (bytes 13 (1 ∷ []) ∷ nothing ∷ nothing ∷ nothing ∷ nothing ∷ word 2 1 ∷ word 2 1 ∷ word 2 0 ∷ []) ∷ []) ≡ refused 45) ×
+    (ofEntries (matrixWith (1 ∷ []) (nothing ∷ nothing ∷ nothing ∷ number 1 ∷ []) ∷ link 9 [] ∷ []) ≡ refused 45) ×
+    (ofEntries (matrixWith (1 ∷ []) (nothing ∷ nothing ∷ number 1 ∷ []) ∷ []) ≡ refused 45) ×
+    (ofEntries (matrixWith (1 ∷ []) (nothing ∷ number 1 ∷ number 1 ∷ number 1 ∷ []) ∷ []) ≡ refused 45) ×
+    (ofEntries (matrixWith (1 ∷ []) (nothing ∷ nothing ∷ number 1 ∷ number 1 ∷ number 0 ∷ []) ∷ []) ≡ refused 45) ×
     (ofEntries (matrix [] ∷ link 9 [] ∷ []) ≡ refused 45) ×
     -- no type is 1:N; mode 0 may stand there
-    (ofEntries (item 7 0 (bytes 13 (1 ∷ []) ∷ nothing ∷ nothing ∷ nothing ∷ word 2 0 ∷ word 2 1 ∷ word 2 1 ∷ []) ∷ link 0 (0 ∷ []) ∷ [])
+    (ofEntries (matrixWith (1 ∷ []) (nothing ∷ number 0 ∷ number 1 ∷ number 1 ∷ []) ∷ link 0 (0 ∷ []) ∷ [])
     ≡ read (deskAt (figures 0 1 1 Absent Absent) (1 ∷ []) (1 ∷ [])))
 unfolding sheetTree links leftOut sourcesFrom oidOctets septets digits countBy flat count
     firstRefused applied begun opens allLinks ofEntries

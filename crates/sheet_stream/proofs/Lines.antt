@@ -5,12 +5,13 @@ use mathlib.Core.List.{List, [], _∷_}
 use mathlib.Core.Bool.{Bool, true, false, true≢false}
 use native.Mathlib.Numerals.{add-one}
 use native.Mathlib.Omega.{arith}
-use borrow.Author.Tests.{eqb-true, ltb-true, eq-eqb, ne-eqb}
+use borrow.Author.Tests.{eqb-true, eq-eqb, ne-eqb}
 use lib.ListN.{length, drop, getD, drop-of-length-le}
 use lib.Seq.{drop-cons}
-use lib.Dec.{ltb, eqb}
+use lib.Dec.{eqb}
 use Rattle.base_choices.specs.Choices.{pick}
-use Rattle.sheet_rules.specs.Lines.{digitOf, Stream, bad, stream, push, Come, fresh, pairs, half, linesFrom, linesIn}
+use Rattle.base_hex.specs.Digits.{digitOf}
+use Rattle.sheet_rules.specs.Lines.{Stream, bad, stream, push, Come, fresh, pairs, half, linesFrom, linesIn}
 use Rattle.sheet_rules.specs.Lines.{isBad}
 use Rattle.sheet_stream.specs.Steps.{bytesFrom}
 
@@ -72,22 +73,6 @@ lines-bytes text h = lines-from fresh text tt h
 pub lines-bad : (x : Stream) → isBad x ≡ true → x ≡ bad
 lines-bad bad h = refl
 lines-bad (stream bs) h = absurd (true≢false (sym h))
-
--- a digit, or 16
-pub digit-small : (b : ℕ) → digitOf b ≤ 16
-unfolding digitOf
-digit-small b =
-    small (ltb b 48) (λ q. omega arith)
-    (λ q. small (ltb b 58) (λ r. omega (arith, ltb-true b 58 r))
-    (λ r. small (ltb b 65) (λ q. omega arith)
-    (λ q. small (ltb b 71) (λ r. omega (arith, ltb-true b 71 r))
-    (λ r. small (ltb b 97) (λ q. omega arith)
-    (λ q. small (ltb b 103) (λ r. omega (arith, ltb-true b 103 r))
-    (λ r. omega arith))))))
-  where
-    small : {x y : ℕ} (u : Bool) → (u ≡ true → x ≤ 16) → (u ≡ false → y ≤ 16) → pick u x y ≤ 16
-    small true f g = f refl
-    small false f g = g refl
 
 -- a turn of the loop
 module _ (s : List ℕ) (i f d : ℕ) (h : i < length s) (e : digitOf (getD s i 0) ≡ d) where

@@ -14,7 +14,7 @@ use Rattle.framing_session.specs.declared.Session.{Session}
 use Rattle.framing_content.specs.Numbers.{messageLimit}
 use Rattle.framing_session.specs.Rules.{State, Step, step}
 use Rattle.framing_session.specs.Session.{stateOf, legal}
-use Rattle.sheet_rules.specs.Lines.{digitOf}
+use Rattle.base_hex.specs.Digits.{digitOf}
 use Rattle.sheet_rules.specs.Reading.{Held, refusal, message, somethingOpen}
 use Rattle.sheet_stream.specs.declared.Tally.{Tally}
 use Rattle.sheet_stream.specs.Finding.{storeFrom}

@@ -5,7 +5,8 @@ use mathlib.Core.List.{List, [], _∷_, _++_}
 use Rattle.framing_checksum.specs.Checksum.{table, crcStep, crcFrom, checksum}
 use Rattle.framing_content.specs.Content.{contentOf, bodyOf, commandOf, packetOf}
 use Rattle.framing_session.specs.Rules.{step, inPlace, adds, cuts, ends, pieces, faulted, happens, after}
-use Rattle.sheet_rules.specs.Lines.{digitOf, linesFrom, linesIn}
+use Rattle.base_hex.specs.Digits.{digitOf}
+use Rattle.sheet_rules.specs.Lines.{linesFrom, linesIn}
 use Rattle.sheet_rules.specs.Reading.{Held, refusal, message, finished, somethingOpen, firstFault, ofEvents, heldIn}
 use Rattle.framing_session.specs.Session.{kept}
 use Rattle.sheet_stream.specs.Finding.{setup, storeFrom, storeAfter, finds}

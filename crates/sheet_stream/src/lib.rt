@@ -120,7 +120,7 @@ fn take_text(text: &[u8], store: &mut [u8]) -> Tally
     let mut first = 16;
     let mut i = 0;
     while i < text.len() {
-        let d = sheet_rules::digit(text[i]);
+        let d = base_hex::digit(text[i]);
         i += 1;
         if d == 16 {
             continue;

@@ -1,5 +1,5 @@
 -- The rows that are filled hold the entries of the sheet's tree.
-use Prim.Native.Nat.{ℕ, zero, suc, _+_, _-_, _*_, _/_, _%_, _≤_, _<_}
+use Prim.Native.Nat.{ℕ, zero, suc, _+_, _*_, _≤_, _<_}
 use mathlib.Core.Path.{_≡_, refl, sym, ap, _∙_}
 use mathlib.Core.List.{List, [], _∷_, _++_, append-assoc, append-nil}
 use mathlib.Core.Bool.{Bool, true, false}
@@ -10,14 +10,13 @@ use lib.Seq.{sets, sets-eq, take-at, drop-at}
 use lib.Dec.{leb, eqb}
 use Rattle.base_choices.specs.Choices.{pick}
 use Rattle.base_choices.proofs.Laws.{both-right}
-use Rattle.ber_integers.specs.Digits.{digits, countBy, Put, put, outcome}
+use Rattle.ber_integers.specs.Digits.{Put, put, outcome}
 use Rattle.ber_integers.specs.declared.Wrote.{Wrote}
 use Rattle.ber_integers.specs.declared.Wrote.the-variants.{Next}
-use Rattle.ber_integers.specs.Digits as digit
-use Rattle.ber_integers.proofs.Radix.{count-least}
 use Rattle.ber_tags.specs.Write.{septets}
+use Rattle.ber_tags.proofs.Septets.{length-septets}
 use Rattle.ber_identifiers.specs.Identifier.{oidOctets, inRange, putOid}
-use Rattle.glow_rows.specs.Cell.{absent, numbersCell}
+use Rattle.glow_rows.specs.Cell.{absent, numbers, numbersCell}
 use Rattle.glow_rows.specs.Entry.{Entry, Entries, blanks, row, Rows, overlay}
 use Rattle.framing_session.proofs.Lists.{sets-append}
 use Rattle.glow_trees.specs.Content.{Content, bytes, contentOf, contentsOf, Item, item, itemsOf}
@@ -35,46 +34,15 @@ use Rattle.desk_crosspoints.specs.declared.Limit.{Limit}
 use Rattle.desk_crosspoints.specs.declared.Limit.the-variants.{Absent, Most}
 use Rattle.desk_crosspoints.specs.declared.Figures.{Figures}
 use Rattle.desk_crosspoints.specs.Figures.{side, isLimit}
-use Rattle.desk_crosspoints.specs.Crosspoints.{Cells, rowAt}
 use Rattle.desk_crosspoints.specs.Desk.{Desk, deskLegal}
 use Rattle.desk_crosspoints.proofs.Laws.{fit-kind-le}
 use Rattle.desk_crosspoints.proofs.Legal.{legal-length}
-use Rattle.desk_crosspoints.proofs.Under.{take-short, size-small}
-use Rattle.sheet_rules.specs.Sheet.{sourcesFrom, sourcesAt, number, list, limit, leftOut, linkMembers, matrixMembers, links, sheetTree, sheetMessage}
+use Rattle.sheet_rules.specs.Sheet.{sourcesAt, number, list, limit, leftOut, linkMembers, matrixMembers, links, sheetTree, sheetMessage}
 use Rattle.sheet_rules.proofs.Asked.{flat-sheet, path-ok, cells-ok, figures-ok, targets-few, sources-few as sources-most, path-small}
 use Rattle.sheet_rules.proofs.Suited.{path-short, total-fits, each-fits, sheet-legal, sheet-count}
-use Rattle.sheet_rules.proofs.Sizes.{sheet-size, path-size as path-octets}
+use Rattle.sheet_rules.proofs.Sizes.{sheet-size, row-size, path-size as path-octets}
 use Rattle.sheet_writer.specs.Steps.{mostRows, mostPath, mostOctets, numberCell, limitCell, listCell, matrixEntry, linkEntry}
 use Rattle.sheet_writer.specs.Steps.{Filled, filled, withLink, withLinks}
-
--- ---- the octets of identifiers
-
--- a number below 128 is its own octet, so sources are
-septets-small : (n : ℕ) → n < 128 → septets n ≡ n ∷ []
-unfolding septets digits countBy
-septets-small n h =
-    let a : n / 128 ≡ 0 = omega arith in
-    let b : n % 128 ≡ n = omega arith in
-    rw (a, b) refl
-
-sources-octets : (s : ℕ) (cs : Cells) → s + length cs ≤ 128 → oidOctets (sourcesFrom s cs) ≡ sourcesFrom s cs
-unfolding oidOctets sourcesFrom
-sources-octets s [] h = refl
-sources-octets s (c ∷ cs) h = go (eqb c 0) (sources-octets (suc s) cs (omega arith))
-  where
-    go : (u : Bool) → oidOctets (sourcesFrom (suc s) cs) ≡ sourcesFrom (suc s) cs
-        → oidOctets (pick u (sourcesFrom (suc s) cs) (s ∷ sourcesFrom (suc s) cs)) ≡ pick u (sourcesFrom (suc s) cs) (s ∷ sourcesFrom (suc s) cs)
-    go true r = r
-    go false r = let k : s < 128 = omega arith in rw (septets-small s k, r) refl
-
-sources-few : (s : ℕ) (cs : Cells) → length (sourcesFrom s cs) ≤ length cs
-unfolding sourcesFrom
-sources-few s [] = omega arith
-sources-few s (c ∷ cs) = go (eqb c 0) (sources-few (suc s) cs)
-  where
-    go : (u : Bool) → length (sourcesFrom (suc s) cs) ≤ length cs → length (pick u (sourcesFrom (suc s) cs) (s ∷ sourcesFrom (suc s) cs)) ≤ suc (length cs)
-    go true r = omega arith
-    go false r = omega arith
 
 -- ---- cells by content
 
@@ -95,57 +63,61 @@ module _ (front part back : List ℕ) (at : ℕ) (e : length front ≡ at) where
   abbrev whole : List ℕ
   whole = front ++ (part ++ back)
 
-  content-part : contentOf whole (numbersCell at (length part)) ≡ bytes 13 part
+  content-part : contentOf whole (numbersCell at (length part)) ≡ bytes numbers part
   unfolding contentOf
   content-part =
       let l = length-append front (part ++ back) in
       let m = length-append part back in
       let k : at + length part ≤ length whole = omega (arith, l, m, e) in
       simp (le-leb _ _ k)
-      (ap (λ (x : List ℕ). bytes 13 (take (length part) x)) (drop-at front (part ++ back) at e) ∙ ap (bytes 13) (take-at part back (length part) refl))
+      (ap (λ (x : List ℕ). bytes numbers (take (length part) x)) (drop-at front (part ++ back) at e)
+      ∙ ap (bytes numbers) (take-at part back (length part) refl))
 
-content-list : (front ns back : List ℕ) (at : ℕ) → length front ≡ at → oidOctets ns ≡ ns → contentOf (front ++ (ns ++ back)) (listCell at (length ns)) ≡ list ns
+some-octets : (n : ℕ) (ns : List ℕ) → 0 < length (oidOctets (n ∷ ns))
+unfolding oidOctets
+some-octets n ns = omega (arith, length-append (septets n) (oidOctets ns), length-septets n)
+
+content-none : (front back : List ℕ) (at : ℕ) → contentOf (front ++ (oidOctets [] ++ back)) (listCell at (length (oidOctets []))) ≡ list []
+unfolding listCell oidOctets
+content-none front back at = content-absent (front ++ back)
+
+content-list : (front ns back : List ℕ) (at : ℕ) → length front ≡ at
+    → contentOf (front ++ (oidOctets ns ++ back)) (listCell at (length (oidOctets ns))) ≡ list ns
 unfolding listCell
-content-list front [] back at e q = content-absent (front ++ back)
-content-list front (n ∷ ns) back at e q = rw (ne-eqb (suc (length ns)) 0 (λ z. omega arith)) (content-part front (n ∷ ns) back at e ∙ ap (bytes 13) (sym q))
+content-list front [] back at e = content-none front back at
+content-list front (n ∷ ns) back at e =
+    let os = oidOctets (n ∷ ns) in
+    rw (ne-eqb (length os) 0 (λ z. omega (arith, z, some-octets n ns))) (content-part front os back at e)
 
 -- ---- entries by content
 
+abbrev octetsAt : Desk → ℕ → List ℕ
+octetsAt d t = oidOctets (sourcesAt d t)
+
 abbrev linkEntries : Desk → ℕ → ℕ → ℕ → Entries
 linkEntries d at t zero = []
-linkEntries d at t (suc n) =
-    linkEntry t (listCell at (length (sourcesAt d t))) ∷ linkEntries d (at + length (sourcesAt d t)) (suc t) n
+linkEntries d at t (suc n) = linkEntry t (listCell at (length (octetsAt d t))) ∷ linkEntries d (at + length (octetsAt d t)) (suc t) n
 
-abbrev allSources : Desk → ℕ → ℕ → List ℕ
-allSources d t zero = []
-allSources d t (suc n) = sourcesAt d t ++ allSources d (suc t) n
+abbrev allOctets : Desk → ℕ → ℕ → List ℕ
+allOctets d t zero = []
+allOctets d t (suc n) = octetsAt d t ++ allOctets d (suc t) n
 
-link-content : (front ns back : List ℕ) (at t : ℕ) → length front ≡ at → oidOctets ns ≡ ns → t ≤ 2147483647
-    → contentsOf (front ++ (ns ++ back)) (linkEntry t (listCell at (length ns)) .cells) ≡ linkMembers t ns
+link-content : (front ns back : List ℕ) (at t : ℕ) → length front ≡ at → t ≤ 2147483647
+    → contentsOf (front ++ (oidOctets ns ++ back)) (linkEntry t (listCell at (length (oidOctets ns))) .cells) ≡ linkMembers t ns
 unfolding contentsOf blanks leftOut contentOf
-link-content front ns back at t e q h =
-    ap (λ (x : Content). x ∷ contentOf (front ++ (ns ++ back)) (listCell at (length ns)) ∷ leftOut 14) (content-number (front ++ (ns ++ back)) t h)
-    ∙ ap (λ (x : Content). number t ∷ x ∷ leftOut 14) (content-list front ns back at e q)
+link-content front ns back at t e h =
+    let s = front ++ (oidOctets ns ++ back) in
+    ap (λ (x : Content). x ∷ contentOf s (listCell at (length (oidOctets ns))) ∷ leftOut 14) (content-number s t h)
+    ∙ ap (λ (x : Content). number t ∷ x ∷ leftOut 14) (content-list front ns back at e)
 
-row-few : (d : Desk) (t : ℕ) → length (sourcesAt d t) ≤ d .figures .sources
-unfolding rowAt
-row-few d t =
-    let w = d .figures .sources in
-    omega (arith, sources-few 0 (rowAt w (d .crosspoints) t), take-short w (drop (t * w) (d .crosspoints)))
-
-row-octets : (d : Desk) (t : ℕ) → d .figures .sources ≤ side → oidOctets (sourcesAt d t) ≡ sourcesAt d t
-unfolding rowAt
-row-octets d t h =
-    let w = d .figures .sources in
-    sources-octets 0 (rowAt w (d .crosspoints) t) (omega (arith, take-short w (drop (t * w) (d .crosspoints)), h))
-
-links-content : (d : Desk) → d .figures .sources ≤ side → (n t : ℕ) → t + n ≤ side → (front back : List ℕ) (at i : ℕ) → length front ≡ at
-    → itemsOf (front ++ (allSources d t n ++ back)) (linkEntries d at t n) ≡ flat 1 i (links d t n)
+links-content : (d : Desk) (n t : ℕ) → t + n ≤ side → (front back : List ℕ) (at i : ℕ) → length front ≡ at
+    → itemsOf (front ++ (allOctets d t n ++ back)) (linkEntries d at t n) ≡ flat 1 i (links d t n)
 unfolding itemsOf flat links
-links-content d few zero t h front back at i e = refl
-links-content d few (suc n) t h front back at i e =
-    let ss = sourcesAt d t in
-    let later = allSources d (suc t) n in
+links-content d zero t h front back at i e = refl
+links-content d (suc n) t h front back at i e =
+    let ss = octetsAt d t in
+    let ms = linkMembers t (sourcesAt d t) in
+    let later = allOctets d (suc t) n in
     let rest = linkEntries d (at + length ss) (suc t) n in
     let j = suc i + (count none + count none) in
     let a : front ++ ((ss ++ later) ++ back) ≡ front ++ (ss ++ (later ++ back)) = ap (λ (x : List ℕ). front ++ x) (append-assoc ss later back) in
@@ -153,14 +125,14 @@ links-content d few (suc n) t h front back at i e =
     let l : length (front ++ ss) ≡ at + length ss = omega (arith, length-append front ss, e) in
     ap (λ (s : List ℕ). itemsOf s (linkEntry t (listCell at (length ss)) ∷ rest)) a
     ∙ ap (λ (x : List Content). item connection 1 x ∷ itemsOf (front ++ (ss ++ (later ++ back))) rest)
-    (link-content front ss (later ++ back) at t e (row-octets d t few) (omega arith))
-    ∙ ap (λ (s : List ℕ). item connection 1 (linkMembers t ss) ∷ itemsOf s rest) b
-    ∙ ap (λ (x : List Item). item connection 1 (linkMembers t ss) ∷ x)
-    (links-content d few n (suc t) (omega arith) (front ++ ss) back (at + length ss) j l)
+    (link-content front (sourcesAt d t) (later ++ back) at t e (omega arith))
+    ∙ ap (λ (s : List ℕ). item connection 1 ms ∷ itemsOf s rest) b
+    ∙ ap (λ (x : List Item). item connection 1 ms ∷ x) (links-content d n (suc t) (omega arith) (front ++ ss) back (at + length ss) j l)
 
-sources-size : (d : Desk) (n t : ℕ) → length (allSources d t n) ≤ n * d .figures .sources
-sources-size d zero t = omega arith
-sources-size d (suc n) t = omega (arith, length-append (sourcesAt d t) (allSources d (suc t) n), row-few d t, sources-size d n (suc t))
+octets-size : (d : Desk) → d .figures .sources ≤ side → (n t : ℕ) → length (allOctets d t n) ≤ n * side
+octets-size d few zero t = omega arith
+octets-size d few (suc n) t =
+    omega (arith, length-append (octetsAt d t) (allOctets d (suc t) n), row-size d t few, octets-size d few n (suc t))
 
 -- ---- rows
 
@@ -175,14 +147,14 @@ overlay-more (x ∷ es) (r ∷ rows) e = ap (λ (t : Rows). row x ∷ t) (overla
 -- connections filled behind the entries that are there
 links-filled : (d : Desk) (n t : ℕ) (es : Entries) (rows : Rows) (o : List ℕ) (at : ℕ) → length es ≡ suc t
     → withLinks (d .figures .sources) (d .crosspoints) t n (filled (overlay es rows) o at)
-    ≡ filled (overlay (es ++ linkEntries d at t n) rows) (sets o at (allSources d t n)) (at + length (allSources d t n))
+    ≡ filled (overlay (es ++ linkEntries d at t n) rows) (sets o at (allOctets d t n)) (at + length (allOctets d t n))
 unfolding withLinks withLink
 links-filled d zero t es rows o at l =
     let z : at + 0 ≡ at = omega arith in
     ap (λ (x : Entries). filled (overlay x rows) o at) (sym (append-nil es)) ∙ ap (filled (overlay (es ++ []) rows) o) (sym z)
 links-filled d (suc n) t es rows o at l =
-    let ss = sourcesAt d t in
-    let later = allSources d (suc t) n in
+    let ss = octetsAt d t in
+    let later = allOctets d (suc t) n in
     let e = linkEntry t (listCell at (length ss)) in
     let rest = linkEntries d (at + length ss) (suc t) n in
     let m : length (es ++ (e ∷ [])) ≡ suc (suc t) = omega (arith, length-append es (e ∷ []), l) in
@@ -224,15 +196,15 @@ module _ (d : Desk) (ok : deskLegal d ≡ true) where
       let g = content-limit s (f .each) (each-fits f (figures-ok d ok)) in
       rw (content-part [] ps back 0 refl, a, b, c, e, g) refl
 
-  sheet-content : (back : List ℕ) → itemsOf (ps ++ (allSources d 0 (f .targets) ++ back)) entries ≡ flat 0 0 (sheetTree d)
+  sheet-content : (back : List ℕ) → itemsOf (ps ++ (allOctets d 0 (f .targets) ++ back)) entries ≡ flat 0 0 (sheetTree d)
   unfolding itemsOf
   sheet-content back =
       let t = targets-few d ok in
-      let s = ps ++ (allSources d 0 (f .targets) ++ back) in
+      let s = ps ++ (allOctets d 0 (f .targets) ++ back) in
       ap (λ (x : List Content). item qualifiedMatrix 0 x ∷ itemsOf s (linkEntries d (length ps) 0 (f .targets)))
-      (matrix-content (allSources d 0 (f .targets) ++ back))
+      (matrix-content (allOctets d 0 (f .targets) ++ back))
       ∙ ap (λ (x : List Item). item qualifiedMatrix 0 (matrixMembers f path) ∷ x)
-      (links-content d (sources-most d ok) (f .targets) 0 (omega arith) ps back (length ps) 1 refl)
+      (links-content d (f .targets) 0 (omega arith) ps back (length ps) 1 refl)
       ∙ sym (flat-sheet d ok)
 
   pub path-size : length ps ≤ mostPath
@@ -251,13 +223,13 @@ module _ (d : Desk) (ok : deskLegal d ≡ true) where
 
   -- .. and the sources' after them
   octets-put : (o : List ℕ) → mostOctets ≤ length o
-      → sets (ps ++ drop (length ps) o) (length ps) (allSources d 0 (f .targets))
-      ≡ ps ++ (allSources d 0 (f .targets) ++ drop (length ps + length (allSources d 0 (f .targets))) (ps ++ drop (length ps) o))
+      → sets (ps ++ drop (length ps) o) (length ps) (allOctets d 0 (f .targets))
+      ≡ ps ++ (allOctets d 0 (f .targets) ++ drop (length ps + length (allOctets d 0 (f .targets))) (ps ++ drop (length ps) o))
   octets-put o h =
-      let all = allSources d 0 (f .targets) in
+      let all = allOctets d 0 (f .targets) in
       let o1 = ps ++ drop (length ps) o in
-      let a = sources-size d (f .targets) 0 in
-      let m = size-small (f .targets) (f .sources) (targets-few d ok) (sources-most d ok) in
+      let a = octets-size d (sources-most d ok) (f .targets) 0 in
+      let m = targets-few d ok in
       let l = length-append ps (drop (length ps) o) in
       let n = length-drop (length ps) o in
       let k : length ps + length all ≤ length o1 = omega (arith, a, m, l, n, h, path-size) in
@@ -278,7 +250,7 @@ module _ (d : Desk) (ok : deskLegal d ≡ true) where
       → (x : Filled) → linked (f .targets) (filled (set rows 0 (row (matrixEntry f (length ps)))) (ps ++ drop (length ps) o) (length ps)) ≡ x
       → itemsIn (x .octets) (x .rows) (suc (f .targets)) ≡ flat 0 0 (sheetTree d)
   filled-items rows h o k x e =
-      let all = allSources d 0 (f .targets) in
+      let all = allOctets d 0 (f .targets) in
       let o1 = ps ++ drop (length ps) o in
       let back = drop (length ps + length all) o1 in
       let s = ps ++ (all ++ back) in

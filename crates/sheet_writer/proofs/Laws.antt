@@ -1,52 +1,27 @@
 -- Laws for the functions of this crate, at plain variables.
 use Prim.Native.Nat.{ℕ, suc, _+_, _-_, _*_, _≤_, _<_}
 use mathlib.Core.Path.{_≡_, refl, sym, ap, _∙_}
-use mathlib.Core.List.{List, [], _∷_, _++_}
-use mathlib.Core.Bool.{Bool, true, false}
+use mathlib.Core.List.{List, _++_, append-assoc}
 use native.Mathlib.Numerals.{add-one}
 use native.Mathlib.Omega.{arith}
-use borrow.Author.Tests.{eq-eqb, ne-eqb}
-use lib.ListN.{length, take, drop, getD, set, drop-of-length-le}
-use lib.Seq.{drop-cons}
-use lib.Dec.{eqb}
-use Rattle.base_choices.specs.Choices.{pick}
+use borrow.Author.Tests.{eq-eqb, ne-eqb, le-leb}
+use lib.ListN.{length, take, drop, set}
+use lib.Seq.{sets, sets-eq}
+use Rattle.ber_integers.specs.Digits.{Put, put, outcome}
+use Rattle.ber_integers.specs.declared.Wrote.{Wrote}
+use Rattle.ber_integers.specs.declared.Wrote.the-variants.{Next}
+use Rattle.ber_identifiers.specs.Identifier.{oidOctets, putOid}
 use Rattle.glow_rows.specs.declared.Cell.{Cell}
 use Rattle.glow_rows.specs.Cell.{absent, numbersCell}
 use Rattle.glow_rows.specs.Entry.{row, Rows}
-use Rattle.framing_packets.specs.Stores.{wrote}
-use Rattle.framing_packets.specs.Stores as stores
-use Rattle.framing_packets.proofs.Laws.{wrote-none}
+use Rattle.glow_member_sizes.specs.Sizes.{nextOf}
+use Rattle.desk_crosspoints.specs.Figures.{side}
 use Rattle.desk_crosspoints.specs.Crosspoints.{Cells, rowAt}
 use Rattle.desk_crosspoints.proofs.Under.{take-short}
-use Rattle.sheet_rules.specs.Sheet.{sourcesFrom}
-use Rattle.sheet_writer.specs.Steps.{oneSource, listCell, linkEntry, Filled, filled, sourcesIn, withLink, withLinks}
-
--- ---- sources
-
-module _ (o : List ℕ) (at s c : ℕ) where
-  pub source-none : c ≡ 0 → wrote o at (oneSource s c) ≡ record { next = at; output = o }
-  source-none e = rw (eq-eqb _ _ e) (wrote-none o at)
-
-  pub source-put : (c ≡ 0 → ⊥) → (b : ℕ) → b ≡ s → {x : stores.Wrote} → wrote o at (b ∷ []) ≡ x → wrote o at (oneSource s c) ≡ x
-  source-put e b q g = rw (ne-eqb _ _ e, ← q) g
-
-source-split : (u : Bool) (s : ℕ) (later : List ℕ) → pick u later (s ∷ later) ≡ pick u [] (s ∷ []) ++ later
-source-split true s later = refl
-source-split false s later = refl
-
-module _ (cells : Cells) (i : ℕ) where
-  pub sources-more : i < length cells → sourcesFrom i (drop i cells) ≡ oneSource i (getD cells i 0) ++ sourcesFrom (i + 1) (drop (i + 1) cells)
-  unfolding sourcesFrom
-  sources-more h = rw (drop-cons cells i 0 h, add-one i) (source-split (eqb (getD cells i 0) 0) i (sourcesFrom (suc i) (drop (suc i) cells)))
-
-  pub sources-end : length cells ≤ i → sourcesFrom i (drop i cells) ≡ []
-  unfolding sourcesFrom
-  sources-end h = rw (drop-of-length-le cells h)
-
--- where what was written ends
-pub wrote-end : (o : List ℕ) (at : ℕ) (xs : List ℕ) {next : ℕ} {o′ : List ℕ} → wrote o at xs ≡ record { next = next; output = o′ } → at ≤ next
-unfolding wrote
-wrote-end o at xs {next} e = let k : at + length xs ≡ next = ap (λ (x : stores.Wrote). x .next) e in omega (arith, k)
+use Rattle.desk_rows.specs.Sources.{sourcesFrom, putSources}
+use Rattle.sheet_rules.proofs.Asked.{sources-range}
+use Rattle.sheet_rules.proofs.Sizes.{sources-size}
+use Rattle.sheet_writer.specs.Steps.{listCell, linkEntry, Filled, filled, octetsIn, withLink, withLinks}
 
 -- ---- cells
 
@@ -70,25 +45,52 @@ module _ (w : ℕ) (cells : Cells) (t : ℕ) where
   unfolding rowAt
   part-is = let e : t * w + w - t * w ≡ w = omega arith in ap (λ (n : ℕ). take n (drop (t * w) cells)) e
 
-  pub part-short : length part ≤ w
+  part-short : length part ≤ w
   part-short = omega (arith, take-short (t * w + w - t * w) (drop (t * w) cells))
 
-  pub link-put : (rows : Rows) (o : List ℕ) (at : ℕ) {next : ℕ} {o′ : List ℕ} → wrote o at (sourcesFrom 0 part) ≡ record { next = next; output = o′ }
-      → {u start n : ℕ} → u ≡ t → start ≡ at → n ≡ next - at → {v : Cell} → listCell start n ≡ v → {r : List ℕ} → r ≡ row (linkEntry u v)
-      → withLink w cells t (filled rows o at) ≡ filled (set rows (t + 1) r) o′ next
-  unfolding withLink wrote
-  link-put rows o at {next} {o′} e {u} {start} {n} i j l {v} c {r} q =
-      let ss = sourcesIn w cells t in
-      let g : wrote o at ss ≡ record { next = next; output = o′ } = ap (λ (x : Cells). wrote o at (sourcesFrom 0 x)) (sym part-is) ∙ e in
-      let k : at + length ss ≡ next = ap (λ (x : stores.Wrote). x .next) g in
-      let m : length ss ≡ n = omega (arith, k, l) in
-      let p : listCell at (length ss) ≡ v = ap (listCell at) m ∙ ap (λ (x : ℕ). listCell x n) (sym j) ∙ c in
-      let z : row (linkEntry t (listCell at (length ss))) ≡ r
-      = ap (λ (x : Cell). row (linkEntry t x)) p ∙ ap (λ (x : ℕ). row (linkEntry x v)) (sym i) ∙ sym q in
-      ap (λ (x : List ℕ). filled (set rows (suc t) (row (linkEntry t (listCell at (length ss))))) x (at + length ss)) (ap (λ (x : stores.Wrote). x .output) g)
-      ∙ ap (λ (x : ℕ). filled (set rows (suc t) (row (linkEntry t (listCell at (length ss))))) o′ x) k
-      ∙ ap (λ (x : List ℕ). filled (set rows (suc t) x) o′ next) z
-      ∙ ap (λ (x : ℕ). filled (set rows x r) o′ next) (sym (add-one t))
+  module _ (h : w ≤ side) (o : List ℕ) (at : ℕ) (k : at + side ≤ length o) where
+    abbrev os : List ℕ
+    os = oidOctets (sourcesFrom 0 part)
+
+    os-few : length os ≤ side
+    os-few = omega (arith, part-short, sources-size 0 part (omega (arith, part-short, h)), h)
+
+    -- there is room for them
+    sources-put : putSources o at part ≡ outcome (Next (at + length os)) (sets o at os)
+    unfolding putSources putOid put
+    sources-put =
+        let a : length part ≤ side = omega (arith, part-short, h) in
+        let b : at + length os ≤ length o = omega (arith, os-few, k) in
+        let c : sets o at os ≡ take at o ++ (os ++ drop (at + length os) o) =
+        sets-eq os o at b ∙ append-assoc (take at o) os (drop (at + length os) o) in
+        rw (le-leb _ _ a, sources-range 0 part (omega (arith, a)), le-leb _ _ b) (ap (outcome (Next (at + length os))) (sym c))
+
+    module _ {r : Wrote} {o′ : List ℕ} (e : putSources o at part ≡ outcome r o′) {next : ℕ} (q : nextOf r ≡ next) where
+      put-is : outcome (Next (at + length os)) (sets o at os) ≡ outcome r o′
+      put-is = sym sources-put ∙ e
+
+      next-is : at + length os ≡ next
+      next-is = ap (λ (x : Put). nextOf (x .answer)) put-is ∙ q
+
+      pub link-place : (at ≤ next) × (next ≤ at + side)
+      link-place = (omega (arith, next-is), omega (arith, next-is, os-few))
+
+      pub link-put : (rows : Rows) {u start n : ℕ} → u ≡ t → start ≡ at → n ≡ next - at → {v : Cell} → listCell start n ≡ v
+          → {x : List ℕ} → x ≡ row (linkEntry u v) → withLink w cells t (filled rows o at) ≡ filled (set rows (t + 1) x) o′ next
+      unfolding withLink
+      link-put rows {u} {start} {n} i j l {v} c {x} g =
+          let ws = octetsIn w cells t in
+          let p : os ≡ ws = ap (λ (y : Cells). oidOctets (sourcesFrom 0 y)) part-is in
+          let a : at + length ws ≡ next = ap (λ (y : List ℕ). at + length y) (sym p) ∙ next-is in
+          let b : sets o at ws ≡ o′ = ap (λ (y : List ℕ). sets o at y) (sym p) ∙ ap (λ (y : Put). y .out) put-is in
+          let m : length ws ≡ n = omega (arith, a, l) in
+          let y : listCell at (length ws) ≡ v = ap (listCell at) m ∙ ap (λ (y : ℕ). listCell y n) (sym j) ∙ c in
+          let z : row (linkEntry t (listCell at (length ws))) ≡ x =
+          ap (λ (y : Cell). row (linkEntry t y)) y ∙ ap (λ (y : ℕ). row (linkEntry y v)) (sym i) ∙ sym g in
+          ap (λ (y : List ℕ). filled (set rows (suc t) (row (linkEntry t (listCell at (length ws))))) y (at + length ws)) b
+          ∙ ap (λ (y : ℕ). filled (set rows (suc t) (row (linkEntry t (listCell at (length ws))))) o′ y) a
+          ∙ ap (λ (y : List ℕ). filled (set rows (suc t) y) o′ next) z
+          ∙ ap (λ (y : ℕ). filled (set rows y x) o′ next) (sym (add-one t))
 
 -- n targets are left from t on
 module _ (w : ℕ) (cells : Cells) (targets t : ℕ) where

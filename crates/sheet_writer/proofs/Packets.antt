@@ -12,7 +12,8 @@ use Rattle.framing_packets.specs.Written.{packet, payloadLimit, earlier, inPack
 use Rattle.framing_packets.specs.Written.{Outcome, outcome, messageInto}
 use Rattle.framing_packets.proofs.Laws.{limited-fits}
 use Rattle.framing_packets.proofs.Sizes.{packet-length, packets-length, into-fits}
-use Rattle.sheet_rules.specs.Sheet.{hexText, lineOf, packetLines, messageLines}
+use Rattle.base_hex.specs.Digits.{hexText}
+use Rattle.sheet_rules.specs.Sheet.{lineOf, packetLines, messageLines}
 
 pub frames-length : (m : List ℕ) → length m ≤ 6144 → length (inPackets m) ≤ 16384
 frames-length m h =

@@ -1,18 +1,17 @@
 -- For the functions of this crate: the rows of a sheet, and beside them the octets of its path and sources.
 use Prim.Native.Nat.{ℕ, zero, suc, _+_, _*_}
-use mathlib.Core.List.{List, [], _∷_}
+use mathlib.Core.List.{List}
 use lib.ListN.{length, set}
 use lib.Seq.{sets}
-use lib.Dec.{eqb}
-use Rattle.base_choices.specs.Choices.{pick}
+use Rattle.ber_identifiers.specs.Identifier.{oidOctets}
 use Rattle.glow_rows.specs.Entry.{row, Rows}
 pub use Rattle.desk_rows.specs.Rows.{numberCell, limitCell, matrixEntry, linkEntry}
 unfoldable pub use Rattle.desk_rows.specs.Rows.{listCell}
 use Rattle.framing_packets.specs.declared.Written.{Written}
 use Rattle.framing_packets.specs.declared.Written.the-variants as written
 use Rattle.desk_crosspoints.specs.Figures.{side}
-use Rattle.desk_crosspoints.specs.Crosspoints.{Cells, rowAt}
-use Rattle.sheet_rules.specs.Sheet.{sourcesFrom}
+use Rattle.desk_crosspoints.specs.Crosspoints.{Cells}
+use Rattle.desk_rows.specs.Sources.{sourcesIn}
 use Rattle.sheet_writer.specs.declared.Answer.{Answer}
 use Rattle.sheet_writer.specs.declared.Answer.the-variants as answers
 
@@ -26,10 +25,6 @@ mostPath = 80
 abbrev pub mostOctets : ℕ
 mostOctets = mostPath + side * side
 
--- a source by its cell: an octet where it is connected
-abbrev pub oneSource : ℕ → ℕ → List ℕ
-oneSource s c = pick (eqb c 0) [] (s ∷ [])
-
 -- The rows and the octets so far, and the place of the next octet.
 pub record Filled : Type 0 where
   pub rows : Rows
@@ -39,16 +34,16 @@ pub record Filled : Type 0 where
 abbrev pub filled : Rows → List ℕ → ℕ → Filled
 filled rows octets next = record { rows = rows; octets = octets; next = next }
 
--- the sources of target t in rows of w cells
-abbrev pub sourcesIn : ℕ → Cells → ℕ → List ℕ
-sourcesIn w cells t = sourcesFrom 0 (rowAt w cells t)
+-- the octets of the sources of target t in rows of w cells
+abbrev pub octetsIn : ℕ → Cells → ℕ → List ℕ
+octetsIn w cells t = oidOctets (sourcesIn w cells t)
 
 -- with the connection of target t, and of n targets from t on
 unfoldable pub withLink : ℕ → Cells → ℕ → Filled → Filled
 withLink w cells t x =
-    filled (set (x .rows) (suc t) (row (linkEntry t (listCell (x .next) (length (sourcesIn w cells t))))))
-    (sets (x .octets) (x .next) (sourcesIn w cells t))
-    (x .next + length (sourcesIn w cells t))
+    filled (set (x .rows) (suc t) (row (linkEntry t (listCell (x .next) (length (octetsIn w cells t))))))
+    (sets (x .octets) (x .next) (octetsIn w cells t))
+    (x .next + length (octetsIn w cells t))
 
 unfoldable pub withLinks : ℕ → Cells → ℕ → ℕ → Filled → Filled
 withLinks w cells t zero x = x

@@ -7,19 +7,17 @@ use desk_crosspoints::SIDE;
 use framing_writer::Written;
 ghost use mathlib.Core.Path.{_≡_};
 ghost use mathlib.Core.Bool.{true};
-ghost use mathlib.Core.List.{[], _∷_};
 ghost use Prim.Native.Nat.{_+_, _*_, _≤_, _<_};
 ghost use lib.ListN.{length, take};
 ghost use Rattle.glow_trees.specs.Rows.{itemsIn};
 ghost use Rattle.glow_trees.specs.Trees.{flat};
 ghost use Rattle.framing_packets.specs.Written.{inPackets};
-ghost use Rattle.framing_packets.specs.Stores.{wrote};
 ghost use Rattle.glow_member_sizes.specs.Sizes.{nextOf};
 ghost use Rattle.desk_crosspoints.specs.Figures.{side};
 ghost use Rattle.desk_crosspoints.specs.Desk.{deskAt, deskLegal};
-ghost use Rattle.sheet_rules.specs.Sheet.{sourcesFrom, sheetTree, sheetMessage};
+ghost use Rattle.sheet_rules.specs.Sheet.{sheetTree, sheetMessage};
 ghost use Rattle.sheet_writer.specs.Calls.{outcomeOf, writesSheet};
-ghost use Rattle.sheet_writer.specs.Steps.{mostRows, mostPath, mostOctets, oneSource};
+ghost use Rattle.sheet_writer.specs.Steps.{mostRows, mostPath, mostOctets};
 ghost use Rattle.sheet_writer.specs.Steps.{filled, withLink, withLinks, said};
 
 // The matrix, and a connection for each target.
@@ -35,50 +33,13 @@ pub enum Answer {
     Done { length: usize },
 }
 
-fn octet(x: usize) -> u8
-    requires { ⌜ x < 256 ⌝ }
-    ensures { λ r. ⌜ r ≡ x ⌝ }
+fn end_of(w: Wrote) -> usize
+    ensures { λ r. ⌜ nextOf w ≡ r ⌝ }
 {
-    x as u8
-}
-
-// An octet, stored only where there is a place for it.
-fn emit(octets: &mut [u8], at: usize, b: u8) -> usize
-    requires { ⌜ at < 65536 ⌝ }
-    ensures { λ r. ⌜ wrote (now (octets .entry)) at (b ∷ []) ≡ record { next = r; output = now (octets .exit) } ⌝ }
-    ensures { λ r. ⌜ r ≤ at + 1 ⌝ }
-{
-    if at < octets.len() {
-        octets[at] = b;
+    match w {
+        Wrote::Next(n) => n,
+        Wrote::Out => 0,
     }
-    at + 1
-}
-
-// A source where its cell is set.
-fn put_source(octets: &mut [u8], at: usize, s: usize, cell: u8) -> usize
-    requires { ⌜ (s < side) × (at < 65536) ⌝ }
-    ensures { λ r. ⌜ wrote (now (octets .entry)) at (oneSource s cell) ≡ record { next = r; output = now (octets .exit) } ⌝ }
-    ensures { λ r. ⌜ r ≤ at + 1 ⌝ }
-{
-    if cell == 0 {
-        return at;
-    }
-    emit(octets, at, octet(s))
-}
-
-// The sources of a target, ascending, an octet each.
-fn put_sources(cells: &[u8], octets: &mut [u8], at: usize) -> usize
-    requires { ⌜ (length (now cells) ≤ side) × (at + side ≤ 65536) ⌝ }
-    ensures { λ r. ⌜ wrote (now (octets .entry)) at (sourcesFrom 0 (now (cells .entry))) ≡ record { next = r; output = now (octets .exit) } ⌝ }
-    ensures { λ r. ⌜ r ≤ at + length (now (cells .entry)) ⌝ }
-{
-    let mut next = at;
-    let mut s = 0;
-    while s < cells.len() {
-        next = put_source(octets, next, s, cells[s]);
-        s += 1;
-    }
-    next
 }
 
 // The connection of a target in rows of w cells, and the place after its sources.
@@ -91,14 +52,14 @@ fn put_link(
     at: usize,
 ) -> usize
     requires { ⌜ (t * w + w ≤ length (now cells)) × (w ≤ side) ⌝ }
-    requires { ⌜ (t < side) × ((length (now rows) ≡ mostRows) × (at + side ≤ 65536)) ⌝ }
+    requires { ⌜ (t < side) × ((length (now rows) ≡ mostRows) × ((at + side ≤ length (now octets)) × (length (now octets) ≡ mostOctets))) ⌝ }
     ensures { λ r. ⌜ withLink w (now (cells .entry)) t (filled (now (rows .entry)) (now (octets .entry)) at)
         ≡ filled (now (rows .exit)) (now (octets .exit)) r ⌝ }
     ensures { λ r. ⌜ r ≤ at + side ⌝ }
 {
     let from = t * w;
     let to = from + w;
-    let next = put_sources(&cells[from..to], octets, at);
+    let next = end_of(desk_rows::put_sources(&cells[from..to], octets, at));
     rows[t + 1] = desk_rows::link_row(word(t), desk_rows::list_of(word(at), word(next - at)));
     next
 }
@@ -113,7 +74,7 @@ fn put_links(
     at: usize,
 ) -> usize
     requires { ⌜ (length (now cells) ≡ targets * w) × (w ≤ side) ⌝ }
-    requires { ⌜ (targets ≤ side) × ((length (now rows) ≡ mostRows) × (at ≤ mostPath)) ⌝ }
+    requires { ⌜ (targets ≤ side) × ((length (now rows) ≡ mostRows) × ((length (now octets) ≡ mostOctets) × (at ≤ mostPath))) ⌝ }
     ensures { λ r. ⌜ withLinks w (now (cells .entry)) 0 targets (filled (now (rows .entry)) (now (octets .entry)) at)
         ≡ filled (now (rows .exit)) (now (octets .exit)) r ⌝ }
 {
@@ -126,15 +87,6 @@ fn put_links(
     next
 }
 
-fn end_of(w: Wrote) -> usize
-    ensures { λ r. ⌜ nextOf w ≡ r ⌝ }
-{
-    match w {
-        Wrote::Next(n) => n,
-        Wrote::Out => 0,
-    }
-}
-
 // The entries of a sheet as rows, with the octets beside them: how many rows.
 fn put_entries(
     f: Figures,
@@ -145,7 +97,8 @@ fn put_entries(
 ) -> usize
     requires { ⌜ deskLegal (deskAt f (now path) (now cells)) ≡ true ⌝ }
     requires { ⌜ (length (now rows) ≡ mostRows) × (length (now octets) ≡ mostOctets) ⌝ }
-    ensures { λ r. ⌜ itemsIn (now (octets .exit)) (now (rows .exit)) r ≡ flat 0 0 (sheetTree (deskAt f (now (path .entry)) (now (cells .entry)))) ⌝ }
+    ensures { λ r. ⌜ itemsIn (now (octets .exit)) (now (rows .exit)) r
+        ≡ flat 0 0 (sheetTree (deskAt f (now (path .entry)) (now (cells .entry)))) ⌝ }
     ensures { λ r. ⌜ r ≤ mostRows ⌝ }
 {
     let targets = index(f.targets);

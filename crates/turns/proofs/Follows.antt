@@ -21,13 +21,10 @@ use Rattle.glow_trees.specs.Content.{Item}
 use Rattle.glow_trees.specs.Rows.{itemsIn}
 use Rattle.desk_crosspoints.specs.Crosspoints.{Cells, clear}
 use Rattle.desk_crosspoints.specs.Desk.{Desk, withCells, deskLegal}
-use Rattle.desk_calls.specs.Calls.{Served, handled, Outcome, filled, laid, isReady, called, outcomeOf as answered}
-use Rattle.desk_calls.proofs.Setup.{called-ready, ready-from}
+use Rattle.desk_calls.specs.Calls.{Served, handled, Outcome, filled, laid, called, outcomeOf as answered}
+use Rattle.desk_calls.proofs.Setup.{called-ready}
+use Rattle.desk_calls.proofs.AsRead.{ready}
 use Rattle.desk_calls.proofs.Claims.{called-legal}
-use Rattle.trees_round_trip.proofs.Theorems.{read-accepted}
-use Rattle.glow_reader.proofs.Answers.{rows-kept}
-use Rattle.trees_round_trip.proofs.Reading.{read-walk}
-use Rattle.trees_round_trip.proofs.Rewriting.{in-rows}
 use Rattle.turns.specs.Rules.{refusal, treeOf, Then, nothing, served, follow, asked, follows}
 use Rattle.turns.specs.Turns.{Later, read, desk, isMessage, isRead, Comes, ends, reads, serves, thenOf}
 use Rattle.turns.proofs.Trees.{tree-refused, tree-read}
@@ -45,16 +42,6 @@ other (ev.Refused f d) t h = number-apart f (omega arith)
 nothing-follows : (rows : ℕ) (d : Desk) (e : framing.Said) → eqb (e .number) 3 ≡ false → follows rows d e ≡ follow nothing d
 unfolding follows
 nothing-follows rows d e h = rw h refl
-
--- "1 SETUP" is not for a legal desk and entries as read: the reader takes no longer table and no longer message
-ready : (s : List ℕ) → Below 256 s → (table : Rows) (root count : ℕ) → readAt s table .answer ≡ Read root count → (d : Desk) → deskLegal d ≡ true
-    → isReady d root (readAt s table .rows) count s ≡ true
-ready s octets table root count h d g =
-    let w = read-walk s table root count h in
-    let k = rows-kept s table in
-    let l = w .most in
-    ready-from d root (readAt s table .rows) count s (omega arith) (w .few) g (in-rows s table h .0)
-    (read-accepted s octets table root count h)
 
 -- what a call that answers z tells
 pub laid-tells : (z : Served) → take (laid z .count) (laid z .answers) ≡ z .answers

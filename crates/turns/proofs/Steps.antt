@@ -20,7 +20,7 @@ use Rattle.glow_reader.specs.Message.{Result, result, readAt}
 use Rattle.desk_crosspoints.specs.Crosspoints.{Cells}
 use Rattle.desk_crosspoints.specs.Desk.{Desk}
 use Rattle.desk_calls.specs.declared.Called.{Called}
-use Rattle.desk_calls.specs.Calls.{called, outcomeOf as answered}
+use Rattle.desk_calls.specs.Calls.{Outcome, uncalled, calledAfter, outcomeOf as answered}
 use Rattle.turns.specs.Turns.{none, read, desk, isMessage, isRead}
 use Rattle.turns.specs.Whole.{Left, left, unasked, deskTo, answerTo, readTo, laterAt}
 
@@ -78,13 +78,22 @@ refused-to d m (Refused number place) table h = refl
 refused-to d m (Room count) table h = refl
 refused-to d m (Read root count) table h = never h
 
-pub to-refused : (d : Desk) (m : List ℕ) (table : Rows) (a : Answer) (table′ : Rows) → readAt m table ≡ result a table′ → isRead a ≡ false
-    → readTo d m table ≡ unasked (read a table′) table′ (d .crosspoints)
-to-refused d m table a table′ q h = to-answer d m table a table′ q ∙ refused-to d m a table′ h
+-- after another answer than 0 the desk was not called
+not-called : (d : Desk) (m : List ℕ) (a : Answer) (table : Rows) → isRead a ≡ false → calledAfter d m a table ≡ uncalled (d .crosspoints)
+not-called d m Setup table h = refl
+not-called d m (Refused number place) table h = refl
+not-called d m (Room count) table h = refl
+not-called d m (Read root count) table h = never h
 
-pub to-served : (d : Desk) (m : List ℕ) (table : Rows) (a : Answer) (table′ : Rows) (root count : ℕ) (r : Called) (cells′ : Cells)
-    → readAt m table ≡ result a table′ → a ≡ Read root count
-    → called d root table′ count m ≡ answered r cells′
-    → readTo d m table ≡ left (desk root count table′ (answered r cells′)) (r .answers) table′ cells′
-to-served d m table a table′ root count r cells′ q h k =
-    to-answer d m table a table′ q ∙ ap (λ (x : Answer). answerTo d m x table′) h ∙ ap (deskTo root count table′) k
+module _ (d : Desk) (m : List ℕ) (table : Rows) (a : Answer) (table′ : Rows) (q : readAt m table ≡ result a table′) (r : Called) (cells′ : Cells)
+    (k : calledAfter d m a table′ ≡ answered r cells′) where
+  pub to-refused : isRead a ≡ false → readTo d m table ≡ left (read a table′) (r .answers) table′ cells′
+  to-refused h =
+      to-answer d m table a table′ q ∙ refused-to d m a table′ h
+      ∙ ap (λ (o : Outcome). left (read a table′) (o .answers) table′ (o .cells)) (sym (not-called d m a table′ h) ∙ k)
+
+  pub to-served : (root count : ℕ) → a ≡ Read root count
+      → readTo d m table ≡ left (desk root count table′ (answered r cells′)) (r .answers) table′ cells′
+  to-served root count h =
+      to-answer d m table a table′ q ∙ ap (λ (x : Answer). answerTo d m x table′) h
+      ∙ ap (deskTo root count table′) (ap (λ (x : Answer). calledAfter d m x table′) (sym h) ∙ k)

@@ -60,15 +60,14 @@ pub fn message(
     ensures { λ r. ⌜ readTo (deskAt figures (now (path .entry)) (now (crosspoints .entry))) (now (m .entry)) (now (table .entry))
         ≡ gave (r .after) (r .answers) (now (table .exit)) (now (crosspoints .exit)) ⌝ }
 {
-    let answer = glow_reader::read(m, table);
-    let Answer::Read { root, count } = answer else {
-        return Handled {
-            after: After::Refused { answer },
-            answers: [0u8; 256],
-        };
-    };
-    let called = desk_calls::call(figures, path, table, count, root, m, crosspoints);
+    let both = desk_calls::read_and_call(m, table, figures, path, crosspoints);
+    let answer = both.answer;
+    let called = both.called;
     let answers = called.answers;
+    let Answer::Read { root, count } = answer else {
+        let after = After::Refused { answer };
+        return Handled { after, answers };
+    };
     let after = After::Served {
         root,
         count,

@@ -108,19 +108,16 @@ loop-again c =
     let gives = the-loop .inv .1 .1 .1 .1 .1 .1 ∙ on in
     (omega arith, (λ h. omega arith, (omega arith, (omega arith, (the-digit .ensures .1, (long, gives))))))
 
-mul-put-byte : tie.Need-mul-put-byte Inv-loop μ-loop
-mul-put-byte c = omega arith
+mul-put : tie.Need-mul-put Inv-loop μ-loop
+mul-put c = omega arith
 
-add-put-byte : tie.Need-add-put-byte Inv-loop μ-loop
-add-put-byte c =
+add-put : tie.Need-add-put Inv-loop μ-loop
+add-put c =
     let the-digit = c .before .before .before .digit in
     omega (arith, the-digit .ensures .1)
 
-put-byte-requires : tie.Need-put-byte-requires Inv-loop μ-loop
-put-byte-requires c κs = search needs
-
-add-count : tie.Need-add-count Inv-loop μ-loop
-add-count c = omega arith
+put-requires : tie.Need-put-requires Inv-loop μ-loop
+put-requires c κs = search needs
 
 loop-less-2 : tie.Need-loop-less-2 Inv-loop μ-loop
 loop-less-2 c = omega arith
@@ -134,16 +131,16 @@ loop-again-2 c =
     let the-digit = c .before .before .before .before .before .before .digit in
     let the-if2 = c .before .before .before .before .before .if2 in
     let the-if3 = c .before .before .before .before .if3 in
-    let the-put-byte = c .before .before .put-byte in
+    let the-put = c .before .before .put in
     let s = the-Start .args .block .now in
     let on =
     scan-pair s (the-loop .i) (the-loop .high) (the-loop .begun) (the-loop .chunk) (the-loop .count) (the-loop-test .taken) _
-    (the-digit .ensures .0) (the-if1 .left) (the-if2 .left) (the-if3 .left) in
-    let long = the-put-byte .kept .0 ∙ the-loop .inv .1 .1 .1 .1 .1 .0 in (
+    (the-digit .ensures .0) (the-if1 .left) (the-if2 .left) (the-if3 .left) (the-put .ensures .0 (omega arith)) in
+    let long = the-put .kept .0 ∙ the-loop .inv .1 .1 .1 .1 .1 .0 in (
       omega arith,
       (
         λ h. omega arith,
-        (omega arith, (omega arith, (omega arith, (long, the-loop .inv .1 .1 .1 .1 .1 .1 ∙ rw (the-put-byte .ensures) on)))),
+        (omega arith, (omega arith, (omega arith, (long, the-loop .inv .1 .1 .1 .1 .1 .1 ∙ on)))),
       ),
     )
 
@@ -180,10 +177,9 @@ scan-spec =
     returns-2
     loop-less
     loop-again
-    mul-put-byte
-    add-put-byte
-    put-byte-requires
-    add-count
+    mul-put
+    add-put
+    put-requires
     loop-less-2
     loop-again-2
     same-length-3

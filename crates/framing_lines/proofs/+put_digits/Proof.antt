@@ -1,14 +1,15 @@
 use mathlib.Core.Path.{_∙_}
 use native.Mathlib.Omega.{arith}
 use borrow.Author.Needs.{needs}
-use Rattle.framing_lines.proofs.Laws.{wrote-none, wrote-then, decimal-none, decimal-one, decimal-more}
+use Rattle.base_output.proofs.Laws.{wrote-none, wrote-then}
+use Rattle.framing_lines.proofs.Laws.{decimal-none, decimal-one, decimal-more}
 use Prim.Native.Nat.{ℕ, _<_}
 use borrow.Fn.Kinds.{In}
 use borrow.Fn.PlainCycle.{Measures, is, falls, and}
 use Rattle.framing_lines.proofs.put_digits.Reads as put-digits
 use Rattle.framing_lines.proofs.put_digits.Kinds as put-digits-kinds
 use Rattle.framing_lines.proofs.+put_digits.Lts-put_digits as put-digits-lts
-use Rattle.framing_lines.proofs.put.Reads as put-reads
+use Rattle.base_output.proofs.put.Reads as put-reads
 use Rattle.framing_lines.proofs.+put_digits.{statement}
 use Rattle.framing_lines.proofs.+put_digits.Tie.{close}
 
@@ -53,7 +54,7 @@ put-digits-put-requires : (t : ℕ) → put-digits-lts.Need-put-requires (
   put-digits-below t,
   put-digits.Post,
 ) (put-digits-at t) put-digits.Post
-put-digits-put-requires t c κs = omega arith
+put-digits-put-requires t c κs = search needs
 
 put-digits-same-length : (t : ℕ) → put-digits-lts.Need-same-length (
   put-reads.Asked,
@@ -72,7 +73,7 @@ put-digits-returns-2 : (t : ℕ) → put-digits-lts.Need-returns-2 (
 put-digits-returns-2 t c =
     let some = c .before .before .before .before .before .if1 .left in
     let small = c .before .before .before .before .if2 .taken in
-    (rw (decimal-one _ _ some small) (c .before .before .put .ensures .0), omega arith)
+    (rw (decimal-one _ _ some small) (c .before .before .put .ensures .0 (omega arith)), omega arith)
 
 put-digits-sub-put-digits : (t : ℕ) → put-digits-lts.Need-sub-put-digits (
   put-reads.Asked,
@@ -112,7 +113,7 @@ put-digits-put-requires-2 : (t : ℕ) → put-digits-lts.Need-put-requires-2 (
   put-digits-below t,
   put-digits.Post,
 ) (put-digits-at t) put-digits.Post
-put-digits-put-requires-2 t c κs = omega arith
+put-digits-put-requires-2 t c κs = search needs
 
 put-digits-same-length-2 : (t : ℕ) → put-digits-lts.Need-same-length-2 (
   put-reads.Asked,
@@ -132,7 +133,7 @@ put-digits-returns-3 t c =
     let some = c .before .before .before .before .before .before .before .before .before .if1 .left in
     let large = c .before .before .before .before .before .before .before .before .if2 .left in
     let front = c .before .before .before .before .before .before .put-digits in
-    (rw (decimal-more _ _ some large) (wrote-then _ _ _ _ (front .ensures .0) ∙ c .before .before .put2 .ensures .0), omega arith)
+    (rw (decimal-more _ _ some large) (wrote-then _ _ _ _ (front .ensures .0) ∙ c .before .before .put2 .ensures .0 (omega arith)), omega arith)
 
 pub +put-digits-spec : {M : Type 1} → statement M
 +put-digits-spec = close μ-put-digits λ t. put-digits-lts.spec (

@@ -1,16 +1,17 @@
 use Prim.Native.Nat.{_≤_, _+_, _-_}
 use mathlib.Core.Path.{_≡_, refl, _∙_}
 use native.Mathlib.Omega.{arith}
+use borrow.Author.Needs.{needs}
 use lib.ListN.{length, drop}
-use Rattle.framing_lines.specs.Text.{wrote}
-use Rattle.framing_lines.proofs.Laws.{wrote-none, wrote-then}
+use Rattle.base_output.specs.Output.{wrote}
+use Rattle.base_output.proofs.Laws.{wrote-none, wrote-then}
 use Rattle.framing_digits.proofs.Laws.{rest-more, rest-end}
 use Rattle.framing_lines.proofs.put_bytes.Statement.{statement}
 use Rattle.framing_lines.proofs.put_bytes.Tie as tie
 
 abbrev Inv-loop : tie.InvT-loop
 Inv-loop out₀ at s next₀ i₀ out next i =
-    (i ≤ length s) × ((next ≡ at + i) × ((length out ≡ length out₀) × (wrote out₀ at s ≡ wrote out next (drop i s))))
+    (i ≤ length s) × ((next ≤ at + i) × ((length out ≡ length out₀) × (wrote out₀ at s ≡ wrote out next (drop i s))))
 
 abbrev μ-loop : tie.MeasureT-loop
 μ-loop out₀ at s next₀ i₀ out next i = length s - i
@@ -22,7 +23,7 @@ shared-slice-read-put : tie.Need-shared-slice-read-put Inv-loop μ-loop
 shared-slice-read-put c = omega arith
 
 put-requires : tie.Need-put-requires Inv-loop μ-loop
-put-requires c κs = omega arith
+put-requires c κs = search needs
 
 add-i : tie.Need-add-i Inv-loop μ-loop
 add-i c = omega arith
@@ -40,7 +41,7 @@ loop-again c =
         omega arith,
         (
           e .kept .0 ∙ l .inv .1 .1 .0,
-          l .inv .1 .1 .1 ∙ rw (rest-more s (l .i) (c .before .before .before .before .before .loop-test .taken)) (wrote-then _ _ _ _ (e .ensures .0)),
+          l .inv .1 .1 .1 ∙ rw (rest-more s (l .i) (c .before .before .before .before .before .loop-test .taken)) (wrote-then _ _ _ _ (e .ensures .0 (omega arith))),
         ),
       ),
     )

@@ -1,7 +1,9 @@
+use Prim.Native.Nat.{_<_}
 use mathlib.Core.Path.{_∙_}
 use native.Mathlib.Omega.{arith}
 use Rattle.framing_lines.specs.Text.{endText}
-use Rattle.framing_lines.proofs.Laws.{wrote-then}
+use Rattle.base_output.specs.Output.{lastPlace}
+use Rattle.base_output.proofs.Laws.{wrote-then}
 use borrow.Author.Needs.{needs}
 use Rattle.framing_lines.proofs.put_end_line.Statement.{statement}
 use Rattle.framing_lines.proofs.put_end_line.Tie as tie
@@ -42,14 +44,20 @@ returns c =
     let frame = second-space .before .before .before .before in
     let first-space = frame .before .before .before .before in
     let count = first-space .before .before .before .before in
-    let word = count .before .before .before .before in (
+    let word = count .before .before .before .before in
+    let start = word .before .before .before .before in
+    let first : count .put-decimal .result < lastPlace = omega (arith, start .pre, start .good, word .put-bytes .ensures .1, count .put-decimal .ensures .1) in
+    let second : frame .put-frame .result < lastPlace =
+    omega (arith, start .pre, start .good, word .put-bytes .ensures .1, count .put-decimal .ensures .1, first-space .put .ensures .1, frame .put-frame .ensures .1) in
+    let third : message .put-pending .result < lastPlace =
+    omega (arith, start .pre, start .good, word .put-bytes .ensures .1, count .put-decimal .ensures .1, first-space .put .ensures .1, frame .put-frame .ensures .1, second-space .put2 .ensures .1, message .put-pending .ensures .1) in (
       wrote-then _ _ _ _ (word .put-bytes .ensures .0)
           ∙ wrote-then _ _ _ _ (count .put-decimal .ensures .0)
-          ∙ wrote-then _ _ _ _ (first-space .put .ensures .0)
+          ∙ wrote-then _ _ _ _ (first-space .put .ensures .0 first)
           ∙ wrote-then _ _ _ _ (frame .put-frame .ensures .0)
-          ∙ wrote-then _ _ _ _ (second-space .put2 .ensures .0)
+          ∙ wrote-then _ _ _ _ (second-space .put2 .ensures .0 second)
           ∙ wrote-then _ _ _ _ (message .put-pending .ensures .0)
-          ∙ line-end .put3 .ensures .0,
+          ∙ line-end .put3 .ensures .0 third,
       omega arith,
     )
 

@@ -10,7 +10,8 @@ use Rattle.framing_session.specs.declared.Event.the-variants as ev
 use Rattle.framing_session.proofs.Laws.{number-high}
 use Rattle.framing_session.specs.Session.{saidBy}
 use Rattle.framing_events.specs.Events.{lengthOf}
-use Rattle.framing_lines.proofs.Laws.{wrote-then, event-plain, event-message}
+use Rattle.base_output.proofs.Laws.{wrote-then}
+use Rattle.framing_lines.proofs.Laws.{event-plain, event-message}
 use borrow.Author.Needs.{needs}
 use Rattle.framing_lines.proofs.put_event_line.Statement.{statement}
 use Rattle.framing_lines.proofs.put_event_line.Tie as tie
@@ -60,7 +61,7 @@ returns c =
     let a = the-Start .args in
     let no : the-number .result ≡ 3 → ⊥ = λ e. other (a .event) (the-match .keys2) (sym (the-number .ensures) ∙ e) in (
       rw (event-plain (a .offset) (a .event) (a .store .now) _ _ (the-number .ensures) (the-is-discarded .ensures) no)
-          (wrote-then _ _ _ _ (the-put-head .ensures .0) ∙ the-put .ensures .0),
+          (wrote-then _ _ _ _ (the-put-head .ensures .0) ∙ the-put .ensures .0 (omega arith)),
       omega arith,
     )
 
@@ -88,7 +89,7 @@ returns-2 c =
       rw (event-message (a .offset) (a .event) (a .store .now) _ _ (the-number .ensures) (the-is-discarded .ensures) three, ap lengthOf e)
           (wrote-then _ _ _ _ (the-put-head .ensures .0)
           ∙ wrote-then _ _ _ _ (the-put-message .ensures .0)
-          ∙ the-put2 .ensures .0),
+          ∙ the-put2 .ensures .0 (omega arith)),
       omega arith,
     )
 

@@ -49,7 +49,7 @@ returns c =
     let the-Start = c .before .before .before .before .before .before .before in
     let the-enum-told = c .before .before .before .before .enum-told in
     let the-put = c .before .before .put in
-    let e : the-Start .args .frame ≡ Outside = the-enum-told .given .1 in (rw e (the-put .ensures .0), omega arith)
+    let e : the-Start .args .frame ≡ Outside = the-enum-told .given .1 in (rw e (the-put .ensures .0 (omega arith)), omega arith)
 
 same-length-2 : tie.Need-same-length-2
 same-length-2 c = search needs
@@ -59,7 +59,7 @@ returns-2 c =
     let the-Start = c .before .before .before .before .before .before .before in
     let the-enum-told2 = c .before .before .before .before .enum-told2 in
     let the-put2 = c .before .before .put2 in
-    let e : the-Start .args .frame ≡ Stray = the-enum-told2 .given .1 in (rw e (the-put2 .ensures .0), omega arith)
+    let e : the-Start .args .frame ≡ Stray = the-enum-told2 .given .1 in (rw e (the-put2 .ensures .0 (omega arith)), omega arith)
 
 same-length-3 : tie.Need-same-length-3
 same-length-3 c = search needs

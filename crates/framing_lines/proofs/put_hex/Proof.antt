@@ -2,14 +2,17 @@ use Prim.Native.Nat.{_≤_, _+_, _-_, _*_}
 use mathlib.Core.Path.{_≡_, refl, _∙_}
 use native.Mathlib.Omega.{arith}
 use lib.ListN.{length, drop}
-use Rattle.framing_lines.specs.Text.{wrote, hexText}
-use Rattle.framing_lines.proofs.Laws.{wrote-none, wrote-then, hex-more, hex-end}
+use borrow.Author.Needs.{needs}
+use Rattle.base_hex.specs.Digits.{hexText}
+use Rattle.base_hex.proofs.Laws.{hex-more, hex-end}
+use Rattle.base_output.specs.Output.{wrote}
+use Rattle.base_output.proofs.Laws.{wrote-none, wrote-then}
 use Rattle.framing_lines.proofs.put_hex.Statement.{statement}
 use Rattle.framing_lines.proofs.put_hex.Tie as tie
 
 abbrev Inv-loop : tie.InvT-loop
 Inv-loop out₀ at s next₀ i₀ out next i =
-    (i ≤ length s) × ((next ≡ at + 2 * i) × ((length out ≡ length out₀) × (wrote out₀ at (hexText s) ≡ wrote out next (hexText (drop i s)))))
+    (i ≤ length s) × ((next ≤ at + 2 * i) × ((length out ≡ length out₀) × (wrote out₀ at (hexText s) ≡ wrote out next (hexText (drop i s)))))
 
 abbrev μ-loop : tie.MeasureT-loop
 μ-loop out₀ at s next₀ i₀ out next i = length s - i
@@ -20,17 +23,17 @@ loop-holds c = (omega arith, (omega arith, (refl, refl)))
 shared-slice-read-b : tie.Need-shared-slice-read-b Inv-loop μ-loop
 shared-slice-read-b c = omega arith
 
-glyph-requires : tie.Need-glyph-requires Inv-loop μ-loop
-glyph-requires c κs = omega (arith, c .before .shared-slice-known2 .given (c .before .before .before .loop .i))
+high-requires : tie.Need-high-requires Inv-loop μ-loop
+high-requires c κs = search needs
 
 put-requires : tie.Need-put-requires Inv-loop μ-loop
-put-requires c κs = omega arith
+put-requires c κs = search needs
 
-glyph-requires-2 : tie.Need-glyph-requires-2 Inv-loop μ-loop
-glyph-requires-2 c κs = omega arith
+low-requires : tie.Need-low-requires Inv-loop μ-loop
+low-requires c κs = search needs
 
 put-requires-2 : tie.Need-put-requires-2 Inv-loop μ-loop
-put-requires-2 c κs = omega arith
+put-requires-2 c κs = search needs
 
 add-i : tie.Need-add-i Inv-loop μ-loop
 add-i c = omega arith
@@ -43,9 +46,9 @@ loop-again c =
     let the-Start = c .before .before .before .before .before .before .before .before .before .before .before .before .before .before .before in
     let the-loop = c .before .before .before .before .before .before .before .before .before .before .before .before .loop in
     let the-loop-test = c .before .before .before .before .before .before .before .before .before .before .before .loop-test in
-    let the-glyph = c .before .before .before .before .before .before .before .before .glyph in
+    let the-high = c .before .before .before .before .before .before .before .before .high in
     let the-put = c .before .before .before .before .before .before .before .put in
-    let the-glyph2 = c .before .before .before .glyph2 in
+    let the-low = c .before .before .before .low in
     let the-put2 = c .before .before .put2 in
     let s = the-Start .args .s .now in (
       omega arith,
@@ -54,8 +57,8 @@ loop-again c =
         (
           the-put2 .kept .0 ∙ the-put .kept .0 ∙ the-loop .inv .1 .1 .0,
           the-loop .inv .1 .1 .1
-              ∙ rw (hex-more s (the-loop .i) (the-loop-test .taken), ← the-glyph .ensures, ← the-glyph2 .ensures)
-              (wrote-then _ _ _ _ (the-put .ensures .0) ∙ wrote-then _ _ _ _ (the-put2 .ensures .0)),
+              ∙ rw (hex-more s (the-loop .i) (the-loop-test .taken), ← the-high .ensures, ← the-low .ensures)
+              (wrote-then _ _ _ _ (the-put .ensures .0 (omega arith)) ∙ wrote-then _ _ _ _ (the-put2 .ensures .0 (omega arith))),
         ),
       ),
     )
@@ -76,9 +79,9 @@ put-hex-spec =
     μ-loop
     loop-holds
     shared-slice-read-b
-    glyph-requires
+    high-requires
     put-requires
-    glyph-requires-2
+    low-requires
     put-requires-2
     add-i
     loop-less

@@ -1,7 +1,8 @@
 use mathlib.Core.Path.{sym, _∙_}
 use native.Mathlib.Omega.{arith}
 use lib.Seq.{length-take-le}
-use Rattle.framing_lines.proofs.Laws.{wrote-then, take-least}
+use Rattle.base_output.proofs.Laws.{wrote-then}
+use Rattle.framing_lines.proofs.Laws.{take-least}
 use borrow.Author.Needs.{needs}
 use Rattle.framing_lines.proofs.put_message.Statement.{statement}
 use Rattle.framing_lines.proofs.put_message.Tie as tie
@@ -35,7 +36,7 @@ returns c =
     let the-put-word = c .before .before .put-word in
     let a = the-Start .args in (
       rw (← take-least (a .n) (a .store .now), ← the-least .ensures .1)
-          (wrote-then _ _ _ _ (the-put .ensures .0) ∙ the-put-word .ensures .0),
+          (wrote-then _ _ _ _ (the-put .ensures .0 (omega arith)) ∙ the-put-word .ensures .0),
       omega (arith, length-take-le _ (a .store .now) (the-least .ensures .0 .1)),
     )
 

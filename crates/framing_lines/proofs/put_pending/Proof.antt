@@ -25,7 +25,7 @@ returns c =
     let the-Start = c .before .before .before .before .before .before .before in
     let the-enum-told = c .before .before .before .before .enum-told in
     let the-put = c .before .before .put in
-    let e : the-Start .args .message ≡ Nothing = the-enum-told .given .1 in (rw e (the-put .ensures .0), omega arith)
+    let e : the-Start .args .message ≡ Nothing = the-enum-told .given .1 in (rw e (the-put .ensures .0 (omega arith)), omega arith)
 
 same-length-2 : tie.Need-same-length-2
 same-length-2 c = search needs

@@ -11,7 +11,7 @@ same-length : tie.Need-same-length
 same-length c = search needs
 
 returns : tie.Need-returns
-returns c = (rw (word-none _ (c .before .before .before .before .if1 .taken)) (c .before .before .put .ensures .0), omega arith)
+returns c = (rw (word-none _ (c .before .before .before .before .if1 .taken)) (c .before .before .put .ensures .0 (omega arith)), omega arith)
 
 put-hex-requires : tie.Need-put-hex-requires
 put-hex-requires c κs = search needs

@@ -2,7 +2,8 @@ use mathlib.Core.Path.{ap, _∙_}
 use native.Mathlib.Omega.{arith}
 use borrow.Author.Needs.{needs}
 use Rattle.framing_checksum.specs.Checksum.{crcFrom}
-use Rattle.framing_packets.proofs.Laws.{wrote-then, frame-parts}
+use Rattle.base_output.proofs.Laws.{wrote-then}
+use Rattle.framing_packets.proofs.Laws.{frame-parts}
 use Rattle.framing_writer.proofs.emit_frame.Statement.{statement}
 use Rattle.framing_writer.proofs.emit_frame.Tie as tie
 
@@ -15,8 +16,8 @@ crc-from-requires-2 c κs = search needs
 sub-crc : tie.Need-sub-crc
 sub-crc c = search needs
 
-emit-requires : tie.Need-emit-requires
-emit-requires c κs = omega arith
+put-requires : tie.Need-put-requires
+put-requires c κs = search needs
 
 emit-slice-requires : tie.Need-emit-slice-requires
 emit-slice-requires c κs = omega arith
@@ -36,8 +37,8 @@ high-requires c κs = search needs
 emit-escaped-requires-2 : tie.Need-emit-escaped-requires-2
 emit-escaped-requires-2 c κs = omega arith
 
-emit-requires-2 : tie.Need-emit-requires-2
-emit-requires-2 c κs = omega arith
+put-requires-2 : tie.Need-put-requires-2
+put-requires-2 c κs = search needs
 
 same-length : tie.Need-same-length
 same-length c = search needs
@@ -55,13 +56,14 @@ returns c =
     let a = start .args in
     let crc = k .crc-from2 .ensures ∙ ap (λ n. crcFrom n (a .rest .now)) (k .before .crc-from .ensures) in (
       rw (frame-parts (a .head .now) (a .rest .now) crc (x .before .low .ensures) (y .before .high .ensures))
-          (wrote-then _ _ _ _ (u .emit .ensures .0)
+          (wrote-then _ _ _ _ (u .put .ensures .0 (omega (arith, start .pre)))
           ∙ wrote-then _ _ _ _ (v .emit-slice .ensures .0)
           ∙ wrote-then _ _ _ _ (w .emit-slice2 .ensures .0)
           ∙ wrote-then _ _ _ _ (x .emit-escaped .ensures .0)
           ∙ wrote-then _ _ _ _ (y .emit-escaped2 .ensures .0)
-          ∙ z .emit2 .ensures .0),
-      omega (arith, start .pre, u .emit .ensures .1, v .emit-slice .ensures .1, w .emit-slice2 .ensures .1, x .emit-escaped .ensures .1, y .emit-escaped2 .ensures .1, z .emit2 .ensures .1),
+          ∙ z .put2 .ensures .0
+          (omega (arith, start .pre, u .put .ensures .1, v .emit-slice .ensures .1, w .emit-slice2 .ensures .1, x .emit-escaped .ensures .1, y .emit-escaped2 .ensures .1))),
+      omega (arith, start .pre, u .put .ensures .1, v .emit-slice .ensures .1, w .emit-slice2 .ensures .1, x .emit-escaped .ensures .1, y .emit-escaped2 .ensures .1, z .put2 .ensures .1),
     )
 
 pub emit-frame-spec : {M : Type 1} → statement M
@@ -71,13 +73,13 @@ emit-frame-spec =
     crc-from-requires
     crc-from-requires-2
     sub-crc
-    emit-requires
+    put-requires
     emit-slice-requires
     emit-slice-requires-2
     low-requires
     emit-escaped-requires
     high-requires
     emit-escaped-requires-2
-    emit-requires-2
+    put-requires-2
     same-length
     returns)

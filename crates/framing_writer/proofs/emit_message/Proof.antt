@@ -5,8 +5,9 @@ use mathlib.Core.Path.{_≡_, refl, _∙_}
 use native.Mathlib.Omega.{arith}
 use lib.ListN.{length, drop, length-take, length-drop}
 use Rattle.framing_packets.specs.Written.{packets, earlier}
-use Rattle.framing_packets.specs.Stores.{wrote}
-use Rattle.framing_packets.proofs.Laws.{wrote-then, packets-next, packets-rest}
+use Rattle.base_output.specs.Output.{wrote}
+use Rattle.base_output.proofs.Laws.{wrote-then}
+use Rattle.framing_packets.proofs.Laws.{packets-next, packets-rest}
 use Rattle.framing_writer.proofs.emit_message.Statement.{statement}
 use Rattle.framing_writer.proofs.emit_message.Tie as tie
 

@@ -4,8 +4,9 @@ use mathlib.Core.Path.{_≡_, refl, _∙_}
 use native.Mathlib.Omega.{arith}
 use lib.ListN.{length, drop}
 use Rattle.framing_packets.specs.Written.{escapes}
-use Rattle.framing_packets.specs.Stores.{wrote}
-use Rattle.framing_packets.proofs.Laws.{wrote-none, wrote-then, escapes-more, escapes-end}
+use Rattle.base_output.specs.Output.{wrote}
+use Rattle.base_output.proofs.Laws.{wrote-none, wrote-then}
+use Rattle.framing_packets.proofs.Laws.{escapes-more, escapes-end}
 use Rattle.framing_writer.proofs.emit_slice.Statement.{statement}
 use Rattle.framing_writer.proofs.emit_slice.Tie as tie
 

@@ -5,8 +5,8 @@ use native.Mathlib.Omega.{arith}
 use lib.ListN.{length, drop}
 use Rattle.sheet_rules.specs.Sheet.{breaks}
 use Rattle.sheet_rules.proofs.Laws.{breaks-more, breaks-end}
-use Rattle.framing_packets.specs.Stores.{wrote}
-use Rattle.framing_packets.proofs.Laws.{wrote-none, wrote-then}
+use Rattle.base_output.specs.Output.{wrote}
+use Rattle.base_output.proofs.Laws.{wrote-none, wrote-then}
 use Rattle.sheet_rules.proofs.emit_lines.Statement.{statement}
 use Rattle.sheet_rules.proofs.emit_lines.Tie as tie
 

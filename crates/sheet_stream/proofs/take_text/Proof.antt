@@ -1,10 +1,10 @@
 use borrow.Author.Needs.{needs}
 use Rattle.sheet_stream.proofs.Steps.{sound-start, Goes, goes-start, goes-as, goes-byte, goes-refused, goes-end}
-use Rattle.sheet_stream.proofs.Lines.{digit-small, bytes-over, bytes-first, bytes-pair, bytes-end}
+use Rattle.sheet_stream.proofs.Lines.{bytes-over, bytes-first, bytes-pair, bytes-end}
 use Rattle.sheet_stream.specs.Steps.{bytesFrom, Sound}
 use lib.ListN.{length, drop}
 use native.Mathlib.Omega.{arith}
-use mathlib.Core.Path.{_≡_, refl, subst}
+use mathlib.Core.Path.{_≡_, refl}
 use Prim.Native.Nat.{_≤_, _-_}
 use Rattle.sheet_stream.proofs.take_text.Statement.{statement}
 use Rattle.sheet_stream.proofs.take_text.Tie as tie
@@ -43,7 +43,7 @@ loop-again c =
     let the-loop-test = c .before .before .before .loop-test in
     let the-digit = c .before .digit in
     let the-if1 = c .if1 in
-    (omega arith, (the-loop .inv .1 .0, (the-loop .inv .1 .1 .0, (the-loop .inv .1 .1 .1 .0, (the-loop .inv .1 .1 .1 .1 .0, goes-as (the-loop .inv .1 .1 .1 .1 .1) (bytes-over _ _ _ _ (the-loop-test .taken) (the-digit .ensures) (the-if1 .taken)))))))
+    (omega arith, (the-loop .inv .1 .0, (the-loop .inv .1 .1 .0, (the-loop .inv .1 .1 .1 .0, (the-loop .inv .1 .1 .1 .1 .0, goes-as (the-loop .inv .1 .1 .1 .1 .1) (bytes-over _ _ _ _ (the-loop-test .taken) (the-digit .ensures .0) (the-if1 .taken)))))))
 
 loop-less-2 : tie.Need-loop-less-2 Inv-loop μ-loop
 loop-less-2 c = omega arith
@@ -55,7 +55,7 @@ loop-again-2 c =
     let the-digit = c .before .before .digit in
     let the-if1 = c .before .if1 in
     let the-if2 = c .if2 in
-    (omega arith, (subst (λ x. x ≤ 16) (the-digit .ensures) (digit-small _), (the-loop .inv .1 .1 .0, (the-loop .inv .1 .1 .1 .0, (the-loop .inv .1 .1 .1 .1 .0, goes-as (the-loop .inv .1 .1 .1 .1 .1) (bytes-first _ _ _ _ (the-loop-test .taken) (the-digit .ensures) (the-if1 .left) (the-if2 .taken)))))))
+    (omega arith, (the-digit .ensures .1, (the-loop .inv .1 .1 .0, (the-loop .inv .1 .1 .1 .0, (the-loop .inv .1 .1 .1 .1 .0, goes-as (the-loop .inv .1 .1 .1 .1 .1) (bytes-first _ _ _ _ (the-loop-test .taken) (the-digit .ensures .0) (the-if1 .left) (the-if2 .taken)))))))
 
 mul-take-byte : tie.Need-mul-take-byte Inv-loop μ-loop
 mul-take-byte c = search needs
@@ -63,7 +63,7 @@ mul-take-byte c = search needs
 add-take-byte : tie.Need-add-take-byte Inv-loop μ-loop
 add-take-byte c =
     let the-digit = c .before .before .before .digit in
-    let k = subst (λ x. x ≤ 16) (the-digit .ensures) (digit-small _) in omega (arith, k)
+    omega (arith, the-digit .ensures .1)
 
 take-byte-requires : tie.Need-take-byte-requires Inv-loop μ-loop
 take-byte-requires c κs = search needs
@@ -80,7 +80,7 @@ returns c =
     let the-if2 = c .before .before .before .before .before .before .if2 in
     let the-take-byte = c .before .before .before .before .take-byte in
     let the-if3 = c .if3 in
-    goes-refused (goes-byte (goes-as (the-loop .inv .1 .1 .1 .1 .1) (bytes-pair _ _ _ _ (the-loop-test .taken) (the-digit .ensures) (the-if1 .left) (the-if2 .left)))
+    goes-refused (goes-byte (goes-as (the-loop .inv .1 .1 .1 .1 .1) (bytes-pair _ _ _ _ (the-loop-test .taken) (the-digit .ensures .0) (the-if1 .left) (the-if2 .left)))
     (the-take-byte .ensures)) (the-if3 .taken)
 
 loop-less-3 : tie.Need-loop-less-3 Inv-loop μ-loop
@@ -104,7 +104,7 @@ loop-again-3 c =
             the-take-byte .ensures .sound,
             (
               the-if3 .left,
-              goes-byte (goes-as (the-loop .inv .1 .1 .1 .1 .1) (bytes-pair _ _ _ _ (the-loop-test .taken) (the-digit .ensures) (the-if1 .left) (the-if2 .left)))
+              goes-byte (goes-as (the-loop .inv .1 .1 .1 .1 .1) (bytes-pair _ _ _ _ (the-loop-test .taken) (the-digit .ensures .0) (the-if1 .left) (the-if2 .left)))
                   (the-take-byte .ensures),
             ),
           ),

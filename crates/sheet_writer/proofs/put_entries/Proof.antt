@@ -50,7 +50,13 @@ put-links-requires c κs =
     let n = desk-counts d ok (the-index .ensures) (the-index2 .ensures) in
     let e = path-end d ok _ (omega (arith, lens)) (the-write-oid .ensures) in (
       (n .0, n .1 .1),
-      (n .1 .0, (length-set (the-Start .args .rows .now) 0 (the-matrix-row .result) ∙ lens .0, omega (arith, e, the-end-of .ensures))),
+      (
+        n .1 .0,
+        (
+          length-set (the-Start .args .rows .now) 0 (the-matrix-row .result) ∙ lens .0,
+          (the-write-oid .kept .1 .0 ∙ lens .1, omega (arith, e, the-end-of .ensures)),
+        ),
+      ),
     )
 
 add-result : tie.Need-add-result
@@ -58,7 +64,8 @@ add-result c =
     let the-Start = c .before .before .before .before .before .before .before .before .before .before .before .before .before .before .before .before .before .before in
     let the-index = c .before .before .before .before .before .before .before .before .before .before .before .before .before .before .index in
     let the-index2 = c .before .before .before .before .before .before .before .before .before .before .before .before .before .index2 in
-    let n = desk-counts (deskAt (the-Start .args .f) (the-Start .args .path .now) (the-Start .args .cells .now)) (the-Start .pre .0) (the-index .ensures) (the-index2 .ensures) in
+    let d = deskAt (the-Start .args .f) (the-Start .args .path .now) (the-Start .args .cells .now) in
+    let n = desk-counts d (the-Start .pre .0) (the-index .ensures) (the-index2 .ensures) in
     omega (arith, n .1 .0)
 
 same-length : tie.Need-same-length
@@ -82,7 +89,8 @@ returns c =
     let the-matrix-row = c .before .before .before .before .before .before .matrix-row in
     let the-put-links = c .before .before .before .put-links in
     let lens = the-Start .pre .1 in
-    entries-put (deskAt (the-Start .args .f) (the-Start .args .path .now) (the-Start .args .cells .now)) (the-Start .pre .0) (the-Start .args .rows .now) (omega (arith, lens))
+    let d = deskAt (the-Start .args .f) (the-Start .args .path .now) (the-Start .args .cells .now) in
+    entries-put d (the-Start .pre .0) (the-Start .args .rows .now) (omega (arith, lens))
     (the-Start .args .octets .now) (omega (arith, lens)) (the-write-oid .ensures) (the-end-of .ensures) (the-word .ensures) (the-matrix-row .ensures)
     (the-index .ensures) (the-index2 .ensures) (the-put-links .ensures)
 

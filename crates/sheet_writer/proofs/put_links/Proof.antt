@@ -29,7 +29,8 @@ put-link-requires c κs =
     let the-Start = c .before .before .before .before .before .before in
     let the-loop = c .before .before .before .loop in
     let the-loop-test = c .before .before .loop-test in
-    let a = rows-apart (the-loop .t) (the-Start .args .targets) (the-Start .args .w) (the-loop-test .taken) in ((omega (arith, a, the-Start .pre .0 .0), the-Start .pre .0 .1), omega arith)
+    let a = rows-apart (the-loop .t) (the-Start .args .targets) (the-Start .args .w) (the-loop-test .taken) in
+    ((omega (arith, a, the-Start .pre .0 .0), the-Start .pre .0 .1), omega arith)
 
 add-t : tie.Need-add-t Inv-loop μ-loop
 add-t c = omega arith

@@ -22,14 +22,14 @@ same-length-2 c = search needs
 returns-2 : tie.Need-returns-2
 returns-2 c = search needs
 
-digit-requires : tie.Need-digit-requires
-digit-requires c κs = search needs
+high-requires : tie.Need-high-requires
+high-requires c κs = search needs
 
 slice-write-space : tie.Need-slice-write-space
 slice-write-space c = search needs
 
-digit-requires-2 : tie.Need-digit-requires-2
-digit-requires-2 c κs = search needs
+low-requires : tie.Need-low-requires
+low-requires c κs = search needs
 
 add-space : tie.Need-add-space
 add-space c = search needs
@@ -56,9 +56,9 @@ pair-spec =
     sub-if2
     same-length-2
     returns-2
-    digit-requires
+    high-requires
     slice-write-space
-    digit-requires-2
+    low-requires
     add-space
     slice-write-space-2
     add-result
