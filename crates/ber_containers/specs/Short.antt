@@ -42,7 +42,10 @@ pub record Short (s : List ℕ) (p end n : ℕ) : Type 0 where
 abbrev pub Shortens : List ℕ → ℕ → ℕ → ℕ → Type 0
 Shortens s p end n = n < 129 → Short s p end n
 
+-- any answer that starts at a place is the tag at p
+abbrev pub TagTold : List ℕ → ℕ → Open → Tag → Type 0
+TagTold s p o t = (t .start ≡ notShut → ⊥) → standingAt s p o ≡ Here t
+
 -- any answer but notShut is the place after all that a container holds from a place on
-abbrev pub Passes : List ℕ → ℕ → ℕ → ℕ → ℕ → ℕ → Type 0
-Passes s from definite end k r =
-    (r ≡ notShut → ⊥) → (Through s k (record { definite = definite; end = end }) from (Next r)) × (from ≤ r)
+abbrev pub Passes : List ℕ → ℕ → Open → ℕ → ℕ → Type 0
+Passes s from o k r = (r ≡ notShut → ⊥) → (Through s k o from (Next r)) × (from ≤ r)

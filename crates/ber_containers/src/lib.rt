@@ -5,11 +5,12 @@ use ber_tags::Head;
 use ber_tags::Length;
 ghost use Prim.Native.Nat.{_+_, _-_, _≤_, _<_};
 ghost use mathlib.Core.Path.{_≡_};
+ghost use mathlib.Core.Bool.{true};
 ghost use lib.ListN.{length};
 ghost use lib.Dec.{eqb};
 ghost use Rattle.ber_containers.specs.Ends.{openOf, bit, zeroAt, closingAt, standingAt, deep, enterAt, firstAt, lastAt, isTag};
 ghost use Rattle.ber_containers.specs.Passing.{skipped, crossAt, Through, passedAt};
-ghost use Rattle.ber_containers.specs.Short.{shortTag, Shuts, Shortens, Passes};
+ghost use Rattle.ber_containers.specs.Short.{notShut, shortTag, Shuts, Shortens, TagTold, Passes};
 ghost use Rattle.ber_containers.specs.Progress.{Fits, Onward, FoundOnward, OntoOnward, CrossOnward};
 
 // What a quick answer says where the place after the container's end is not told: no place in a message.
@@ -448,65 +449,104 @@ fn through(s: &[u8], from: usize, o: Open, k: usize) -> Onto
     }
 }
 
-// The same by numbers alone: the place after the container's end, or 2^64 - 1 where that is for `through` to say.
-fn over(s: &[u8], from: usize, definite: u64, end: usize, k: usize) -> usize
-    ensures { λ r. ⌜ Passes (now (s .entry)) from definite end k r ⌝ }
+// A tag that stands nowhere.
+fn no_tag() -> Tag
+    ensures { λ r. ⌜ r .start ≡ notShut ⌝ }
 {
+    Tag {
+        class: 0,
+        constructed: 0,
+        number: 0,
+        start: NOT_SHUT,
+        inner: Open {
+            definite: 1,
+            end: NOT_SHUT,
+        },
+    }
+}
+
+// The tag at p in the open container o; its start is 2^64 - 1 where none is told.
+fn tag_at(s: &[u8], p: usize, o: Open) -> Tag
+    ensures { λ r. ⌜ TagTold (now (s .entry)) p o r ⌝ }
+{
+    let end = o.end;
+    let n = short(s, p, end);
+    if n < 129 {
+        return short_tag(s[p], p + 2, n, end);
+    }
+    match standing(s, p, o) {
+        Stands::Ended(next) => no_tag(),
+        Stands::Refused(n) => no_tag(),
+        Stands::Here(t) => t,
+    }
+}
+
+// Whether one more container may be open, and the stack has a cell for it.
+fn has_room(d: usize, k: usize) -> bool
+    ensures { λ r. ⌜ (r ≡ true → (d < k) × (d < 64)) ⌝ }
+{
+    if k <= d {
+        return false;
+    }
+    d < 64
+}
+
+// The same by numbers alone, with the containers around the open one on a stack: the place after the container's end, or 2^64 - 1
+// where that is for `through` to say.
+fn nests(s: &[u8], from: usize, o: Open, k: usize) -> usize
+    ensures { λ r. ⌜ Passes (now (s .entry)) from o k r ⌝ }
+{
+    let mut forms = [0u64; 64];
+    let mut ends = [0usize; 64];
+    let mut d = 0;
     let mut p = from;
+    let mut here = o;
     loop {
-        let o = Open { definite, end };
-        let z = shut(s, p, o);
+        let z = shut(s, p, here);
         if z != NOT_SHUT {
-            return z;
-        }
-        let n = short(s, p, end);
-        if n < 129 {
-            let quick = short_tag(s[p], p + 2, n, end);
-            let within = quick.inner;
-            if quick.constructed == 1 {
-                if k == 0 {
-                    return NOT_SHUT;
-                }
-                let q = over(s, quick.start, within.definite, within.end, k - 1);
-                if q == NOT_SHUT {
-                    return NOT_SHUT;
-                }
-                p = q;
-            } else {
-                if s.len() < within.end {
-                    return NOT_SHUT;
-                }
-                p = within.end;
+            if d == 0 {
+                return z;
             }
+            d = d - 1;
+            p = z;
+            here = Open {
+                definite: forms[d],
+                end: ends[d],
+            };
         } else {
-            match standing(s, p, o) {
-                Stands::Ended(next) => {
+            let t = tag_at(s, p, here);
+            if t.start == NOT_SHUT {
+                return NOT_SHUT;
+            }
+            let inner = t.inner;
+            if t.constructed == 1 {
+                if !has_room(d, k) {
                     return NOT_SHUT;
                 }
-                Stands::Refused(n) => {
+                forms[d] = here.definite;
+                ends[d] = here.end;
+                d = d + 1;
+                p = t.start;
+                here = inner;
+            } else {
+                if s.len() < inner.end {
                     return NOT_SHUT;
                 }
-                Stands::Here(t) => {
-                    let inner = t.inner;
-                    if t.constructed == 1 {
-                        if k == 0 {
-                            return NOT_SHUT;
-                        }
-                        let r = over(s, t.start, inner.definite, inner.end, k - 1);
-                        if r == NOT_SHUT {
-                            return NOT_SHUT;
-                        }
-                        p = r;
-                    } else {
-                        if s.len() < inner.end {
-                            return NOT_SHUT;
-                        }
-                        p = inner.end;
-                    }
-                }
+                p = inner.end;
             }
         }
     }
+}
+
+// The same; nothing is laid out for a container that is empty.
+pub fn over(s: &[u8], from: usize, o: Open, k: usize) -> usize
+    ensures { λ r. ⌜ Passes (now (s .entry)) from o k r ⌝ }
+{
+    let z = shut(s, from, o);
+    if z != NOT_SHUT {
+        return z;
+    }
+    nests(s, from, o, k)
 }
 
 // A tag's value, passed over.
@@ -516,7 +556,7 @@ pub fn passed(s: &[u8], t: Tag, k: usize) -> Onto
 {
     if t.constructed == 1 {
         let inner = t.inner;
-        let z = over(s, t.start, inner.definite, inner.end, k);
+        let z = over(s, t.start, inner, k);
         if z != NOT_SHUT {
             return Onto::Next(z);
         }

@@ -14,8 +14,10 @@ use Rattle.ber_containers.specs.declared.Stands.the-variants.{Here}
 use Rattle.ber_containers.specs.declared.Found.the-variants.{Value}
 use Rattle.ber_containers.specs.declared.Onto.the-variants.{Next}
 use Rattle.ber_containers.specs.Ends.{no, deep, standingAt, enterAt, firstAt, lastAt, isTag}
+use Rattle.ber_containers.specs.Passing.{Through, passedAt}
 use Rattle.ber_containers.specs.Short.{shortTag, Short}
 use Rattle.ber_containers.proofs.Laws.{standing-ended, enter-here, first-here, last-ended, tag-form, deep-in, deep-not}
+use Rattle.ber_containers.proofs.Laws.{skip-next, passed-in, passed-skip}
 use Rattle.glow_rows.specs.declared.Cell.{Cell}
 use Rattle.glow_grammar.specs.declared.Leaf.the-variants.{Kept, Refused as Unfit}
 use Rattle.glow_grammar.specs.Grammar.{ruleOf, kindIn, innerClass, innerNumber, collectionOf}
@@ -24,8 +26,8 @@ use Rattle.glow_steps.specs.declared.Member.{Member}
 use Rattle.glow_steps.specs.declared.Member.the-variants.{Leaf as Cell-of, Contents, Items, Refused as NoMember}
 use Rattle.glow_steps.specs.declared.Item.the-variants.{Element}
 use Rattle.glow_steps.specs.Members.{inOrder, again, afterListed, column, plainAt, innerAt, listedAt, ruledAt, memberAt, kindOf, itemAt}
-use Rattle.glow_steps.specs.Brief.{openedBy, tagIn, Pair, Nested, NextRule, Suits, MemberTold, KindTold, ItemTold}
-use Rattle.glow_steps.proofs.Laws.{rule-small, member-ruled, ruled-listed, listed-plain, listed-inner, plain-no, plain-kept}
+use Rattle.glow_steps.specs.Brief.{openedBy, tagIn, Pair, Nested, NextRule, Suits, MemberTold, Unlisted, OverTold, KindTold, ItemTold}
+use Rattle.glow_steps.proofs.Laws.{rule-small, member-ruled, ruled-over, ruled-listed, listed-plain, listed-inner, plain-no, plain-kept}
 use Rattle.glow_steps.proofs.Laws.{inner-contents, inner-items, kind-held, item-element}
 
 abbrev definite : ℕ → Open
@@ -328,3 +330,43 @@ module _ (s : List ℕ) (p : ℕ) (o : Open) (k which kind : ℕ) (h : ItemTold 
   quick-element {len} {x} el ex =
       let e : inside s p o k (h .room) (h .pair) ≡ x = ap (λ (y : ℕ). openedBy (p + 4) y (o .end)) (sym el) ∙ ex in
       told-element ∙ ap (λ (y : Open). Element kind y (tagIn (getD s (p + 2) 0) (p + 4) y) (k - 1)) e
+
+-- a member that is not listed, passed over at once
+pub unlisted-is : (b row before : ℕ) {n what : ℕ} → b / 64 ≡ 2 → n ≡ b % 32 → ruleOf row n ≡ what → what ≡ 0 → inOrder row before n ≡ true
+    → Unlisted b row before
+unlisted-is b row before c e r z o = record {
+  class = c;
+  rule = ap (λ m. ruleOf row m) (sym e) ∙ r ∙ z;
+  order = ap (λ m. inOrder row before m) (sym e) ∙ o;
+}
+
+module _ (s : List ℕ) (p b l end k : ℕ) where
+  pub past-plain : l < 128 → b % 64 < 32 → p + 2 + l ≤ length s → passedAt s (shortTag b (p + 2) l end) k ≡ Next (p + 2 + l)
+  past-plain h f m =
+      ap (λ (t : Tag). passedAt s t k) (short-definite b (p + 2) l end h)
+      ∙ passed-skip s (tagIn b (p + 2) (definite (p + 2 + l))) k (λ q. omega arith)
+      ∙ skip-next s (tagIn b (p + 2) (definite (p + 2 + l))) m
+
+  pub past-in : {r : ℕ} → l < 128 → 32 ≤ b % 64 → Through s k (definite (p + 2 + l)) (p + 2) (Next r)
+      → passedAt s (shortTag b (p + 2) l end) k ≡ Next r
+  past-in h f i =
+      let c : b % 64 / 32 ≡ 1 = omega arith in
+      ap (λ (t : Tag). passedAt s t k) (short-definite b (p + 2) l end h) ∙ passed-in s (tagIn b (p + 2) (definite (p + 2 + l))) k c i
+
+  pub past-open : {r : ℕ} → l ≤ 128 → 128 ≤ l → 32 ≤ b % 64 → Through s k (indefinite end) (p + 2) (Next r)
+      → passedAt s (shortTag b (p + 2) l end) k ≡ Next r
+  past-open m n f i =
+      let h : l ≡ 128 = omega arith in
+      let c : b % 64 / 32 ≡ 1 = omega arith in
+      ap (λ (t : Tag). passedAt s t k) (short-open b (p + 2) l end h) ∙ passed-in s (tagIn b (p + 2) (indefinite end)) k c i
+
+pub over-told : (s : List ℕ) (p end k row before : ℕ) {l r : ℕ} → (k ≡ 0 → ⊥) → Short s p end l → Unlisted (getD s p 0) row before
+    → passedAt s (shortTag (getD s p 0) (p + 2) l end) (k - 1) ≡ Next r → p < r → OverTold s p end k row before r
+unfolding shortTag
+over-told s p end k row before {l} z h u e m = record {
+  inside = omega (arith, h .inside);
+  later = m;
+  over = λ o above q.
+      member-ruled s p o k row above before (enter-here s p o k (h .stands o q) (deep-room _ k z)) (u .class) (u .order)
+      ∙ ruled-over s p (shortTag (getD s p 0) (p + 2) l end) (k - 1) row above before _ (u .rule) e;
+}

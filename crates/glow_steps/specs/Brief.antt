@@ -9,9 +9,13 @@ use Rattle.base_choices.specs.Choices.{pick}
 use Rattle.ber_containers.specs.declared.Open.{Open}
 use Rattle.ber_containers.specs.declared.Tag.{Tag}
 use Rattle.ber_containers.specs.declared.Stands.the-variants.{Here}
+use Rattle.ber_containers.specs.declared.Onto.the-variants.{Next}
 use Rattle.ber_containers.specs.Ends.{standingAt}
+use Rattle.ber_containers.specs.Passing.{passedAt}
+use Rattle.ber_containers.specs.Short.{notShut, shortTag}
 use Rattle.glow_grammar.specs.Grammar.{body, kids, context, application, universal, itemTag, set, sequence, elementCollection, octetOf, ruleOf, kindIn}
-use Rattle.glow_steps.specs.Members.{inOrder, again}
+use Rattle.glow_steps.specs.declared.Member.the-variants.{Over}
+use Rattle.glow_steps.specs.Members.{inOrder, again, afterOther, memberAt}
 
 -- the open container of a tag of the length n (128: indefinite), in a container that ends at `end`
 unfoldable pub openedBy : ℕ → ℕ → ℕ → Open
@@ -52,6 +56,22 @@ pub record MemberTold (s : List ℕ) (p end k row before what : ℕ) : Type 0 wh
   pub pair : Pair s p end (getD s (p + 3) 0)
   pub rule : NextRule (getD s p 0) row before what
   pub suits : Suits what (getD s (p + 2) 0) (getD s (p + 3) 0)
+
+-- the octet of a context tag whose member is not listed, and in order
+pub record Unlisted (b row before : ℕ) : Type 0 where
+  pub class : b / 64 ≡ 2
+  pub rule : ruleOf row (b % 32) ≡ 0
+  pub order : inOrder row before (b % 32) ≡ true
+
+-- any answer but notShut is the place after the value of a tag at p, of one octet, with the length l
+abbrev pub Pasts : List ℕ → ℕ → ℕ → ℕ → ℕ → ℕ → ℕ → Type 0
+Pasts s p b l end k r = (r ≡ notShut → ⊥) → (passedAt s (shortTag b (p + 2) l end) k ≡ Next r) × (p < r)
+
+-- `next` is the place after a member at p that is not listed
+pub record OverTold (s : List ℕ) (p end k row before next : ℕ) : Type 0 where
+  pub inside : p < length s
+  pub later : p < next
+  pub over : (o : Open) (above : ℕ) → o .end ≡ end → memberAt s p o k row above before ≡ Over (afterOther row before (getD s p 0 % 32)) next
 
 -- the octets of an item's tag and of an application tag that names a kind
 pub record KindTold (which item b kind : ℕ) : Type 0 where

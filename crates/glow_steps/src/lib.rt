@@ -12,15 +12,15 @@ use glow_grammar::collections;
 use glow_grammar::rules;
 use glow_grammar::tags;
 use glow_rows::Cell;
-ghost use Prim.Native.Nat.{_+_, _-_, _≤_, _<_};
+ghost use Prim.Native.Nat.{_+_, _-_, _%_, _≤_, _<_};
 ghost use mathlib.Core.Path.{_≡_};
 ghost use mathlib.Core.Bool.{true};
 ghost use Rattle.ber_containers.specs.Progress.{Ahead};
-ghost use Rattle.ber_containers.specs.Short.{Short};
+ghost use Rattle.ber_containers.specs.Short.{Short, notShut};
 ghost use Rattle.glow_grammar.specs.Grammar.{ruleOf, innerClass, innerNumber, collectionOf, rootOf};
 ghost use Rattle.glow_steps.specs.Members.{marked, mark, due, inOrder, again, afterListed, afterOther, column};
 ghost use Rattle.glow_steps.specs.Members.{plainAt, innerAt, listedAt, ruledAt, memberAt, kindOf, itemAt};
-ghost use Rattle.glow_steps.specs.Brief.{Nested, NextRule, Suits, MemberTold, KindTold, ItemTold};
+ghost use Rattle.glow_steps.specs.Brief.{Nested, NextRule, Suits, MemberTold, Unlisted, Pasts, OverTold, KindTold, ItemTold};
 ghost use Rattle.glow_steps.specs.Root.{rootKind, topAt};
 ghost use Rattle.glow_steps.specs.Progress.{MemberOnward, InnerOnward, ItemOnward};
 
@@ -363,6 +363,75 @@ pub fn rule_at(s: &[u8], p: usize, end: usize, k: usize, row: u64, before: u64) 
         return rules::NONE;
     }
     rule_by(s[p], s[p + 2], n, row, before)
+}
+
+// What came before, after the member of the tag b that is not listed.
+pub fn after_unlisted(row: u64, before: u64, b: u8) -> u64
+    ensures { λ r. ⌜ afterOther row before (b % 32) ≡ r ⌝ }
+{
+    after_other(row, before, wide(b % 32))
+}
+
+// Whether the tag b is of a member that is not listed and may come now.
+fn is_unlisted(b: u8, row: u64, before: u64) -> bool
+    ensures { λ r. ⌜ (r ≡ true → Unlisted b row before) ⌝ }
+{
+    if b / 64 != 2 {
+        return false;
+    }
+    let n = wide(b % 32);
+    if glow_grammar::rule_of(row, n) != rules::NONE {
+        return false;
+    }
+    in_order(row, before, n)
+}
+
+// The place after the value of the tag b at p, of the length l (128: indefinite); 2^64 - 1 where that is for the general turn to say.
+fn past(s: &[u8], p: usize, b: u8, l: usize, end: usize, k: usize) -> usize
+    requires { ⌜ (l ≤ 128) × (Short (now s) p end l) ⌝ }
+    ensures { λ r. ⌜ Pasts (now (s .entry)) p b l end k r ⌝ }
+{
+    let start = p + 2;
+    if 128 <= l {
+        if b % 64 < 32 {
+            return ber_containers::NOT_SHUT;
+        }
+        return ber_containers::over(s, start, Open { definite: 0, end }, k);
+    }
+    let next = start + l;
+    if b % 64 < 32 {
+        if s.len() < next {
+            return ber_containers::NOT_SHUT;
+        }
+        return next;
+    }
+    ber_containers::over(
+        s,
+        start,
+        Open {
+            definite: 1,
+            end: next,
+        },
+        k,
+    )
+}
+
+// The place after a member at p that is not listed, if its tag and length take one octet each; 2^64 - 1 where that is for the
+// general turn to say.
+pub fn over_at(s: &[u8], p: usize, end: usize, k: usize, row: u64, before: u64) -> usize
+    ensures { λ r. ⌜ ((r ≡ notShut → ⊥) → OverTold (now (s .entry)) p end k row before r) ⌝ }
+{
+    if k == 0 {
+        return ber_containers::NOT_SHUT;
+    }
+    let l = ber_containers::short(s, p, end);
+    if 128 < l {
+        return ber_containers::NOT_SHUT;
+    }
+    if is_unlisted(s[p], row, before) {
+        return past(s, p, s[p], l, end, k - 1);
+    }
+    ber_containers::NOT_SHUT
 }
 
 // One turn of the members of a row.

@@ -264,10 +264,15 @@ fn nested(
     ensures { λ r. ⌜ MembersTurn (now (s .entry)) k o row me at (now (table .entry)) (now (table .exit)) r ⌝ }
     ensures { λ r. ⌜ TurnOnward (now (s .entry)) (at .place) (at .count) r ⌝ }
 {
+    let p = at.place;
     if what == rules::NONE {
+        let z = glow_steps::over_at(s, p, o.end, k, row, at.before);
+        if z != ber_containers::NOT_SHUT {
+            let after = glow_steps::after_unlisted(row, at.before, s[p]);
+            return on(z, after, at.above, at.count);
+        }
         return general(s, o, k, row, me, at, table);
     }
-    let p = at.place;
     let after = glow_steps::after_listed(row, at.before, wide(s[p] % 32));
     let from = p + 4;
     let inner = opened(from, size(s[p + 3]), o.end);

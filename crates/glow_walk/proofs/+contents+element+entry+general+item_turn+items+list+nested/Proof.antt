@@ -48,6 +48,8 @@ use Rattle.glow_grammar.proofs.contents_of.Reads as contents-of-reads
 use Rattle.glow_rows.proofs.blank.Reads as blank-reads
 use Rattle.glow_rows.proofs.put_cell.Reads as put-cell-reads
 use Rattle.glow_steps.proofs.after_listed.Reads as after-listed-reads
+use Rattle.glow_steps.proofs.after_unlisted.Reads as after-unlisted-reads
+use Rattle.glow_steps.proofs.over_at.Reads as over-at-reads
 use Rattle.glow_steps.proofs.collection_of.Reads as collection-of-reads
 use Rattle.glow_steps.proofs.item_at.Reads as item-at-reads
 use Rattle.glow_steps.proofs.kind_at.Reads as kind-at-reads
@@ -936,6 +938,12 @@ list-returns t c =
 
 abbrev nested-calls : ℕ → nested-lts.Claims
 nested-calls t = (
+  over-at-reads.Asked,
+  over-at-reads.Learnt,
+  after-unlisted-reads.Asked,
+  after-unlisted-reads.Learnt,
+  on-reads.Asked,
+  on-reads.Learnt,
   general-below t,
   general.Post,
   wide-reads.Asked,
@@ -956,9 +964,35 @@ nested-calls t = (
   list.Post,
 )
 
+nested-over-at-requires : (t : ℕ) → nested-lts.Need-over-at-requires (nested-calls t) (nested-at t) nested.Post
+nested-over-at-requires t c κs = search needs
+
+nested-shared-slice-read-after-unlisted : (t : ℕ) → nested-lts.Need-shared-slice-read-after-unlisted (nested-calls t) (nested-at t) nested.Post
+nested-shared-slice-read-after-unlisted t c =
+    let the-over-at = c .before .before .over-at in
+    let the-if2 = c .before .if2 in
+    let q = the-over-at .ensures (the-if2 .taken) in
+    omega (arith, q .inside)
+
+nested-after-unlisted-requires : (t : ℕ) → nested-lts.Need-after-unlisted-requires (nested-calls t) (nested-at t) nested.Post
+nested-after-unlisted-requires t c κs = search needs
+
+nested-on-requires : (t : ℕ) → nested-lts.Need-on-requires (nested-calls t) (nested-at t) nested.Post
+nested-on-requires t c κs = search needs
+
+nested-returns : (t : ℕ) → nested-lts.Need-returns (nested-calls t) (nested-at t) nested.Post
+nested-returns t c =
+    let the-Start = c .before .before .before .before .before .before .before in
+    let the-over-at = c .before .before .before .before .over-at in
+    let the-if2 = c .before .before .before .if2 in
+    let the-after-unlisted = c .before .after-unlisted in
+    let the-on = c .on in
+    let q = the-over-at .ensures (the-if2 .taken) in
+    turn-over _ _ _ _ _ _ (rw (← the-after-unlisted .ensures) (q .over _ _ refl)) (q .inside) (q .later) (the-Start .pre .1 .enough) (the-on .ensures)
+
 nested-general-requires : (t : ℕ) → nested-lts.Need-general-requires (nested-calls t) (nested-at t) nested.Post
 nested-general-requires t c κs =
-    let the-Start = c .before .before .before in
+    let the-Start = c .before .before .before .before .before in
     let q = the-Start .pre .1 in (omega arith, (q .mine, q .enough))
 
 nested-same-length : (t : ℕ) → nested-lts.Need-same-length (nested-calls t) (nested-at t) nested.Post
@@ -966,8 +1000,8 @@ nested-same-length t c =
     let the-general = c .before .general in
     the-general .kept .1 .1 .1 .1 .1 .1 .0
 
-nested-returns : (t : ℕ) → nested-lts.Need-returns (nested-calls t) (nested-at t) nested.Post
-nested-returns t c =
+nested-returns-2 : (t : ℕ) → nested-lts.Need-returns-2 (nested-calls t) (nested-at t) nested.Post
+nested-returns-2 t c =
     let the-general = c .before .general in
     the-general .ensures
 
@@ -1035,22 +1069,22 @@ nested-same-length-2 t c =
     let the-contents = c .before .before .contents in
     the-contents .kept .1 .1 .1 .1 .1 .1 .1 .1 .0
 
-nested-returns-2 : (t : ℕ) → nested-lts.Need-returns-2 (nested-calls t) (nested-at t) nested.Post
-nested-returns-2 t c =
+nested-returns-3 : (t : ℕ) → nested-lts.Need-returns-3 (nested-calls t) (nested-at t) nested.Post
+nested-returns-3 t c =
     let the-Start = c .before .before .before .before .before .before .before .before .before .before .before .before .before in
     let the-if1 = c .before .before .before .before .before .before .before .before .before .before .before .if1 in
     let the-wide = c .before .before .before .before .before .before .before .before .before .wide in
     let the-after-listed = c .before .before .before .before .before .before .before .before .after-listed in
     let the-size = c .before .before .before .before .before .before .size in
     let the-opened = c .before .before .before .before .before .opened in
-    let the-if2 = c .before .before .before .before .if2 in
+    let the-if3 = c .before .before .before .before .if3 in
     let the-contents = c .before .before .contents in
     let the-onward = c .onward in
     let q = the-Start .pre .1 in
     let h = q .told (the-if1 .left) in
     let i = h .pair .inside in
     turn-contents _ _ _ _ _ _
-    (quick-contents _ _ _ _ _ _ _ _ h (the-if1 .left) (the-wide .ensures .0) (the-size .ensures) (the-after-listed .ensures .0) (the-opened .ensures) (the-if2 .taken))
+    (quick-contents _ _ _ _ _ _ _ _ h (the-if1 .left) (the-wide .ensures .0) (the-size .ensures) (the-after-listed .ensures .0) (the-opened .ensures) (the-if3 .taken))
     (omega (arith, i)) (omega arith) (the-contents .ensures .0) (the-contents .ensures .1) (the-onward .ensures)
 
 nested-collection-of-requires : (t : ℕ) → nested-lts.Need-collection-of-requires (nested-calls t) (nested-at t) nested.Post
@@ -1088,15 +1122,15 @@ nested-same-length-3 t c =
     let the-list = c .before .before .list in
     the-list .kept .1 .1 .1 .1 .1 .1 .1 .1 .0
 
-nested-returns-3 : (t : ℕ) → nested-lts.Need-returns-3 (nested-calls t) (nested-at t) nested.Post
-nested-returns-3 t c =
+nested-returns-4 : (t : ℕ) → nested-lts.Need-returns-4 (nested-calls t) (nested-at t) nested.Post
+nested-returns-4 t c =
     let the-Start = c .before .before .before .before .before .before .before .before .before .before .before .before .before .before in
     let the-if1 = c .before .before .before .before .before .before .before .before .before .before .before .before .if1 in
     let the-wide = c .before .before .before .before .before .before .before .before .before .before .wide in
     let the-after-listed = c .before .before .before .before .before .before .before .before .before .after-listed in
     let the-size = c .before .before .before .before .before .before .before .size in
     let the-opened = c .before .before .before .before .before .before .opened in
-    let the-if2 = c .before .before .before .before .before .if2 in
+    let the-if3 = c .before .before .before .before .before .if3 in
     let the-collection-of = c .before .before .before .before .collection-of in
     let the-list = c .before .before .list in
     let the-onward2 = c .onward2 in
@@ -1106,7 +1140,7 @@ nested-returns-3 t c =
     let b = q .holds (the-if1 .left) in
     turn-items _ _ _ _ _ _
     (quick-items _ _ _ _ _ _ _ _ h (the-if1 .left) (the-wide .ensures .0) (the-size .ensures) (the-after-listed .ensures .0)
-    (the-opened .ensures) (omega (arith, b, the-if2 .left)) (the-collection-of .ensures))
+    (the-opened .ensures) (omega (arith, b, the-if3 .left)) (the-collection-of .ensures))
     (omega (arith, i)) (omega arith) (the-list .ensures .0) (the-list .ensures .1) (the-onward2 .ensures)
 
 pub +contents+element+entry+general+item-turn+items+list+nested-spec : {M : Type 1} → statement M
@@ -1238,9 +1272,14 @@ pub +contents+element+entry+general+item-turn+items+list+nested-spec : {M : Type
     (list-same-length t)
     (list-returns t))
     λ t. nested-lts.spec (nested-calls t) (nested-at t) nested.Post
+    (nested-over-at-requires t)
+    (nested-shared-slice-read-after-unlisted t)
+    (nested-after-unlisted-requires t)
+    (nested-on-requires t)
+    (nested-returns t)
     (nested-general-requires t)
     (nested-same-length t)
-    (nested-returns t)
+    (nested-returns-2 t)
     (nested-shared-slice-read-wide t)
     (nested-wide-requires t)
     (nested-after-listed-requires t)
@@ -1253,11 +1292,11 @@ pub +contents+element+entry+general+item-turn+items+list+nested-spec : {M : Type
     (nested-contents-requires t)
     (nested-onward-requires t)
     (nested-same-length-2 t)
-    (nested-returns-2 t)
+    (nested-returns-3 t)
     (nested-collection-of-requires t)
     (nested-add-parent t)
     (nested-sub-list t)
     (nested-list-requires t)
     (nested-onward-requires-2 t)
     (nested-same-length-3 t)
-    (nested-returns-3 t)
+    (nested-returns-4 t)
