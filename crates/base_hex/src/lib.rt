@@ -3,30 +3,33 @@ ghost use mathlib.Core.Path.{_≡_};
 ghost use Prim.Native.Nat.{_/_, _%_, _≤_, _<_};
 ghost use Rattle.base_hex.specs.Digits.{digitOf, glyphOf};
 
+// What is no digit.
+pub const NO_DIGIT: u8 = 16;
+
 // The value of a digit of either case, 16 for any other byte.
 pub fn digit(b: u8) -> u8
     ensures { λ r. ⌜ digitOf b ≡ r ⌝ }
     ensures { λ r. ⌜ r ≤ 16 ⌝ }
 {
     if b < 48 {
-        return 16;
+        return NO_DIGIT;
     }
     if b < 58 {
         return b - 48;
     }
     if b < 65 {
-        return 16;
+        return NO_DIGIT;
     }
     if b < 71 {
         return b - 55;
     }
     if b < 97 {
-        return 16;
+        return NO_DIGIT;
     }
     if b < 103 {
         return b - 87;
     }
-    16
+    NO_DIGIT
 }
 
 // A digit, in upper case.

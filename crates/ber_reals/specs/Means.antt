@@ -19,7 +19,8 @@ abbrev pub Means : List ℕ → Float → Type 0
 Means [] x = x ≡ fin false 0 (pos 0)
 Means (first ∷ []) x = ((first ≡ 0x40) × (x ≡ inf false)) ⊎ ((first ≡ 0x41) × (x ≡ inf true))
 Means (first ∷ (second ∷ rest)) x =
-    T (wellFormed first (second ∷ rest)) × (0 < mantissa first (second ∷ rest)) × Equals x (negative first) (mantissa first (second ∷ rest)) (power first (second ∷ rest))
+    T (wellFormed first (second ∷ rest)) × (0 < mantissa first (second ∷ rest))
+    × Equals x (negative first) (mantissa first (second ∷ rest)) (power first (second ∷ rest))
 
 -- "scale 0, odd mantissa": the form that is written, among all that are read
 abbrev pub Plain : List ℕ → Type 0

@@ -38,7 +38,8 @@ exponentOctets first = first % 4 + 1
 -- "binary, base 2, exponent of 1 to 3 octets (forms 00, 01, 10), .., mantissa of 1 to 8 octets"
 unfoldable pub wellFormed : ℕ → List ℕ → Bool
 wellFormed first rest =
-    binary first && (eqb (base first) 0 && (leb (exponentOctets first) 3 && (ltb (exponentOctets first) (length rest) && leb (length rest) (exponentOctets first + 8))))
+    binary first && (eqb (base first) 0 && (leb (exponentOctets first) 3
+    && (ltb (exponentOctets first) (length rest) && leb (length rest) (exponentOctets first + 8))))
 
 abbrev pub mantissa : ℕ → List ℕ → ℕ
 mantissa first rest = natural (drop (exponentOctets first) rest)

@@ -2,11 +2,15 @@
 use base_casts::index;
 use desk_connections::asked_at;
 use desk_crosspoints::Figures;
+use desk_crosspoints::ONE_TO_ONE;
 use desk_crosspoints::SIDE;
 use desk_sources::sources_of;
+use glow_member_sizes::MESSAGE_LIMIT;
 use glow_paths::is_path;
 use glow_reader::Answer;
 use glow_rows::KIND;
+use glow_rows::MOST_BYTES;
+use glow_rows::MOST_ENTRIES;
 use glow_rows::PARENT;
 use glow_rows::kinds;
 use glow_rows::word_at;
@@ -66,10 +70,10 @@ fn free(f: Figures, sources: &[u64], operation: u64, ones: u64, cells: &mut [u8]
     requires { ⌜ count (named (f .sources) (now sources)) ≡ ones ⌝ }
     ensures { λ _. ⌜ now (cells .exit) ≡ others f (now (sources .entry)) operation (now (cells .entry)) ⌝ }
 {
-    if f.kind != 1 {
+    if f.kind != ONE_TO_ONE {
         return;
     }
-    if 2 <= operation {
+    if desk_requests::DISCONNECT <= operation {
         return;
     }
     if ones != 1 {
@@ -272,16 +276,16 @@ pub fn call(
     ensures { λ r. ⌜ called (deskAt f (now (path .entry)) (now (crosspoints .entry))) root (now (rows .entry)) count (now (s .entry))
         ≡ outcomeOf r (now (crosspoints .exit)) ⌝ }
 {
-    if 256 < rows.len() {
+    if MOST_ENTRIES < rows.len() {
         return unready();
     }
-    if 16384 < s.len() {
+    if MOST_BYTES < s.len() {
         return unready();
     }
     if !desk_crosspoints::desk_is_legal(f, path, crosspoints) {
         return unready();
     }
-    if 16384 < glow_sizes::measure(rows, count, root, s, true) {
+    if MESSAGE_LIMIT < glow_sizes::measure(rows, count, root, s, true) {
         return unready();
     }
     let mut answers = [0u8; 256];

@@ -20,7 +20,9 @@ ask matrix target sources operation = record { matrix = matrix; target = target;
 
 -- "Connection: target 0, sources 1, operation 2"; "A missing list is empty"; "absolute (0, default)"
 unfoldable pub askOf : List Item → Item → Ask
-askOf es e = ask (fullPath es (e .parent)) (numberOf (memberOf e place.target)) (numbersIn (octetsOf (memberOf e place.connectionSources))) (numberOf (memberOf e place.operation))
+askOf es e =
+    ask (fullPath es (e .parent)) (numberOf (memberOf e place.target))
+    (numbersIn (octetsOf (memberOf e place.connectionSources))) (numberOf (memberOf e place.operation))
 
 -- of the entries that are left those that are connections, in order; no other entry asks anything
 unfoldable pub asksIn : List Item → List Item → List Ask

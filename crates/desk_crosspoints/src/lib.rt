@@ -13,6 +13,11 @@ ghost use Rattle.desk_crosspoints.specs.Desk.{deskAt, pathFits, deskLega
 // The most targets and the most sources of a desk.
 pub const SIDE: usize = 64;
 
+// The types of a desk that have rules of their own; 1:N is 0.
+pub const ONE_TO_ONE: u64 = 1;
+
+pub const N_TO_N: u64 = 2;
+
 // A limit where it was given.
 pub enum Limit {
     Absent,
@@ -55,7 +60,7 @@ fn is_limit(l: Limit) -> bool
 pub fn figures_fit(f: Figures) -> bool
     ensures { λ r. ⌜ figuresFit f ≡ r ⌝ }
 {
-    if 2 < f.kind {
+    if N_TO_N < f.kind {
         return false;
     }
     if !is_count(f.targets) {
@@ -86,7 +91,7 @@ fn limit_or(l: Limit, n: u64) -> u64
 pub fn most_each(f: Figures) -> u64
     ensures { λ r. ⌜ mostEach f ≡ r ⌝ }
 {
-    if f.kind == 2 {
+    if f.kind == N_TO_N {
         let each = f.each;
         return limit_or(each, f.sources);
     }
@@ -278,10 +283,10 @@ fn kind_fits(f: Figures, cells: &[u8]) -> bool
     requires { ⌜ length (now cells) ≡ cellsOf f ⌝ }
     ensures { λ r. ⌜ kindFits f (now (cells .entry)) ≡ r ⌝ }
 {
-    if f.kind == 1 {
+    if f.kind == ONE_TO_ONE {
         return sources_fit(index(f.targets), index(f.sources), cells);
     }
-    if f.kind == 2 {
+    if f.kind == N_TO_N {
         return in_total(f, count(cells));
     }
     true

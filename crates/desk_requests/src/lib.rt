@@ -2,6 +2,7 @@
 // first, is in desk_calls.
 use base_casts::index;
 use desk_crosspoints::Figures;
+use desk_crosspoints::N_TO_N;
 ghost use mathlib.Core.Path.{_≡_};
 ghost use mathlib.Core.List.{[]};
 ghost use mathlib.Core.Bool.{true};
@@ -9,11 +10,16 @@ ghost use Prim.Native.Nat.{_+_, _-_, _*_, _≤_};
 ghost use lib.Dec.{ltb, eqb};
 ghost use lib.ListN.{length, set};
 ghost use Rattle.base_choices.specs.Choices.{pick, both};
-ghost use Rattle.desk_crosspoints.specs.Figures.{side, mostCells, cellsOf, mostEach, mostTotal};
+ghost use Rattle.desk_crosspoints.specs.Figures.{nToN, side, mostCells, cellsOf, mostEach, mostTotal};
 ghost use Rattle.desk_crosspoints.specs.Crosspoints.{count, rowAt};
 ghost use Rattle.desk_crosspoints.specs.Desk.{deskAt};
 ghost use Rattle.desk_requests.specs.Request.{request, marked, named, becomes, allBelow, rowAfter, judged};
 ghost use Rattle.desk_requests.specs.Steps.{fits, told};
+
+// The operations of a request (001); absolute is 0.
+pub const CONNECT: u64 = 1;
+
+pub const DISCONNECT: u64 = 2;
 
 // The number of the first check that fails, 0 where none does, and how many sources are named.
 pub struct Judged {
@@ -57,9 +63,9 @@ fn put(cells: &mut [u8], at: u64, v: u8)
 
 // Whether connect replaces: 1:N or 1:1, and one source named.
 fn replaces(f: Figures, named: u64) -> bool
-    ensures { λ r. ⌜ both (ltb (f .kind) 2) (eqb named 1) ≡ r ⌝ }
+    ensures { λ r. ⌜ both (ltb (f .kind) nToN) (eqb named 1) ≡ r ⌝ }
 {
-    if 2 <= f.kind {
+    if N_TO_N <= f.kind {
         return false;
     }
     named == 1
@@ -79,11 +85,11 @@ fn become_row(f: Figures, sources: &[u64], operation: u64, ones: u64, row: &mut 
     requires { ⌜ count (named (f .sources) (now sources)) ≡ ones ⌝ }
     ensures { λ _. ⌜ now (row .exit) ≡ becomes f (now (sources .entry)) operation (now (row .entry)) ⌝ }
 {
-    if operation == 2 {
+    if operation == DISCONNECT {
         mark(row, sources, 0);
         return;
     }
-    if operation != 1 {
+    if operation != CONNECT {
         list_row(row, sources);
         return;
     }
@@ -96,9 +102,9 @@ fn become_row(f: Figures, sources: &[u64], operation: u64, ones: u64, row: &mut 
 
 // Whether a target has too many: for N:N its cells are over its limit, else the list is over one.
 fn is_many(f: Figures, ones: u64, set: u64) -> bool
-    ensures { λ r. ⌜ pick (eqb (f .kind) 2) (ltb (mostEach f) set) (ltb 1 ones) ≡ r ⌝ }
+    ensures { λ r. ⌜ pick (eqb (f .kind) nToN) (ltb (mostEach f) set) (ltb 1 ones) ≡ r ⌝ }
 {
-    if f.kind == 2 {
+    if f.kind == N_TO_N {
         return desk_crosspoints::most_each(f) < set;
     }
     1 < ones
@@ -109,9 +115,9 @@ fn over_total(f: Figures, cells: &[u8], before: u64, after: u64) -> u64
     requires { ⌜ length (now cells) ≤ mostCells ⌝ }
     requires { ⌜ before ≤ count (now cells) ⌝ }
     requires { ⌜ after ≤ side ⌝ }
-    ensures { λ r. ⌜ pick (both (eqb (f .kind) 2) (ltb (mostTotal f) (count (now (cells .entry)) - before + after))) 44 0 ≡ r ⌝ }
+    ensures { λ r. ⌜ pick (both (eqb (f .kind) nToN) (ltb (mostTotal f) (count (now (cells .entry)) - before + after))) 44 0 ≡ r ⌝ }
 {
-    if f.kind != 2 {
+    if f.kind != N_TO_N {
         return 0;
     }
     if desk_crosspoints::in_total(f, desk_crosspoints::count(cells) - before + after) {
@@ -155,7 +161,7 @@ fn judge_limits(
     get_row(row, cells, target);
     let before = desk_crosspoints::count(row);
     become_row(f, sources, operation, ones, row);
-    if 2 == operation {
+    if DISCONNECT == operation {
         return 0;
     }
     let after = desk_crosspoints::count(row);
@@ -196,7 +202,7 @@ pub fn judge(
     if !is_fit(f, cells.len(), row.len()) {
         return Judged { number: 1, ones: 0 };
     }
-    if 2 < operation {
+    if DISCONNECT < operation {
         return Judged { number: 1, ones: 0 };
     }
     if f.targets <= target {

@@ -83,7 +83,8 @@ fn put_words(words: &mut [u64], kind: u64, targets: u64, sources: u64)
 
 fn put_limits(words: &mut [u64], total: Limit, each: Limit)
     requires { ⌜ length (now words) ≡ 7 ⌝ }
-    ensures { λ _. ⌜ now (words .exit) ≡ set (set (set (set (now (words .entry)) 3 (givenWord total)) 4 (limitWord total)) 5 (givenWord each)) 6 (limitWord each) ⌝ }
+    ensures { λ _. ⌜ now (words .exit)
+        ≡ set (set (set (set (now (words .entry)) 3 (givenWord total)) 4 (limitWord total)) 5 (givenWord each)) 6 (limitWord each) ⌝ }
 {
     words[3] = given_word(total);
     words[4] = limit_word(total);

@@ -7,6 +7,7 @@ use lib.Ieee as Ieee
 use lib.Ieee.{Float, binary64}
 use Rattle.ber_integers.specs.Integer.{signed, nine}
 use Rattle.ber_reals.specs.Means.{Means}
+use Rattle.glow_rows.specs.Cell as tag
 use Rattle.glow_rows.specs.Cell.{wordOf}
 use Rattle.glow_trees.specs.Content.{Content, word, bytes}
 use Rattle.encodings.specs.Values.{Fewest}
@@ -20,16 +21,16 @@ NineDiffer (a ∷ (b ∷ bs)) = (nine a b ≡ 0 → ⊥) × (nine a b ≡ 511 �
 -- Says type content x: the content octets of a value with this universal number say x.
 pub data Says : ℕ → List ℕ → Content → Type 0 where
   -- "Booleans: one octet, non-zero is true"
-  untrue : Says 1 (0 ∷ []) (word 1 0)
-  truth : {b : ℕ} → 0 < b → Says 1 (b ∷ []) (word 1 1)
+  untrue : Says tag.boolean (0 ∷ []) (word tag.boolean 0)
+  truth : {b : ℕ} → 0 < b → Says tag.boolean (b ∷ []) (word tag.boolean 1)
   -- "Integers: 1 to 8 octets, two's complement, first nine bits not all equal"
-  integer : {bs : List ℕ} → 1 ≤ length bs → length bs ≤ 8 → NineDiffer bs → Says 2 bs (word 2 (wordOf (signed bs)))
+  integer : {bs : List ℕ} → 1 ≤ length bs → length bs ≤ 8 → NineDiffer bs → Says tag.integer bs (word tag.integer (wordOf (signed bs)))
   -- "Reals: .. Accepted exactly if some finite double equals it", and the infinities
-  real : {bs : List ℕ} (x : Float) → Means bs x → Says 9 bs (word 9 (Ieee.toBits binary64 x))
+  real : {bs : List ℕ} (x : Float) → Means bs x → Says tag.real bs (word tag.real (Ieee.toBits binary64 x))
   -- octets, texts and relative identifiers are their octets
-  octets : {bs : List ℕ} → Says 4 bs (bytes 4 bs)
-  text : {bs : List ℕ} → Says 12 bs (bytes 12 bs)
-  identifier : {bs : List ℕ} → Says 13 bs (bytes 13 bs)
+  octets : {bs : List ℕ} → Says tag.octets bs (bytes tag.octets bs)
+  text : {bs : List ℕ} → Says tag.text bs (bytes tag.text bs)
+  identifier : {bs : List ℕ} → Says tag.numbers bs (bytes tag.numbers bs)
 
 -- "Relative identifiers: each number in fewest octets, at most 2,147,483,647": the octets of an identifier, and its numbers
 pub data Numbers : List ℕ → List ℕ → Type 0 where

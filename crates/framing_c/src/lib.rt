@@ -23,7 +23,8 @@ pub extern "C" fn framing_feed(
     chunk: &[u8],
     answer: &mut [u64],
 ) -> u64
-    ensures { λ r. ⌜ calls (now (session .entry)) (now (store .entry)) (now (chunk .entry)) (now (answer .entry)) ≡ record { number = r; session = now (session .exit); store = now (store .exit); answer = now (answer .exit) } ⌝ }
+    ensures { λ r. ⌜ calls (now (session .entry)) (now (store .entry)) (now (chunk .entry)) (now (answer .entry))
+        ≡ record { number = r; session = now (session .exit); store = now (store .exit); answer = now (answer .exit) } ⌝ }
 {
     if framing_answers::accepts(session, store.len(), answer.len()) {
         let fed = framing::feed(framing_words::session_at(session), store, chunk);
@@ -39,7 +40,8 @@ pub extern "C" fn framing_feed(
 // A frame around content without its CRC. 0 and the count of bytes written, or 46.
 #[no_mangle]
 pub extern "C" fn framing_write_frame(content: &[u8], out: &mut [u8], count: &mut u64) -> u64
-    ensures { λ r. ⌜ puts (frameInto (now (content .entry)) (now (out .entry))) (now (count .entry)) ≡ record { number = r; output = now (out .exit); count = now (count .exit) } ⌝ }
+    ensures { λ r. ⌜ puts (frameInto (now (content .entry)) (now (out .entry))) (now (count .entry))
+        ≡ record { number = r; output = now (out .exit); count = now (count .exit) } ⌝ }
 {
     let result = framing_writer::write_frame(content, out);
     framing_answers::tell(result, count)
@@ -48,7 +50,8 @@ pub extern "C" fn framing_write_frame(content: &[u8], out: &mut [u8], count: &mu
 // The keep-alive request.
 #[no_mangle]
 pub extern "C" fn framing_write_request(out: &mut [u8], count: &mut u64) -> u64
-    ensures { λ r. ⌜ puts (into (frame requestBody) (now (out .entry))) (now (count .entry)) ≡ record { number = r; output = now (out .exit); count = now (count .exit) } ⌝ }
+    ensures { λ r. ⌜ puts (into (frame requestBody) (now (out .entry))) (now (count .entry))
+        ≡ record { number = r; output = now (out .exit); count = now (count .exit) } ⌝ }
 {
     let result = framing_writer::write_request(out);
     framing_answers::tell(result, count)
@@ -57,7 +60,8 @@ pub extern "C" fn framing_write_request(out: &mut [u8], count: &mut u64) -> u64
 // The keep-alive response.
 #[no_mangle]
 pub extern "C" fn framing_write_response(out: &mut [u8], count: &mut u64) -> u64
-    ensures { λ r. ⌜ puts (into (frame responseBody) (now (out .entry))) (now (count .entry)) ≡ record { number = r; output = now (out .exit); count = now (count .exit) } ⌝ }
+    ensures { λ r. ⌜ puts (into (frame responseBody) (now (out .entry))) (now (count .entry))
+        ≡ record { number = r; output = now (out .exit); count = now (count .exit) } ⌝ }
 {
     let result = framing_writer::write_response(out);
     framing_answers::tell(result, count)
@@ -66,7 +70,8 @@ pub extern "C" fn framing_write_response(out: &mut [u8], count: &mut u64) -> u64
 // A message as packets. 0 and the count of bytes written, or 46.
 #[no_mangle]
 pub extern "C" fn framing_write_message(message: &[u8], out: &mut [u8], count: &mut u64) -> u64
-    ensures { λ r. ⌜ puts (messageInto (now (message .entry)) (now (out .entry))) (now (count .entry)) ≡ record { number = r; output = now (out .exit); count = now (count .exit) } ⌝ }
+    ensures { λ r. ⌜ puts (messageInto (now (message .entry)) (now (out .entry))) (now (count .entry))
+        ≡ record { number = r; output = now (out .exit); count = now (count .exit) } ⌝ }
 {
     let result = framing_writer::write_message(message, out);
     framing_answers::tell(result, count)

@@ -1,4 +1,5 @@
 // Lines of hexadecimal digits, as far as they were read, and the bytes that their pairs are.
+use base_hex::NO_DIGIT;
 ghost use mathlib.Core.Path.{_≡_};
 ghost use mathlib.Core.Bool.{false};
 ghost use Prim.Native.Nat.{_≤_, _<_, min};
@@ -31,7 +32,7 @@ pub fn start() -> Line
     ensures { λ r. ⌜ r ≡ record { high = 16; begun = false } ⌝ }
 {
     Line {
-        high: 16,
+        high: NO_DIGIT,
         begun: false,
     }
 }
@@ -55,7 +56,7 @@ fn end_line(next: usize, high: u8, begun: bool, count: usize) -> Scanned
     ensures { λ r. ⌜ (r .next ≡ next) × ((r .count ≡ count) × (r .line .high ≡ 16)) ⌝ }
 {
     if begun {
-        if high == 16 {
+        if high == NO_DIGIT {
             return stop_at(Stop::Line, next, count);
         }
         return stop_at(Stop::Fault, next, count);
@@ -67,13 +68,14 @@ fn end_line(next: usize, high: u8, begun: bool, count: usize) -> Scanned
 fn first_digit(high: u8) -> u8
     ensures { λ r. ⌜ r ≡ min high 16 ⌝ }
 {
-    if high < 16 { high } else { 16 }
+    if high < NO_DIGIT { high } else { NO_DIGIT }
 }
 
 // Reads bytes of the block up to a line's end, a fault or the block's end, and puts the pairs into the chunk. Those that
 // it has no place for are counted and not put.
 pub fn scan(block: &[u8], from: usize, line: Line, chunk: &mut [u8]) -> Scanned
-    ensures { λ r. ⌜ scanned (drop from (now (block .entry))) from (min (line .high) 16) (line .begun) (now (chunk .entry)) 0 ≡ record { answer = r; chunk = now (chunk .exit) } ⌝ }
+    ensures { λ r. ⌜ scanned (drop from (now (block .entry))) from (min (line .high) 16) (line .begun) (now (chunk .entry)) 0
+        ≡ record { answer = r; chunk = now (chunk .exit) } ⌝ }
     ensures { λ r. ⌜ (from < length (now (block .entry)) → (from < r .next) × (r .next ≤ length (now (block .entry)))) ⌝ }
     ensures { λ r. ⌜ (length (now (block .entry)) ≤ length (now (chunk .entry)) → r .count ≤ length (now (chunk .entry))) ⌝ }
     ensures { λ r. ⌜ r .line .high ≤ 16 ⌝ }
@@ -89,15 +91,15 @@ pub fn scan(block: &[u8], from: usize, line: Line, chunk: &mut [u8]) -> Scanned
             return end_line(i, high, begun, count);
         }
         let d = base_hex::digit(b);
-        if d == 16 {
+        if d == NO_DIGIT {
             return stop_at(Stop::Fault, i, count);
         }
         begun = true;
-        if high == 16 {
+        if high == NO_DIGIT {
             high = d;
         } else {
             count = base_output::put(chunk, count, high * 16 + d);
-            high = 16;
+            high = NO_DIGIT;
         }
     }
     Scanned {

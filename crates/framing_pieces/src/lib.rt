@@ -95,7 +95,9 @@ fn joins(last: bool, discarded: bool, length: usize) -> Stepped
 // A piece whose payload is the n bytes after the header.
 fn pieces(first: bool, last: bool, n: usize, message: Pending, store: &mut [u8]) -> Stepped
     requires { ⌜ (lib.ListN.length (now store) ≡ storeLength) × ((n + 11 ≤ contentLimit) × (messageLength message ≤ messageLimit)) ⌝ }
-    ensures { λ r. ⌜ keeps (rulePieces first last (take n (drop (contentStart + 9) (now (store .entry)))) (messageOf message (now (store .entry)))) (now (store .entry)) ≡ gives r (now (store .exit)) ⌝ }
+    ensures { λ r. ⌜ keeps
+        (rulePieces first last (take n (drop (contentStart + 9) (now (store .entry)))) (messageOf message (now (store .entry)))) (now (store .entry))
+        ≡ gives r (now (store .exit)) ⌝ }
 {
     if first {
         let discarded = is_part(message);
@@ -118,7 +120,8 @@ fn pieces(first: bool, last: bool, n: usize, message: Pending, store: &mut [u8])
 // EOF in a frame that has no fault.
 fn ends(length: usize, message: Pending, store: &mut [u8]) -> Stepped
     requires { ⌜ (lib.ListN.length (now store) ≡ storeLength) × ((length ≤ contentLimit) × (messageLength message ≤ messageLimit)) ⌝ }
-    ensures { λ r. ⌜ keeps (ruleEnds (contentIn length (now (store .entry))) (messageOf message (now (store .entry)))) (now (store .entry)) ≡ gives r (now (store .exit)) ⌝ }
+    ensures { λ r. ⌜ keeps (ruleEnds (contentIn length (now (store .entry))) (messageOf message (now (store .entry)))) (now (store .entry))
+        ≡ gives r (now (store .exit)) ⌝ }
 {
     let end = CONTENT_START + length;
     let content = framing_content::content_of(&store[CONTENT_START..end]);
@@ -135,7 +138,9 @@ fn ends(length: usize, message: Pending, store: &mut [u8]) -> Stepped
 
 // EOF in a frame that has no fault, and of which the store holds this many content bytes.
 pub fn end_frame(length: usize, message: Pending, store: &mut [u8]) -> Stepped
-    ensures { λ r. ⌜ unlessSetup (insideOf length message) (now (store .entry)) (keeps (ruleEnds (contentIn length (now (store .entry))) (messageOf message (now (store .entry)))) (now (store .entry))) ≡ gives r (now (store .exit)) ⌝ }
+    ensures { λ r. ⌜ unlessSetup (insideOf length message) (now (store .entry))
+        (keeps (ruleEnds (contentIn length (now (store .entry))) (messageOf message (now (store .entry)))) (now (store .entry)))
+        ≡ gives r (now (store .exit)) ⌝ }
 {
     let session = Session {
         frame: Frame::Inside { length },

@@ -1,5 +1,5 @@
--- The rules of the stream, byte by byte (document 01, "Framing"). They know no chunk, no session and no store. A name stands before its use: pieces and messages,
--- then frames, then the stream.
+-- The rules of the stream, byte by byte (document 01, "Framing"). They know no chunk, no session and no store. A name stands before its use: pieces and
+-- messages, then frames, then the stream.
 use Prim.Native.Nat.{ℕ, _+_}
 use mathlib.Core.Bool.{Bool, true, false}
 use mathlib.Core.List.{List, [], _∷_, _++_}

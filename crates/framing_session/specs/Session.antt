@@ -102,8 +102,8 @@ abbrev pub held : Message → List ℕ → List ℕ
 held none ys = ys
 held (part xs) ys = xs
 
--- What stands in the store after a byte: the message from 0, the content from 16,384. "Bytes that no rule writes stay." "The message is copied there at the valid end of
--- its frame and stays until the next call."
+-- What stands in the store after a byte: the message from 0, the content from 16,384. "Bytes that no rule writes stay." "The message is copied there at the
+-- valid end of its frame and stays until the next call."
 unfoldable pub kept : Step → List ℕ → List ℕ
 kept o t = sets (sets t 0 (held (o .next .message) (o .said .message))) contentStart (content (o .next .place))
 

@@ -31,7 +31,8 @@ fn goes(frame: Frame, message: Pending) -> Stepped
 // A byte of content.
 fn adds(length: usize, x: u8, message: Pending, store: &mut [u8]) -> Stepped
     requires { ⌜ (lib.ListN.length (now store) ≡ storeLength) × ((length ≤ contentLimit) × (messageLength message ≤ messageLimit)) ⌝ }
-    ensures { λ r. ⌜ keeps (ruleAdds (contentIn length (now (store .entry))) x (messageOf message (now (store .entry)))) (now (store .entry)) ≡ gives r (now (store .exit)) ⌝ }
+    ensures { λ r. ⌜ keeps (ruleAdds (contentIn length (now (store .entry))) x (messageOf message (now (store .entry)))) (now (store .entry))
+        ≡ gives r (now (store .exit)) ⌝ }
 {
     if length < CONTENT_LIMIT {
         let at = CONTENT_START + length;
@@ -45,7 +46,8 @@ fn adds(length: usize, x: u8, message: Pending, store: &mut [u8]) -> Stepped
 // In a frame, no escape begun, no fault.
 fn inside(length: usize, b: u8, message: Pending, store: &mut [u8]) -> Stepped
     requires { ⌜ (lib.ListN.length (now store) ≡ storeLength) × ((length ≤ contentLimit) × (messageLength message ≤ messageLimit)) ⌝ }
-    ensures { λ r. ⌜ keeps (inPlace (insidePlace (contentIn length (now (store .entry)))) (messageOf message (now (store .entry))) b) (now (store .entry)) ≡ gives r (now (store .exit)) ⌝ }
+    ensures { λ r. ⌜ keeps (inPlace (insidePlace (contentIn length (now (store .entry)))) (messageOf message (now (store .entry))) b) (now (store .entry))
+        ≡ gives r (now (store .exit)) ⌝ }
 {
     if b < 0xf8 {
         return adds(length, b, message, store);
@@ -68,7 +70,8 @@ fn inside(length: usize, b: u8, message: Pending, store: &mut [u8]) -> Stepped
 // In a frame, after CE.
 fn escaped(length: usize, b: u8, message: Pending, store: &mut [u8]) -> Stepped
     requires { ⌜ (lib.ListN.length (now store) ≡ storeLength) × ((length ≤ contentLimit) × (messageLength message ≤ messageLimit)) ⌝ }
-    ensures { λ r. ⌜ keeps (inPlace (escapedPlace (contentIn length (now (store .entry)))) (messageOf message (now (store .entry))) b) (now (store .entry)) ≡ gives r (now (store .exit)) ⌝ }
+    ensures { λ r. ⌜ keeps (inPlace (escapedPlace (contentIn length (now (store .entry)))) (messageOf message (now (store .entry))) b) (now (store .entry))
+        ≡ gives r (now (store .exit)) ⌝ }
 {
     if b < 0xd8 {
         return goes(Frame::BadByte { length }, message);
@@ -127,7 +130,8 @@ fn takes(session: Session, b: u8, store: &mut [u8]) -> Stepped
 
 // A byte, with any session and store.
 pub fn step(session: Session, b: u8, store: &mut [u8]) -> Stepped
-    ensures { λ r. ⌜ unlessSetup session (now (store .entry)) (keeps (ruleStep (stateOf session (now (store .entry))) b) (now (store .entry))) ≡ gives r (now (store .exit)) ⌝ }
+    ensures { λ r. ⌜ unlessSetup session (now (store .entry)) (keeps (ruleStep (stateOf session (now (store .entry))) b) (now (store .entry)))
+        ≡ gives r (now (store .exit)) ⌝ }
 {
     let n = store.len();
     if framing_session::is_legal(session, n) {

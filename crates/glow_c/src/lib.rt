@@ -70,8 +70,8 @@ fn told(w: Wrote, answer: &mut [u64]) -> u64
     }
 }
 
-// Writes the message of the first `count` rows, whose texts, octets, paths and sources are parts of `message`, into the output. 0, and its length in the answer's
-// one word; or 46, and the output as it was.
+// Writes the message of the first `count` rows, whose texts, octets, paths and sources are parts of `message`, into the output. 0, and its length in the
+// answer's one word; or 46, and the output as it was.
 #[no_mangle]
 pub extern "C" fn glow_write(
     rows: &[[u64; 50]],
@@ -81,7 +81,8 @@ pub extern "C" fn glow_write(
     out: &mut [u8],
     answer: &mut [u64],
 ) -> u64
-    ensures { λ r. ⌜ writeCalls (now (rows .entry)) count root (now (message .entry)) (now (out .entry)) (now (answer .entry)) ≡ writing r (now (out .exit)) (now (answer .exit)) ⌝ }
+    ensures { λ r. ⌜ writeCalls (now (rows .entry)) count root (now (message .entry)) (now (out .entry)) (now (answer .entry))
+        ≡ writing r (now (out .exit)) (now (answer .exit)) ⌝ }
 {
     if answer.len() != 1 {
         return 1;

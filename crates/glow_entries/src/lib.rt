@@ -25,7 +25,8 @@ ghost use Rattle.glow_rows.specs.Row.{cellIn};
 ghost use Rattle.glow_entries.specs.declared.Number.the-variants as numberCase;
 ghost use Rattle.glow_entries.specs.Member.{numberCell, intIn, numberOf, flagCell, flagOf, partCell, partOf, parentWord, parentOf};
 ghost use Rattle.glow_entries.specs.Record.{parameterRow, parameterOf, parameterRead, nodeRow, nodeOf, nodeRead, matrixRow, matrixOf, matrixRead};
-ghost use Rattle.glow_entries.specs.Record.{commandRow, commandOf, commandRead, connectionRow, connectionOf, connectionRead, streamRow, streamOf, streamRead};
+ghost use Rattle.glow_entries.specs.Record.{commandRow, commandOf, commandRead, connectionRow};
+ghost use Rattle.glow_entries.specs.Record.{connectionOf, connectionRead, streamRow, streamOf, streamRead};
 ghost use Rattle.glow_entries.specs.Record.{ConnectionWords, MatrixWords};
 ghost use Rattle.glow_entries.specs.Member.{keyKind, keyCell, keyOf};
 

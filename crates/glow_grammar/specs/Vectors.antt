@@ -19,7 +19,8 @@ use Rattle.glow_grammar.specs.Grammar.{no, name, text, flag, any, step, 
 use Rattle.glow_grammar.specs.Grammar.{parameter, command, node, matrix, qualifiedParameter, qualifiedNode, qualifiedMatrix, connection, streamEntry}
 use Rattle.glow_grammar.specs.Grammar.{parameterContents, nodeContents, matrixContents, rootElements, children, connections, streams}
 use Rattle.glow_grammar.specs.Grammar.{members, ruleOf, requirements, required, isSet, contentsRows, contentsOf, applications, holds, kindAmong, kindIn}
-use Rattle.glow_grammar.specs.Leaf.{expects, least, most, inRange, isLetter, noSlash, isName, allPositive, isPath, numberLeaf, textLeaf, numbersAt, leafAt}
+use Rattle.glow_grammar.specs.Leaf.{expects, least, most, inRange, isLetter, noSlash}
+use Rattle.glow_grammar.specs.Leaf.{isName, allPositive, isPath, numberLeaf, textLeaf, numbersAt, leafAt}
 
 -- "Context numbers"
 pub v-rules :

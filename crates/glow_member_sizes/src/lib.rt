@@ -6,6 +6,7 @@ use glow_grammar::Leaf;
 use glow_grammar::NO_WORD;
 use glow_grammar::rules;
 use glow_rows::Cell;
+use glow_rows::MOST_BYTES;
 use glow_rows::tags;
 ghost use mathlib.Core.Path.{_≡_};
 ghost use mathlib.Core.Bool.{true, false};
@@ -21,7 +22,7 @@ ghost use Rattle.glow_member_sizes.specs.Spelling.{spelling};
 ghost use Rattle.glow_member_sizes.specs.Sizes.{cap, taggedSize, nextOf, WordSized, isKept, memberSize};
 
 // The octets of the longest message, and the size of what is longer or not legal.
-pub const MESSAGE_LIMIT: u64 = 16384;
+pub const MESSAGE_LIMIT: u64 = MOST_BYTES as u64;
 
 pub const NO_SIZE: u64 = 65536;
 
@@ -55,16 +56,6 @@ pub fn around(n: u64) -> u64
         return NO_SIZE;
     }
     capped(1 + word(ber_tags::length_size(n)) + n)
-}
-
-// The integer that a word stands for, in two's complement.
-pub fn int_of(w: u64) -> i64
-    ensures { λ r. ⌜ intOf w ≡ r ⌝ }
-{
-    if w < 0x8000000000000000 {
-        return w as i64;
-    }
-    -1 - ((18446744073709551615 - w) as i64)
 }
 
 // The place after what was written, 0 where the output was too short.

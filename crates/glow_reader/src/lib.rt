@@ -1,4 +1,6 @@
 // The Glow tree: a message read into entries, rows of a lent table.
+use glow_rows::MOST_BYTES;
+use glow_rows::MOST_ENTRIES;
 use glow_walk::Whole;
 ghost use Prim.Native.Nat.{_≤_, _<_};
 ghost use mathlib.Core.Path.{_≡_};
@@ -16,10 +18,10 @@ pub enum Answer {
 pub fn read(s: &[u8], table: &mut [[u64; 50]]) -> Answer
     ensures { λ r. ⌜ readAt (now (s .entry)) (now (table .entry)) ≡ result r (now (table .exit)) ⌝ }
 {
-    if 256 < table.len() {
+    if MOST_ENTRIES < table.len() {
         return Answer::Setup;
     }
-    if 16384 < s.len() {
+    if MOST_BYTES < s.len() {
         return Answer::Setup;
     }
     match glow_walk::message(s, &mut table[..0]) {

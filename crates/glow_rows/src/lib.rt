@@ -13,10 +13,19 @@ ghost use Rattle.glow_rows.specs.Cell.{cellOf, bitOf, wordOf, absent as 
 ghost use Rattle.glow_rows.specs.Entry.{row, blank as blankEntry};
 ghost use Rattle.glow_rows.specs.Row.{putIn, cellPut, blanked, cellIn, rowCell, rowWord, same};
 
-// The words of a row before its cells: the kind of entry, and its parent's place and 1, 0 where it has none.
+// The words of a row: the kind of entry; its parent's place and 1, 0 where it has none; then its cells, so many words each.
 pub const KIND: usize = 0;
 
 pub const PARENT: usize = 1;
+
+pub const CELLS: usize = 2;
+
+pub const CELL_WORDS: usize = 3;
+
+// The most entries of a table, and the most bytes of a message.
+pub const MOST_ENTRIES: usize = 256;
+
+pub const MOST_BYTES: usize = 16384;
 
 // What an entry keeps of one member: the universal tag number of its value (0: absent) and two words of content.
 pub struct Cell {
@@ -31,7 +40,7 @@ pub fn put_cell(table: &mut [[u64; 50]], i: usize, c: usize, v: Cell)
 {
     if i < table.len() {
         if c < 16 {
-            let j = 2 + c * 3;
+            let j = CELLS + c * CELL_WORDS;
             table[i][j] = v.kind;
             table[i][j + 1] = v.first;
             table[i][j + 2] = v.second;
@@ -66,7 +75,7 @@ pub fn put_in(row: &mut [u64; 50], c: usize, v: Cell)
     ensures { λ _. ⌜ now (row .exit) ≡ putIn (now (row .entry)) c v ⌝ }
 {
     if c < 16 {
-        let j = 2 + c * 3;
+        let j = CELLS + c * CELL_WORDS;
         row[j] = v.kind;
         row[j + 1] = v.first;
         row[j + 2] = v.second;
@@ -78,7 +87,7 @@ pub fn cell_in(row: &[u64; 50], c: usize) -> Cell
     ensures { λ r. ⌜ r ≡ cellIn (now (row .entry)) c ⌝ }
 {
     if c < 16 {
-        let j = 2 + c * 3;
+        let j = CELLS + c * CELL_WORDS;
         return Cell {
             kind: row[j],
             first: row[j + 1],
@@ -98,7 +107,7 @@ pub fn cell_at(rows: &[[u64; 50]], i: usize, c: usize) -> Cell
     if 16 <= c {
         return absent();
     }
-    let j = 2 + c * 3;
+    let j = CELLS + c * CELL_WORDS;
     Cell {
         kind: rows[i][j],
         first: rows[i][j + 1],

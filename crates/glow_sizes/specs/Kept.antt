@@ -35,17 +35,30 @@ kindAt rows i = getD (getD rows i []) 0 0
 abbrev pub membersAt : List ℕ → Rows → ℕ → List Content
 membersAt s rows i = contentsOf s (cellsFrom 16 0 (getD rows i []))
 
+-- four sizes in one word: each is below `oneSize`; the second, third and fourth are counted in units
+abbrev pub oneSize : ℕ
+oneSize = 65536
+
+abbrev pub insideUnit : ℕ
+insideUnit = 65536
+
+abbrev pub kidsUnit : ℕ
+kidsUnit = 4294967296
+
+abbrev pub linksUnit : ℕ
+linksUnit = 281474976710656
+
 -- four sizes in one word
 abbrev pub Packed : ℕ → ℕ → ℕ → ℕ → ℕ → Type 0
 Packed size inside kids links w =
-    (w % 65536 ≡ size) × ((w / 65536 % 65536 ≡ inside) × ((w / 4294967296 % 65536 ≡ kids) × (w / 281474976710656 % 65536 ≡ links)))
+    (w % oneSize ≡ size) × ((w / insideUnit % oneSize ≡ inside) × ((w / kidsUnit % oneSize ≡ kids) × (w / linksUnit % oneSize ≡ links)))
 
 -- w holds how many octets the entry at place i takes alone, its contents, its children and its connections
 pub record Keeps (real : ℕ → List ℕ) (s : List ℕ) (rows : Rows) (n i w : ℕ) : Type 0 where
-  pub size : w % 65536 ≡ entryOctets real (kindAt rows i) (membersAt s rows i)
-  pub inside : w / 65536 % 65536 ≡ length (membersOctets real 0 (inner (kindAt rows i) (membersAt s rows i)))
-  pub kids : (f : ℕ) → length (itemsIn s rows n) - suc i < f → w / 4294967296 % 65536 ≡ length (treesOctets real (kidsAt (itemsIn s rows n) f i))
-  pub links : (f : ℕ) → length (itemsIn s rows n) - suc i < f → w / 281474976710656 % 65536 ≡ length (treesOctets real (linksAt (itemsIn s rows n) f i))
+  pub size : w % oneSize ≡ entryOctets real (kindAt rows i) (membersAt s rows i)
+  pub inside : w / insideUnit % oneSize ≡ length (membersOctets real 0 (inner (kindAt rows i) (membersAt s rows i)))
+  pub kids : (f : ℕ) → length (itemsIn s rows n) - suc i < f → w / kidsUnit % oneSize ≡ length (treesOctets real (kidsAt (itemsIn s rows n) f i))
+  pub links : (f : ℕ) → length (itemsIn s rows n) - suc i < f → w / linksUnit % oneSize ≡ length (treesOctets real (linksAt (itemsIn s rows n) f i))
 
 -- after a word was stored at place i, if there is one
 pub record Stored (before : List ℕ) (i w : ℕ) (after : List ℕ) : Type 0 where

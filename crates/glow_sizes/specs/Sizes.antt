@@ -49,9 +49,16 @@ entered real kind k above xs =
 abbrev pub split : ℕ → ℕ
 split kind = pick (eqb (grammar.contentsOf kind) 0) 16 1
 
--- whether the first n members of a row, at most two, have a kind
+-- the words of a row where its first two cells begin
+abbrev pub firstCell : ℕ
+firstCell = 2
+
+abbrev pub secondCell : ℕ
+secondCell = 5
+
+-- whether the first n members of a row, at most two, are there
 unfoldable pub keyed : ℕ → List ℕ → Bool
-keyed n r = pick (eqb n 0) true (pick (eqb (getD r 2 0) 0) false (pick (eqb n 1) true (not (eqb (getD r 5 0) 0))))
+keyed n r = pick (eqb n 0) true (pick (eqb (getD r firstCell 0) 0) false (pick (eqb n 1) true (not (eqb (getD r secondCell 0) 0))))
 
 -- the entry in a row, with the message beside it
 unfoldable pub enteredAt : (ℕ → List ℕ) → List ℕ → List ℕ → ℕ → ℕ → Entered

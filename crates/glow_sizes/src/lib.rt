@@ -12,8 +12,11 @@ use glow_member_sizes::around;
 use glow_member_sizes::capped;
 use glow_member_sizes::member_size;
 use glow_member_sizes::plus;
+use glow_rows::CELL_WORDS;
+use glow_rows::CELLS;
 use glow_rows::Cell;
 use glow_rows::KIND;
+use glow_rows::MOST_ENTRIES;
 use glow_rows::PARENT;
 use glow_rows::cell_at;
 use glow_rows::kinds;
@@ -40,6 +43,33 @@ ghost use Rattle.glow_sizes.specs.Kept.{RulesIn, Packed, Stored, Notes, 
 
 // The containers that are left in Root's collection.
 const LEFT: u64 = collections::IN_COLLECTION as u64;
+
+// The containers that an entry takes: its outer tag, its element and a member's outer tag; with contents their outer tag, the set and a
+// member's outer tag in place of the last; and with a collection its outer tag and the collection.
+const FOR_ENTRY: u64 = 3;
+
+const FOR_CONTENTS: u64 = 5;
+
+const FOR_COLLECTION: u64 = 4;
+
+// The most numbers of a path, and what stands for more.
+const PATH: usize = 16;
+
+const MOST_NUMBERS: u64 = PATH as u64;
+
+const TOO_MANY: u64 = 17;
+
+// The word of a row where its second cell begins.
+const SECOND_CELL: usize = CELLS + CELL_WORDS;
+
+// The sizes of an entry in one word: each is below ONE_SIZE; the second, third and fourth are counted in these.
+pub const ONE_SIZE: u64 = 65536;
+
+pub const INSIDE_UNIT: u64 = 65536;
+
+pub const KIDS_UNIT: u64 = 4294967296;
+
+pub const LINKS_UNIT: u64 = 281474976710656;
 
 // An entry alone: how many octets its members and contents take, and its contents inside their tags, and how many numbers the path has with its own.
 pub struct Entered {
@@ -142,19 +172,19 @@ fn is_complete(rows: &[[u64; 50]], i: usize, kind: u64) -> bool
     if n == 0 {
         return true;
     }
-    if word_at(rows, i, 2) == 0 {
+    if word_at(rows, i, CELLS) == ABSENT {
         return false;
     }
     if n == 1 {
         return true;
     }
-    word_at(rows, i, 5) != 0
+    word_at(rows, i, SECOND_CELL) != ABSENT
 }
 
 fn few(n: u64) -> u64
     ensures { λ r. ⌜ pathCap n ≡ r ⌝ }
 {
-    if n <= 16 { n } else { 17 }
+    if n <= MOST_NUMBERS { n } else { TOO_MANY }
 }
 
 // The numbers of a path with this entry's own, 17 for more than 16.
@@ -166,18 +196,18 @@ fn path_after(s: &[u8], v: Cell, what: u64, above: u64) -> u64
         return few(above);
     }
     if what == rules::STEP {
-        if 16 <= above {
-            return 17;
+        if MOST_NUMBERS <= above {
+            return TOO_MANY;
         }
         return above + 1;
     }
     if what == rules::PATH {
         match ber_identifiers::read_oid(s, index(v.first), index(v.second)) {
             Oid::Numbers(n) => {
-                if n <= 16 {
+                if n <= PATH {
                     return word(n);
                 }
-                return 17;
+                return TOO_MANY;
             }
             Oid::Range => {
                 return 0;
@@ -207,7 +237,7 @@ fn is_shallow(inside: u64, k: u64) -> bool
     if inside == 0 {
         return true;
     }
-    5 <= k
+    FOR_CONTENTS <= k
 }
 
 // An entry alone, with k containers still allowed where it stands.
@@ -236,7 +266,7 @@ fn entry_size(rows: &[[u64; 50]], i: usize, s: &[u8], k: u64, above: u64, least:
         return none();
     }
     let path = path_after(s, cell_at(rows, i, 0), rule_in(rules, 0), above);
-    if 16 < path {
+    if MOST_NUMBERS < path {
         return none();
     }
     Entered { size, inside, path }
@@ -269,10 +299,10 @@ pub fn stands_in(which: u64, kind: u64) -> bool
 pub fn inside_of(k: u64) -> u64
     ensures { λ r. ⌜ r ≡ k - 4 ⌝ }
 {
-    if k < 4 {
+    if k < FOR_COLLECTION {
         return 0;
     }
-    k - 4
+    k - FOR_COLLECTION
 }
 
 // The trees of a collection: the place after their entries, and how many octets they take; NO_SIZE where they are not legal or
@@ -340,7 +370,7 @@ fn packed(size: u64, inside: u64, kids: u64, links: u64) -> u64
     requires { ⌜ (size ≤ 16384) × ((inside ≤ 16384) × ((kids ≤ 16384) × (links ≤ 16384))) ⌝ }
     ensures { λ r. ⌜ Packed size inside kids links r ⌝ }
 {
-    size + inside * 65536 + kids * 4294967296 + links * 281474976710656
+    size + inside * INSIDE_UNIT + kids * KIDS_UNIT + links * LINKS_UNIT
 }
 
 // A word kept at a place, if there is one.
@@ -409,7 +439,7 @@ fn items(
                 size: total,
             };
         }
-        if k < 3 {
+        if k < FOR_ENTRY {
             return refused();
         }
         let e = entry_size(rows, i, s, k, above, least);
@@ -518,7 +548,7 @@ pub fn judge(
     if rows.len() < count {
         return NO_SIZE;
     }
-    if 256 < count {
+    if MOST_ENTRIES < count {
         return NO_SIZE;
     }
     if !glow_trees::is_root(root) {

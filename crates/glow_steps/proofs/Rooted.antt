@@ -9,54 +9,56 @@ use Rattle.ber_containers.specs.declared.Tag.{Tag}
 use Rattle.ber_containers.specs.declared.Stands.the-variants.{Ended, Here, Refused}
 use Rattle.ber_containers.specs.declared.Found.the-variants.{Value, Refused as NotFound}
 use Rattle.ber_containers.specs.Ends.{no, enterAt, firstAt, isTag}
+use Rattle.glow_grammar.specs.Grammar.{body, kids, children, connections, rootElements, streams, noRoot, application, universal, set, sequence}
+use Rattle.glow_grammar.specs.Grammar.{elementCollection, streamCollection, rootElementCollection}
 use Rattle.glow_grammar.specs.Grammar.{innerClass, innerNumber, collectionOf, rootOf}
 use Rattle.glow_steps.specs.declared.Top.the-variants.{Root, Refused as NoRoot}
 use Rattle.glow_steps.specs.Root.{unbounded, rootKind, topAt}
 
 module _ (what : ℕ) where
-  pub collection-kids : what ≡ 14 → collectionOf what ≡ 1
+  pub collection-kids : what ≡ kids → collectionOf what ≡ children
   unfolding collectionOf
   collection-kids h = simp (eq-eqb _ _ h)
 
-  pub collection-links : (what ≡ 14 → ⊥) → collectionOf what ≡ 2
+  pub collection-links : (what ≡ kids → ⊥) → collectionOf what ≡ connections
   unfolding collectionOf
   collection-links h = simp (ne-eqb _ _ h)
 
-  pub class-kids : what ≡ 14 → innerClass what ≡ 1
+  pub class-kids : what ≡ kids → innerClass what ≡ application
   unfolding innerClass
   class-kids h = simp (eq-eqb _ _ h)
 
-  pub class-other : (what ≡ 14 → ⊥) → innerClass what ≡ 0
+  pub class-other : (what ≡ kids → ⊥) → innerClass what ≡ universal
   unfolding innerClass
   class-other h = simp (ne-eqb _ _ h)
 
-  pub number-body : what ≡ 13 → innerNumber what ≡ 17
+  pub number-body : what ≡ body → innerNumber what ≡ set
   unfolding innerNumber
   number-body h = simp (eq-eqb _ _ h)
 
-  pub number-kids : (what ≡ 13 → ⊥) → what ≡ 14 → innerNumber what ≡ 4
+  pub number-kids : (what ≡ body → ⊥) → what ≡ kids → innerNumber what ≡ elementCollection
   unfolding innerNumber
   number-kids h i = simp (ne-eqb _ _ h, eq-eqb _ _ i)
 
-  pub number-links : (what ≡ 13 → ⊥) → (what ≡ 14 → ⊥) → innerNumber what ≡ 16
+  pub number-links : (what ≡ body → ⊥) → (what ≡ kids → ⊥) → innerNumber what ≡ sequence
   unfolding innerNumber
   number-links h i = simp (ne-eqb _ _ h, ne-eqb _ _ i)
 
 module _ (number : ℕ) where
-  pub root-elements : number ≡ 11 → rootOf number ≡ 0
+  pub root-elements : number ≡ rootElementCollection → rootOf number ≡ rootElements
   unfolding rootOf
   root-elements h = simp (eq-eqb _ _ h)
 
-  pub root-streams : (number ≡ 11 → ⊥) → number ≡ 5 → rootOf number ≡ 3
+  pub root-streams : (number ≡ rootElementCollection → ⊥) → number ≡ streamCollection → rootOf number ≡ streams
   unfolding rootOf
   root-streams h i = simp (ne-eqb _ _ h, eq-eqb _ _ i)
 
-  pub root-none : (number ≡ 11 → ⊥) → (number ≡ 5 → ⊥) → rootOf number ≡ 4
+  pub root-none : (number ≡ rootElementCollection → ⊥) → (number ≡ streamCollection → ⊥) → rootOf number ≡ noRoot
   unfolding rootOf
   root-none h i = simp (ne-eqb _ _ h, ne-eqb _ _ i)
 
 module _ (g : Tag) where
-  pub root-other : isTag g 1 1 (g .number) ≡ false → rootKind g ≡ 4
+  pub root-other : isTag g 1 1 (g .number) ≡ false → rootKind g ≡ noRoot
   unfolding rootKind
   root-other i = simp i
 

@@ -6,20 +6,25 @@ use glow_grammar::collections;
 use glow_grammar::tags;
 use glow_member_sizes::MESSAGE_LIMIT;
 use glow_member_sizes::around;
-use glow_member_sizes::int_of;
 use glow_member_sizes::is_part;
 use glow_member_sizes::place;
 use glow_member_sizes::plus;
 use glow_member_sizes::word_size;
 use glow_rows::Cell;
 use glow_rows::KIND;
+use glow_rows::MOST_ENTRIES;
 use glow_rows::PARENT;
 use glow_rows::cell_at;
+use glow_rows::int_of;
 use glow_rows::kinds;
 use glow_rows::tags::ABSENT;
 use glow_rows::tags::BOOLEAN;
 use glow_rows::tags::INTEGER;
 use glow_rows::word_at;
+use glow_sizes::INSIDE_UNIT;
+use glow_sizes::KIDS_UNIT;
+use glow_sizes::LINKS_UNIT;
+use glow_sizes::ONE_SIZE;
 use glow_sizes::judge;
 use glow_sizes::split_of;
 use glow_sizes::stands_in;
@@ -245,10 +250,10 @@ fn put_item(
 {
     let kind = word_at(rows, i, KIND);
     let w = kept[i];
-    let size = w % 65536;
-    let inside = w / 65536 % 65536;
-    let kids = w / 4294967296 % 65536;
-    let links = w / 281474976710656 % 65536;
+    let size = w % ONE_SIZE;
+    let inside = w / INSIDE_UNIT % ONE_SIZE;
+    let kids = w / KIDS_UNIT % ONE_SIZE;
+    let links = w / LINKS_UNIT % ONE_SIZE;
     let me = word(i) + 1;
     let held = plus(size, plus(wrapped_size(kids), wrapped_size(links)));
     let a = put_outer(0, tag_of(kind), held, out, at);
@@ -331,7 +336,7 @@ pub fn write(rows: &[[u64; 50]], count: usize, root: u64, s: &[u8], out: &mut [u
     ensures { λ r. ⌜ writes root (length (now (rows .entry))) count (itemsIn (now (s .entry)) (now (rows .entry)) count) (now (out .entry))
         ≡ outcome r (now (out .exit)) ⌝ }
 {
-    let mut room = [0u64; 256];
+    let mut room = [0u64; MOST_ENTRIES];
     let kept: &mut [u64] = &mut room;
     let all = judge(rows, count, root, s, false, kept);
     let one = around(all);

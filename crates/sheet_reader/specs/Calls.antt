@@ -1,5 +1,5 @@
--- The call that reads a route sheet (document 01, "Desk"): what it answers, and what it leaves of what is lent. `readSheet` (crates/sheet_rules/specs/Reading.antt)
--- is what reading a byte string gives.
+-- The call that reads a route sheet (document 01, "Desk"): what it answers, and what it leaves of what is lent. `readSheet`
+-- (crates/sheet_rules/specs/Reading.antt) is what reading a byte string gives.
 use Prim.Native.Nat.{ℕ}
 use mathlib.Core.List.{List, [], _∷_, _++_}
 use mathlib.Core.Bool.{Bool}
@@ -57,8 +57,8 @@ outcomeOf Setup store path cells = outcome 1 setup store path cells
 outcomeOf (Refused n) store path cells = outcome n none store path cells
 outcomeOf (Read f n) store path cells = outcome 0 (desk f n) store path cells
 
--- The rows of "Numbers answered" that refuse a sheet: the events from 10 up, 12 for a bad line among them; the tree's, 38 ROOM, and 33 once more; the desk's but 40 MATRIX,
--- since all the connections name the one matrix.
+-- The rows of "Numbers answered" that refuse a sheet: the events from 10 up, 12 for a bad line among them; the tree's, 38 ROOM, and 33 once more; the desk's
+-- but 40 MATRIX, since all the connections name the one matrix.
 abbrev pub refusedNumbers : List ℕ
 refusedNumbers =
     10 ∷ 11 ∷ 12 ∷ 13 ∷ 14 ∷ 15 ∷ 16 ∷ 20 ∷ 21 ∷ 22 ∷ 23 ∷ 24

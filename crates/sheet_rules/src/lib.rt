@@ -1,5 +1,6 @@
 // Route sheets: what a desk's sheet is, what reading a sheet gives, and that the one undoes the other. The code here is the text of sheets: frames into
 // lines, and whether lines are right.
+use base_hex::NO_DIGIT;
 use base_output::put;
 use framing_writer::Written;
 ghost use mathlib.Core.Path.{_≡_};
@@ -55,41 +56,50 @@ pub fn write_lines(frames: &[u8], out: &mut [u8]) -> Written
     Written::Done { length }
 }
 
+// What has come of a line: nothing, whole pairs of digits, a first digit too; or something bad.
+const FRESH: u8 = 0;
+
+const PAIRS: u8 = 1;
+
+const HALF: u8 = 2;
+
+const BAD: u8 = 3;
+
 // What has come of a line with one more byte.
 fn step_line(k: u8, b: u8) -> u8
     ensures { λ r. ⌜ stepLine k b ≡ r ⌝ }
 {
     let d = base_hex::digit(b);
-    if k == 1 {
+    if k == PAIRS {
         if b == 10 {
-            return 0;
+            return FRESH;
         }
-        if d == 16 {
-            return 3;
+        if d == NO_DIGIT {
+            return BAD;
         }
-        return 2;
+        return HALF;
     }
-    if d == 16 {
-        return 3;
+    if d == NO_DIGIT {
+        return BAD;
     }
-    if k == 0 {
-        return 2;
+    if k == FRESH {
+        return HALF;
     }
-    1
+    PAIRS
 }
 
 // Whether a line is bad: 12.
 pub fn has_bad_line(text: &[u8]) -> bool
     ensures { λ r. ⌜ isBad (linesIn (now (text .entry))) ≡ r ⌝ }
 {
-    let mut k = 0;
+    let mut k = FRESH;
     let mut i = 0;
     while i < text.len() {
         k = step_line(k, text[i]);
-        if k == 3 {
+        if k == BAD {
             return true;
         }
         i += 1;
     }
-    k == 2
+    k == HALF
 }

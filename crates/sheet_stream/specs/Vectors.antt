@@ -33,7 +33,8 @@ pub v-held :
     (held (sixty ++ (48 ∷ 48 ∷ 10 ∷ [])) ≡ refusal 10) ×
     (held (102 ∷ 102 ∷ 10 ∷ sixty) ≡ refusal 10) ×
     (held (48 ∷ 48 ∷ 10 ∷ 10 ∷ sixty) ≡ refusal 12)
-unfolding linesFrom digitOf happens after step inPlace adds cuts ends pieces contentOf bodyOf commandOf packetOf checksum crcFrom crcStep table finished somethingOpen firstFault ofEvents
+unfolding linesFrom digitOf happens after step inPlace adds cuts ends pieces contentOf bodyOf commandOf packetOf
+    checksum crcFrom crcStep table finished somethingOpen firstFault ofEvents
 v-held = (refl, refl, refl, refl, refl, refl, refl, refl)
 
 -- "nothing is open at the end": a frame with content, after CE, after an escaped byte, past a fault, after it, after CE and a fault

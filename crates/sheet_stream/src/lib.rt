@@ -1,4 +1,5 @@
 // The first half of reading a route sheet: from its text to the one finished message, or the first refusal.
+use base_hex::NO_DIGIT;
 use framing::Event;
 use framing::Frame;
 use framing::Pending;
@@ -108,7 +109,8 @@ fn take_byte(tally: Tally, store: &mut [u8], b: u8) -> Tally
 // The bytes that the digits are, up to the first event from 10 up.
 fn take_text(text: &[u8], store: &mut [u8]) -> Tally
     requires { ⌜ length (now store) ≡ storeLength ⌝ }
-    ensures { λ r. ⌜ ofEvents (happens begin 0 (bytesFrom 16 (now (text .entry)))) (after begin (bytesFrom 16 (now (text .entry)))) ≡ left r (now (store .exit)) [] ⌝ }
+    ensures { λ r. ⌜ ofEvents (happens begin 0 (bytesFrom 16 (now (text .entry)))) (after begin (bytesFrom 16 (now (text .entry))))
+        ≡ left r (now (store .exit)) [] ⌝ }
     ensures { λ _. ⌜ storeFrom begin (now (store .entry)) (bytesFrom 16 (now (text .entry))) ≡ now (store .exit) ⌝ }
 {
     let mut tally = Tally {
@@ -117,15 +119,15 @@ fn take_text(text: &[u8], store: &mut [u8]) -> Tally
         length: 0,
         refused: 0,
     };
-    let mut first = 16;
+    let mut first = NO_DIGIT;
     let mut i = 0;
     while i < text.len() {
         let d = base_hex::digit(text[i]);
         i += 1;
-        if d == 16 {
+        if d == NO_DIGIT {
             continue;
         }
-        if first == 16 {
+        if first == NO_DIGIT {
             first = d;
             continue;
         }
@@ -133,7 +135,7 @@ fn take_text(text: &[u8], store: &mut [u8]) -> Tally
         if tally.refused != 0 {
             return tally;
         }
-        first = 16;
+        first = NO_DIGIT;
     }
     tally
 }

@@ -1,5 +1,5 @@
--- What the supervisor is shown of a session call's event, by document 01's number ("Numbers answered"): 0 is "done, or more bytes needed" and 1 SETUP, which are
--- no events of the link; 4 is an incoming keep-alive request; every other is an event.
+-- What the supervisor is shown of a session call's event, by document 01's number ("Numbers answered"): 0 is "done, or more bytes needed" and 1 SETUP, which
+-- are no events of the link; 4 is an incoming keep-alive request; every other is an event.
 use Prim.Native.Nat.{ℕ}
 use lib.Dec.{ltb, eqb}
 use Rattle.base_choices.specs.Choices.{pick}

@@ -13,7 +13,8 @@ use Rattle.supervision.specs.declared.Shown.{Shown}
 use Rattle.supervision.specs.Rules.{Showing, begins, answers}
 use Rattle.supervision.specs.Supervisor.{wrap, begun, shows}
 
--- ---- "if its state comes back as left, every event is shown with its tick, the tick never goes back but at its wrap, and it is shown at least once in every 1,000 ms"
+-- ---- "if its state comes back as left, every event is shown with its tick, the tick never goes back but at its wrap, and it is shown at least once in every
+-- 1,000 ms"
 
 -- The tick at a true time: it counts milliseconds, and stood at o at the time 0.
 abbrev pub tickAt : ℕ → ℕ → ℕ
@@ -24,15 +25,15 @@ pub data Often : ℕ → List Showing → ℕ → Type 0 where
   last : {a z : ℕ} → a ≤ z → z ≤ a + 1000 → Often a [] z
   next : {a z : ℕ} {xs : List Showing} (x : Showing) → a ≤ x .time → x .time ≤ a + 1000 → Often (x .time) xs z → Often a (x ∷ xs) z
 
--- Calls one after another, each with the state that the one before it left, and with the tick of what it shows. What a call gives is what `shows` says: the contract
--- of `show`.
+-- Calls one after another, each with the state that the one before it left, and with the tick of what it shows. What a call gives is what `shows` says: the
+-- contract of `show`.
 pub data Calls : ℕ → Link → List Showing → List Answer → Link → Type 0 where
   none : {o : ℕ} {l : Link} → Calls o l [] [] l
   call : {o : ℕ} {l l′ : Link} {xs : List Showing} {rs : List Answer} (x : Showing) (r : Shown)
       → r ≡ shows l (tickAt o (x .time)) (x .happened) → Calls o (r .link) xs rs l′ → Calls o l (x ∷ xs) (r .answer ∷ rs) l′
 
--- ---- "then, counting the start as an event, a link with no events is declared dead no later than 12,000 ms after its last event, and a link with an event in every
--- 4,000 ms never is"
+-- ---- "then, counting the start as an event, a link with no events is declared dead no later than 12,000 ms after its last event, and a link with an event
+-- in every 4,000 ms never is"
 
 -- what counts as an event: a request too
 abbrev pub isEvent : Happened → Bool

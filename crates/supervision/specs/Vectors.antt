@@ -33,7 +33,9 @@ pub silence : answers (begins 100)
 silence = refl
 
 -- an event counts first, at both bounds, and a request is one
-pub first : answers (begins 0) (at 5000 Event ∷ at 9999 Nothing ∷ at 10000 Nothing ∷ at 15000 Event ∷ at 19999 Nothing ∷ at 20000 Nothing ∷ at 25000 Request ∷ at 29999 Nothing ∷ [])
+pub first :
+    answers (begins 0)
+    (at 5000 Event ∷ at 9999 Nothing ∷ at 10000 Nothing ∷ at 15000 Event ∷ at 19999 Nothing ∷ at 20000 Nothing ∷ at 25000 Request ∷ at 29999 Nothing ∷ [])
     ≡ say.Nothing ∷ say.Nothing ∷ say.Ask ∷ say.Nothing ∷ say.Nothing ∷ say.Ask ∷ say.Respond ∷ say.Nothing ∷ []
 first = refl
 

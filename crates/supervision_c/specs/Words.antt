@@ -1,4 +1,5 @@
--- A supervisor's state as two words, and back: whether it is silent (0), asked (1) or dead (2), and the tick since when, 0 if it is dead. And what is to be done, as a number.
+-- A supervisor's state as two words, and back: whether it is silent (0), asked (1) or dead (2), and the tick since when, 0 if it is dead. And what is to be
+-- done, as a number.
 use Prim.Native.Nat.{ℕ}
 use mathlib.Core.Bool.{Bool, false}
 use mathlib.Core.List.{List, [], _∷_}

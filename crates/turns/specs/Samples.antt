@@ -26,9 +26,9 @@ pub data Sample : Type 0 where
 abbrev numberOf : Happening → ℕ
 numberOf h = h .said .number
 
--- What a sample says, in the words of the functions' contracts. An integer is written so and read from it; a stream gives these events and no other, by the rules
--- that the claim ties to the session (`every-cut`); a message is read into a table of two rows, whatever they hold, as these entries, and a row past them is as
--- it was.
+-- What a sample says, in the words of the functions' contracts. An integer is written so and read from it; a stream gives these events and no other, by the
+-- rules that the claim ties to the session (`every-cut`); a message is read into a table of two rows, whatever they hold, as these entries, and a row past
+-- them is as it was.
 abbrev pub Holds : Sample → Type 0
 Holds (content z bs) = (shortest z ≡ bs) × (integer bs ≡ Int z)
 Holds (framed xs bs) = frame xs ≡ bs

@@ -7,7 +7,7 @@ use Rattle.glow_writer.proofs.write.put_word.Statement.{statement}
 use Rattle.glow_writer.proofs.write.put_word.Tie as tie
 use Rattle.glow_writer.proofs.write.put_word.Reads as reads
 use Rattle.glow_writer.proofs.write.put_word.Lts as lts
-use Rattle.glow_member_sizes.proofs.int_of.Reads as int-of-reads
+use Rattle.glow_rows.proofs.int_of.Reads as int-of-reads
 use Rattle.glow_member_sizes.proofs.place.Reads as place-reads
 use Rattle.glow_writer.proofs.write.flag.Reads as flag-reads
 use Rattle.glow_writer.proofs.write.put_octet.Reads as put-octet-reads
@@ -49,7 +49,7 @@ returns-2 c =
     let the-write-int = c .before .before .before .write-int in
     let the-place = c .place in
     let z : toZ w64 (ofZ w64 (the-int-of .result)) ≡ the-int-of .result = search needs in
-    λ t. int-put _ _ _ _ _ _ _ _ (the-if2 .taken) (the-int-of .ensures ∙ sym z) (the-write-int .ensures) (the-place .ensures)
+    λ t. int-put _ _ _ _ _ _ _ _ (the-if2 .taken) (sym (the-int-of .ensures) ∙ sym z) (the-write-int .ensures) (the-place .ensures)
 
 write-bits-requires : tie.Need-write-bits-requires
 write-bits-requires c κs = search needs
