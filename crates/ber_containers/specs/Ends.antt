@@ -5,7 +5,7 @@ use mathlib.Core.List.{List}
 use mathlib.Core.Bool.{Bool, true, false}
 use lib.ListN.{length, getD}
 use lib.Dec.{leb, eqb}
-use Rattle.base_choices.specs.Choices.{pick}
+use Rattle.base_choices.specs.Choices.{pick, unless}
 use Rattle.ber_tags.specs.declared.Length.{Length}
 use Rattle.ber_tags.specs.declared.Length.the-variants.{Definite, Indefinite}
 use Rattle.ber_tags.specs.declared.Head.{Head}
@@ -73,9 +73,8 @@ enterAt s p o k = counted p k (standingAt s p o)
 abbrev pub firstOf : ℕ → Open → ℕ → Stands → Found
 firstOf p c k (Ended n) = NotFound (no 33 p)
 firstOf p c k (Here t) =
-    pick (eqb (t .inner .definite) (c .definite))
+    unless (eqb (t .inner .definite) (c .definite)) (NotFound (no 31 p))
     (pick (deep (t .constructed) k) (NotFound (no 32 p)) (Value t))
-    (NotFound (no 31 p))
 firstOf p c k (Refused n) = NotFound n
 
 unfoldable pub firstAt : List ℕ → ℕ → Open → ℕ → Found

@@ -4,7 +4,7 @@ use mathlib.Core.List.{List, [], _∷_}
 use mathlib.Core.Bool.{Bool, true, false}
 use lib.ListN.{length}
 use lib.Dec.{leb, eqb}
-use Rattle.base_choices.specs.Choices.{pick, both}
+use Rattle.base_choices.specs.Choices.{pick, unless, both}
 use Rattle.desk_crosspoints.specs.declared.Figures.{Figures}
 use Rattle.desk_crosspoints.specs.Figures.{figuresFit, cellsOf}
 use Rattle.desk_crosspoints.specs.Crosspoints.{Cells, clear, legal}
@@ -47,8 +47,7 @@ answer n cells = record { number = n; cells = cells }
 -- ranges have a size: lent crosspoints of another count are 1, before the mode and the path.
 unfoldable pub deskOpened : Desk → ℕ → Answer
 deskOpened d mode =
-    pick (figuresFit (d .figures))
-    (pick (eqb (length (d .crosspoints)) (cellsOf (d .figures)))
-    (pick (both (eqb mode 0) (pathFits (d .path))) (answer 0 (clear (cellsOf (d .figures)))) (answer 45 (d .crosspoints)))
-    (answer 1 (d .crosspoints)))
-    (answer 45 (d .crosspoints))
+    unless (figuresFit (d .figures)) (answer 45 (d .crosspoints))
+    (unless (eqb (length (d .crosspoints)) (cellsOf (d .figures))) (answer 1 (d .crosspoints))
+    (unless (both (eqb mode 0) (pathFits (d .path))) (answer 45 (d .crosspoints))
+    (answer 0 (clear (cellsOf (d .figures))))))

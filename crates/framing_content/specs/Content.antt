@@ -9,7 +9,7 @@ use Rattle.framing_content.specs.declared.Fault.the-variants.{Short, Crc
 use Rattle.framing_content.specs.declared.Content.{Content}
 use Rattle.framing_content.specs.declared.Content.the-variants.{Refused, Request, Response, Piece}
 use Rattle.framing_checksum.specs.Checksum.{checksum}
-use Rattle.base_choices.specs.Choices.{pick}
+use Rattle.base_choices.specs.Choices.{pick, unless}
 
 -- "Flags: 80 first, 40 last, 20 empty, .. the low five bits are zero."
 abbrev pub isFirst : ℕ → Bool
@@ -27,38 +27,29 @@ emptyBit n = pick (eqb n 9) 1 0
 unfoldable pub packetOf : List ℕ → Content
 packetOf ys =
     pick (ltb (length ys) 9) (Refused Header)
-    (pick (eqb (getD ys 4 0 % 32) 0)
-    (pick (eqb (getD ys 4 0 / 32 % 2) (emptyBit (length ys)))
-    (pick (eqb (getD ys 5 0) 1)
-    (pick (eqb (getD ys 6 0) 2)
-    (pick (eqb (getD ys 8 0) 2)
-    (Piece (isFirst (getD ys 4 0)) (isLast (getD ys 4 0)))
-    (Refused Dtd))
-    (Refused Dtd))
-    (Refused Dtd))
-    (Refused Flags))
-    (Refused Flags))
+    (unless (eqb (getD ys 4 0 % 32) 0) (Refused Flags)
+    (unless (eqb (getD ys 4 0 / 32 % 2) (emptyBit (length ys))) (Refused Flags)
+    (unless (eqb (getD ys 5 0) 1) (Refused Dtd)
+    (unless (eqb (getD ys 6 0) 2) (Refused Dtd)
+    (unless (eqb (getD ys 8 0) 2) (Refused Dtd)
+    (Piece (isFirst (getD ys 4 0)) (isLast (getD ys 4 0))))))))
 
 -- "Commands 01 and 02 are keep-alive request and response, exactly four bytes."
 unfoldable pub commandOf : List ℕ → Content
 commandOf ys =
     pick (eqb (getD ys 2 0) 0) (packetOf ys)
-    (pick (eqb (length ys) 4)
+    (unless (eqb (length ys) 4) (Refused Header)
     (pick (eqb (getD ys 2 0) 1) Request
     (pick (eqb (getD ys 2 0) 2) Response
-    (Refused Header)))
-    (Refused Header))
+    (Refused Header))))
 
 -- "Content without CRC: slot 00, type 0E, command, version 01."
 unfoldable pub bodyOf : List ℕ → Content
 bodyOf ys =
-    pick (eqb (getD ys 0 0) 0)
-    (pick (eqb (getD ys 1 0) 0x0e)
-    (pick (eqb (getD ys 3 0) 1)
-    (commandOf ys)
-    (Refused Header))
-    (Refused Header))
-    (Refused Header)
+    unless (eqb (getD ys 0 0) 0) (Refused Header)
+    (unless (eqb (getD ys 1 0) 0x0e) (Refused Header)
+    (unless (eqb (getD ys 3 0) 1) (Refused Header)
+    (commandOf ys)))
 
 -- the content without its checksum
 abbrev pub body : List ℕ → List ℕ

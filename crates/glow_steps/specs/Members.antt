@@ -5,7 +5,7 @@ use mathlib.Core.List.{List}
 use mathlib.Core.Bool.{Bool, true, false, not}
 use lib.Bits.{bitOr}
 use lib.Dec.{leb, ltb, eqb}
-use Rattle.base_choices.specs.Choices.{pick}
+use Rattle.base_choices.specs.Choices.{pick, unless}
 use Rattle.ber_containers.specs.declared.Open.{Open}
 use Rattle.ber_containers.specs.declared.Tag.{Tag}
 use Rattle.ber_containers.specs.declared.Stands.{Stands}
@@ -100,18 +100,17 @@ listedAt s t k what above after c = valueOf s t k what above after c (firstAt s 
 unfoldable pub ruledAt : List ℕ → ℕ → Tag → ℕ → ℕ → ℕ → ℕ → ℕ → Member
 ruledAt s p t k row above before what =
     pick (eqb what grammar.no) (overOf (afterOther row before (t .number)) (passedAt s t k))
-    (pick (eqb (t .constructed) 1)
+    (unless (eqb (t .constructed) 1) (NoMember (no 33 p))
     (pick (again row before (t .number)) (NoMember (no 33 p))
-    (listedAt s t k what above (afterListed row before (t .number)) (column row (t .number))))
-    (NoMember (no 33 p)))
+    (listedAt s t k what above (afterListed row before (t .number)) (column row (t .number)))))
 
 -- at the container's end every required member is due
 abbrev pub memberOf : List ℕ → ℕ → ℕ → ℕ → ℕ → ℕ → Stands → Member
 memberOf s p k row above before (Ended next) = pick (due row before pastAll) (NoMember (no 33 p)) (Done next)
 memberOf s p k row above before (Here t) =
-    pick (eqb (t .class) context)
-    (pick (inOrder row before (t .number)) (ruledAt s p t (k - 1) row above before (ruleOf row (t .number))) (NoMember (no 33 p)))
-    (NoMember (no 33 p))
+    unless (eqb (t .class) context) (NoMember (no 33 p))
+    (unless (inOrder row before (t .number)) (NoMember (no 33 p))
+    (ruledAt s p t (k - 1) row above before (ruleOf row (t .number))))
 memberOf s p k row above before (Refused e) = NoMember e
 
 -- what stands at p among the members of a row, in the open container o with k containers still allowed

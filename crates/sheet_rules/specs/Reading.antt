@@ -7,7 +7,7 @@ use mathlib.Core.List.{List, [], _∷_}
 use mathlib.Core.Bool.{Bool, true, false}
 use lib.ListN.{length}
 use lib.Dec.{leb, ltb, eqb}
-use Rattle.base_choices.specs.Choices.{pick, both}
+use Rattle.base_choices.specs.Choices.{pick, unless, both}
 use Rattle.ber_containers.specs.declared.Onto.{Onto}
 use Rattle.ber_containers.specs.declared.Onto.the-variants.{Next, Refused as Stopped}
 use Rattle.glow_rows.specs.Entry.{Entries}
@@ -90,9 +90,8 @@ allLinks (e ∷ es) =
 unfoldable pub ofEntries : List Item → Sheet
 ofEntries [] = refused 33
 ofEntries (e ∷ es) =
-    pick (both (eqb (e .kind) qualifiedMatrix) (allLinks es))
+    unless (both (eqb (e .kind) qualifiedMatrix) (allLinks es)) (refused 33)
     (opens (figuresIn e) (pathIn e) (modeIn e) (e ∷ es))
-    (refused 33)
 
 -- ---- "the tree's", with a table of 256 entries: 38 ROOM where it has more
 
@@ -147,9 +146,8 @@ oneOf (m ∷ later ∷ ms) = refusal 33
 
 unfoldable pub ofEvents : List Happening → State → Held
 ofEvents hs end =
-    pick (eqb (firstFault hs) 0)
+    unless (eqb (firstFault hs) 0) (refusal (firstFault hs))
     (pick (somethingOpen end) (refusal 33) (oneOf (finished hs)))
-    (refusal (firstFault hs))
 
 -- ---- "12 for any bad line"; the lines are one stream
 
