@@ -13,6 +13,10 @@ use Rattle.ber_containers.specs.declared.Onto.the-variants.{Next}
 use Rattle.ber_containers.specs.Ends.{standingAt}
 use Rattle.ber_containers.specs.Passing.{Through}
 
+-- a container by its form and its end
+abbrev pub openBy : ℕ → ℕ → Open
+openBy definite end = record { definite = definite; end = end }
+
 -- the tag of the first octet b, with the length n (128: indefinite), in a container that ends at `end`
 unfoldable pub shortTag : ℕ → ℕ → ℕ → ℕ → Tag
 shortTag b start n end =

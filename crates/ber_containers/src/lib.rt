@@ -3,14 +3,17 @@ use base_casts::size;
 use base_casts::wide;
 use ber_tags::Head;
 use ber_tags::Length;
-ghost use Prim.Native.Nat.{_+_, _-_, _≤_, _<_};
+ghost use Prim.Native.Nat.{ℕ, _+_, _-_, _≤_, _<_};
 ghost use mathlib.Core.Path.{_≡_};
 ghost use mathlib.Core.Bool.{true};
 ghost use lib.ListN.{length};
 ghost use lib.Dec.{eqb};
 ghost use Rattle.ber_containers.specs.Ends.{openOf, bit, zeroAt, closingAt, standingAt, deep, enterAt, firstAt, lastAt, isTag};
+ghost use Rattle.ber_containers.specs.declared.No.{No};
+ghost use Rattle.ber_containers.specs.declared.Onto.{Onto};
+ghost use Rattle.ber_containers.specs.declared.Onto.the-variants.{Refused as Stopped};
 ghost use Rattle.ber_containers.specs.Passing.{skipped, crossAt, Through, passedAt};
-ghost use Rattle.ber_containers.specs.Short.{notShut, shortTag, Shuts, Shortens, TagTold, Passes};
+ghost use Rattle.ber_containers.specs.Short.{openBy, notShut, shortTag, Shuts, Shortens, TagTold, Passes};
 ghost use Rattle.ber_containers.specs.Progress.{Fits, Onward, FoundOnward, OntoOnward, CrossOnward};
 
 // What a quick answer says where the place after the container's end is not told: no place in a message.
@@ -70,17 +73,17 @@ fn zero_at(s: &[u8], p: usize) -> bool
     s[p] == 0
 }
 
-// A 00 stands at p.
-fn closing(s: &[u8], p: usize, o: Open) -> Stands
+// A 00 stands at p, in a container that is definite (1) or not and ends at `end`.
+fn closing(s: &[u8], p: usize, definite: u64, end: usize) -> Stands
     requires { ⌜ p < length (now s) ⌝ }
-    ensures { λ r. ⌜ closingAt (now (s .entry)) p o ≡ r ⌝ }
+    ensures { λ r. ⌜ closingAt (now (s .entry)) p (openBy definite end) ≡ r ⌝ }
     ensures { λ r. ⌜ Onward (now (s .entry)) p r ⌝ }
 {
-    if o.definite == 1 {
+    if definite == 1 {
         return Stands::Refused(No(30, p));
     }
     let q = p + 1;
-    if q == o.end {
+    if q == end {
         return Stands::Refused(No(30, p));
     }
     if s.len() <= q {
@@ -131,6 +134,9 @@ pub fn shut(s: &[u8], p: usize, o: Open) -> usize
     if s.len() <= p {
         return NOT_SHUT;
     }
+    if s[p] != 0 {
+        return NOT_SHUT;
+    }
     let q = p + 1;
     if s.len() <= q {
         return NOT_SHUT;
@@ -138,10 +144,8 @@ pub fn shut(s: &[u8], p: usize, o: Open) -> usize
     if q == o.end {
         return NOT_SHUT;
     }
-    if s[p] == 0 {
-        if s[q] == 0 {
-            return p + 2;
-        }
+    if s[q] == 0 {
+        return p + 2;
     }
     NOT_SHUT
 }
@@ -208,20 +212,19 @@ fn short_tag(b: u8, start: usize, n: usize, end: usize) -> Tag
     }
 }
 
-// What stands at p in the open container o.
-pub fn standing(s: &[u8], p: usize, o: Open) -> Stands
-    ensures { λ r. ⌜ standingAt (now (s .entry)) p o ≡ r ⌝ }
+// What stands at p in a container that is definite (1) or not and ends at `end`: two numbers and no struct, which would go through memory.
+pub fn standing(s: &[u8], p: usize, definite: u64, end: usize) -> Stands
+    ensures { λ r. ⌜ standingAt (now (s .entry)) p (openBy definite end) ≡ r ⌝ }
     ensures { λ r. ⌜ Onward (now (s .entry)) p r ⌝ }
 {
-    let end = o.end;
     if p == end {
-        if o.definite == 1 {
+        if definite == 1 {
             return Stands::Ended(p);
         }
         return Stands::Refused(No(30, p));
     }
     if zero_at(s, p) {
-        return closing(s, p, o);
+        return closing(s, p, definite, end);
     }
     match ber_tags::read_tag(s, p, end) {
         Head::Refused { place } => Stands::Refused(No(30, place)),
@@ -269,20 +272,7 @@ pub fn entering(s: &[u8], p: usize, o: Open, k: usize) -> Stands
     ensures { λ r. ⌜ enterAt (now (s .entry)) p o k ≡ r ⌝ }
     ensures { λ r. ⌜ Onward (now (s .entry)) p r ⌝ }
 {
-    let z = shut(s, p, o);
-    if z != NOT_SHUT {
-        return Stands::Ended(z);
-    }
-    let end = o.end;
-    let n = short(s, p, end);
-    if n < 129 {
-        let quick = short_tag(s[p], p + 2, n, end);
-        if too_deep(quick.constructed, k) {
-            return Stands::Refused(No(32, p));
-        }
-        return Stands::Here(quick);
-    }
-    match standing(s, p, o) {
+    match standing(s, p, o.definite, o.end) {
         Stands::Ended(next) => Stands::Ended(next),
         Stands::Refused(n) => Stands::Refused(n),
         Stands::Here(t) => {
@@ -299,20 +289,7 @@ pub fn first(s: &[u8], p: usize, c: Open, k: usize) -> Found
     ensures { λ r. ⌜ firstAt (now (s .entry)) p c k ≡ r ⌝ }
     ensures { λ r. ⌜ FoundOnward (now (s .entry)) p r ⌝ }
 {
-    let end = c.end;
-    let n = short(s, p, end);
-    if n < 129 {
-        let quick = short_tag(s[p], p + 2, n, end);
-        let form = quick.inner;
-        if !agree(form.definite, c.definite) {
-            return Found::Refused(No(31, p));
-        }
-        if too_deep(quick.constructed, k) {
-            return Found::Refused(No(32, p));
-        }
-        return Found::Value(quick);
-    }
-    match standing(s, p, c) {
+    match standing(s, p, c.definite, c.end) {
         Stands::Ended(next) => Found::Refused(No(33, p)),
         Stands::Refused(n) => Found::Refused(n),
         Stands::Here(t) => {
@@ -337,7 +314,7 @@ pub fn last(s: &[u8], p: usize, c: Open, k: usize) -> Onto
     if z != NOT_SHUT {
         return Onto::Next(z);
     }
-    match standing(s, p, c) {
+    match standing(s, p, c.definite, c.end) {
         Stands::Ended(next) => Onto::Next(next),
         Stands::Refused(n) => Onto::Refused(n),
         Stands::Here(t) => {
@@ -379,30 +356,7 @@ fn cross(s: &[u8], p: usize, o: Open, k: usize) -> Crossing
     ensures { λ r. ⌜ crossAt (now (s .entry)) p o k ≡ r ⌝ }
     ensures { λ r. ⌜ CrossOnward (now (s .entry)) p r ⌝ }
 {
-    let z = shut(s, p, o);
-    if z != NOT_SHUT {
-        return Crossing::Over(z);
-    }
-    let end = o.end;
-    let n = short(s, p, end);
-    if n < 129 {
-        let quick = short_tag(s[p], p + 2, n, end);
-        if quick.constructed == 1 {
-            if k == 0 {
-                return Crossing::Refused(No(32, p));
-            }
-            return Crossing::Into(quick);
-        }
-        match skip(s, quick) {
-            Onto::Next(next) => {
-                return Crossing::Past(next);
-            }
-            Onto::Refused(n) => {
-                return Crossing::Refused(n);
-            }
-        }
-    }
-    match standing(s, p, o) {
+    match standing(s, p, o.definite, o.end) {
         Stands::Ended(next) => Crossing::Over(next),
         Stands::Refused(n) => Crossing::Refused(n),
         Stands::Here(t) => {
@@ -474,7 +428,7 @@ fn tag_at(s: &[u8], p: usize, o: Open) -> Tag
     if n < 129 {
         return short_tag(s[p], p + 2, n, end);
     }
-    match standing(s, p, o) {
+    match standing(s, p, o.definite, end) {
         Stands::Ended(next) => no_tag(),
         Stands::Refused(n) => no_tag(),
         Stands::Here(t) => t,
@@ -491,21 +445,42 @@ fn has_room(d: usize, k: usize) -> bool
     d < 64
 }
 
-// The same by numbers alone, with the containers around the open one on a stack: the place after the container's end, or 2^64 - 1
-// where that is for `through` to say.
-fn nests(s: &[u8], from: usize, o: Open, k: usize) -> usize
-    ensures { λ r. ⌜ Passes (now (s .entry)) from o k r ⌝ }
+// Why what a container holds from a place on is refused, if the part `here` of it stops at p; where that is for `through` to say, all of it again.
+fn stopped(
+    s: &[u8],
+    p: usize,
+    here: Open,
+    left: usize,
+    from: usize,
+    definite: u64,
+    end: usize,
+    k: usize,
+) -> Onto
+    requires { ⌜ ((n : No) → Through (now s) left here p (Stopped n) → Through (now s) k (openBy definite end) from (Stopped n)) ⌝ }
+    ensures { λ r. ⌜ Through (now (s .entry)) k (openBy definite end) from r ⌝ }
+    ensures { λ r. ⌜ OntoOnward from r ⌝ }
+{
+    if let Crossing::Refused(n) = cross(s, p, here, left) {
+        return Onto::Refused(n);
+    }
+    through(s, from, Open { definite, end }, k)
+}
+
+// The same as `through` in one loop, with the containers around the open one on a stack.
+fn nests(s: &[u8], from: usize, definite: u64, end: usize, k: usize) -> Onto
+    ensures { λ r. ⌜ Through (now (s .entry)) k (openBy definite end) from r ⌝ }
+    ensures { λ r. ⌜ OntoOnward from r ⌝ }
 {
     let mut forms = [0u64; 64];
     let mut ends = [0usize; 64];
     let mut d = 0;
     let mut p = from;
-    let mut here = o;
+    let mut here = Open { definite, end };
     loop {
         let z = shut(s, p, here);
         if z != NOT_SHUT {
             if d == 0 {
-                return z;
+                return Onto::Next(z);
             }
             d = d - 1;
             p = z;
@@ -516,12 +491,12 @@ fn nests(s: &[u8], from: usize, o: Open, k: usize) -> usize
         } else {
             let t = tag_at(s, p, here);
             if t.start == NOT_SHUT {
-                return NOT_SHUT;
+                return stopped(s, p, here, k - d, from, definite, end, k);
             }
             let inner = t.inner;
             if t.constructed == 1 {
                 if !has_room(d, k) {
-                    return NOT_SHUT;
+                    return stopped(s, p, here, k - d, from, definite, end, k);
                 }
                 forms[d] = here.definite;
                 ends[d] = here.end;
@@ -530,7 +505,7 @@ fn nests(s: &[u8], from: usize, o: Open, k: usize) -> usize
                 here = inner;
             } else {
                 if s.len() < inner.end {
-                    return NOT_SHUT;
+                    return stopped(s, p, here, k - d, from, definite, end, k);
                 }
                 p = inner.end;
             }
@@ -538,15 +513,53 @@ fn nests(s: &[u8], from: usize, o: Open, k: usize) -> usize
     }
 }
 
-// The same; nothing is laid out for a container that is empty.
-pub fn over(s: &[u8], from: usize, o: Open, k: usize) -> usize
-    ensures { λ r. ⌜ Passes (now (s .entry)) from o k r ⌝ }
+// Passes over values from a place on whose tags and lengths take one octet each, up to the first that is another.
+fn values(s: &[u8], from: usize, end: usize) -> usize
+    ensures { λ r. ⌜ ((k definite : ℕ) (x : Onto) → Through (now (s .entry)) k (openBy definite end) r x → Through (now (s .entry)) k (openBy definite end) from x) ⌝ }
+    ensures { λ r. ⌜ from ≤ r ⌝ }
 {
-    let z = shut(s, from, o);
+    let mut p = from;
+    loop {
+        let n = short(s, p, end);
+        if 128 <= n {
+            return p;
+        }
+        if 32 <= s[p] % 64 {
+            return p;
+        }
+        let next = p + 2 + n;
+        if s.len() < next {
+            return p;
+        }
+        p = next;
+    }
+}
+
+// All that a container holds from a place on. A stack is laid out only where there is a container inside it.
+fn within(s: &[u8], from: usize, definite: u64, end: usize, k: usize) -> Onto
+    ensures { λ r. ⌜ Through (now (s .entry)) k (openBy definite end) from r ⌝ }
+    ensures { λ r. ⌜ OntoOnward from r ⌝ }
+{
+    let p = values(s, from, end);
+    let z = shut(s, p, Open { definite, end });
+    if z != NOT_SHUT {
+        return Onto::Next(z);
+    }
+    nests(s, p, definite, end, k)
+}
+
+// The same as a number: the place after the end of a container that is definite (1) or not, or 2^64 - 1 where it is refused.
+pub fn over(s: &[u8], from: usize, definite: u64, end: usize, k: usize) -> usize
+    ensures { λ r. ⌜ Passes (now (s .entry)) from (openBy definite end) k r ⌝ }
+{
+    let z = shut(s, from, Open { definite, end });
     if z != NOT_SHUT {
         return z;
     }
-    nests(s, from, o, k)
+    match within(s, from, definite, end, k) {
+        Onto::Next(next) => next,
+        Onto::Refused(n) => NOT_SHUT,
+    }
 }
 
 // A tag's value, passed over.
@@ -556,11 +569,7 @@ pub fn passed(s: &[u8], t: Tag, k: usize) -> Onto
 {
     if t.constructed == 1 {
         let inner = t.inner;
-        let z = over(s, t.start, inner, k);
-        if z != NOT_SHUT {
-            return Onto::Next(z);
-        }
-        return through(s, t.start, inner, k);
+        return within(s, t.start, inner.definite, inner.end, k);
     }
     skip(s, t)
 }

@@ -396,7 +396,7 @@ fn past(s: &[u8], p: usize, b: u8, l: usize, end: usize, k: usize) -> usize
         if b % 64 < 32 {
             return ber_containers::NOT_SHUT;
         }
-        return ber_containers::over(s, start, Open { definite: 0, end }, k);
+        return ber_containers::over(s, start, 0, end, k);
     }
     let next = start + l;
     if b % 64 < 32 {
@@ -405,15 +405,7 @@ fn past(s: &[u8], p: usize, b: u8, l: usize, end: usize, k: usize) -> usize
         }
         return next;
     }
-    ber_containers::over(
-        s,
-        start,
-        Open {
-            definite: 1,
-            end: next,
-        },
-        k,
-    )
+    ber_containers::over(s, start, 1, next, k)
 }
 
 // The place after a member at p that is not listed, if its tag and length take one octet each; 2^64 - 1 where that is for the

@@ -1,67 +1,13 @@
-use Rattle.ber_containers.proofs.Quick.{ahead-of, short-here}
-use Rattle.ber_containers.proofs.Laws.{enter-ended, enter-no, enter-deep, enter-here}
 use Rattle.ber_containers.specs.Progress.{Onward}
-use native.Mathlib.Omega.{arith}
+use Rattle.ber_containers.proofs.Laws.{enter-ended, enter-no, enter-deep, enter-here}
 use mathlib.Core.Path.{subst, _∙_}
 use borrow.Author.Needs.{needs}
 use Rattle.ber_containers.proofs.entering.Statement.{statement}
 use Rattle.ber_containers.proofs.entering.Tie as tie
-
-shut-requires : tie.Need-shut-requires
-shut-requires c κs = search needs
-
-returns : tie.Need-returns
-returns c =
-    let the-shut = c .before .shut in
-    let the-if1 = c .if1 in
-    let z = the-shut .ensures (the-if1 .taken) in
-    (enter-ended _ _ _ _ (z .0), z .1)
-
-short-requires : tie.Need-short-requires
-short-requires c κs = search needs
-
-shared-slice-read-short-tag : tie.Need-shared-slice-read-short-tag
-shared-slice-read-short-tag c =
-    let the-short = c .before .before .short in
-    let the-if2 = c .before .if2 in
-    let q = the-short .ensures (the-if2 .taken) in
-    omega (arith, q .inside)
-
-add-short-tag : tie.Need-add-short-tag
-add-short-tag c =
-    let the-short = c .before .before .short in
-    let the-if2 = c .before .if2 in
-    let q = the-short .ensures (the-if2 .taken) in
-    omega (arith, q .inside)
-
-short-tag-requires : tie.Need-short-tag-requires
-short-tag-requires c κs =
-    let the-short = c .before .before .short in
-    let the-if2 = c .before .if2 in
-    the-short .ensures (the-if2 .taken) .fits
-
-too-deep-requires : tie.Need-too-deep-requires
-too-deep-requires c κs = search needs
-
-returns-2 : tie.Need-returns-2
-returns-2 c =
-    let the-short = c .before .before .before .before .before .short in
-    let the-if2 = c .before .before .before .before .if2 in
-    let the-short-tag = c .before .before .short-tag in
-    let the-too-deep = c .before .too-deep in
-    let the-if3 = c .if3 in
-    let e = short-here _ _ _ (the-short .ensures (the-if2 .taken)) (the-short-tag .ensures) in
-    (enter-deep _ _ _ _ e (the-too-deep .ensures ∙ the-if3 .taken), tt)
-
-returns-3 : tie.Need-returns-3
-returns-3 c =
-    let the-short = c .before .before .before .before .before .short in
-    let the-if2 = c .before .before .before .before .if2 in
-    let the-short-tag = c .before .before .short-tag in
-    let the-too-deep = c .before .too-deep in
-    let the-if3 = c .if3 in
-    let e = short-here _ _ _ (the-short .ensures (the-if2 .taken)) (the-short-tag .ensures) in
-    (enter-here _ _ _ _ e (the-too-deep .ensures ∙ the-if3 .left), ahead-of _ _ _ e)
+use Rattle.ber_containers.proofs.entering.Reads as reads
+use Rattle.ber_containers.proofs.entering.Lts as lts
+use Rattle.ber_containers.proofs.standing.Reads as standing-reads
+use Rattle.ber_containers.proofs.too_deep.Reads as too-deep-reads
 
 standing-requires : tie.Need-standing-requires
 standing-requires c κs = search needs
@@ -75,58 +21,47 @@ enum-known-n c = search needs
 enum-known-t : tie.Need-enum-known-t
 enum-known-t c = search needs
 
-too-deep-requires-2 : tie.Need-too-deep-requires-2
-too-deep-requires-2 c κs = search needs
+too-deep-requires : tie.Need-too-deep-requires
+too-deep-requires c κs = search needs
+
+returns : tie.Need-returns
+returns c =
+    let the-standing = c .before .before .before .before .before .standing in
+    let the-t = c .before .before .before .t in
+    let the-too-deep = c .before .too-deep in
+    let the-if1 = c .if1 in
+    (enter-deep _ _ _ _ (the-standing .ensures .0 ∙ the-t .given .1) (the-too-deep .ensures ∙ the-if1 .taken), tt)
+
+returns-2 : tie.Need-returns-2
+returns-2 c =
+    let the-standing = c .before .before .before .standing in
+    let the-next = c .before .next in
+    (enter-ended _ _ _ _ (the-standing .ensures .0 ∙ the-next .given .1), subst (Onward _ _) (the-next .given .1) (the-standing .ensures .1))
+
+returns-3 : tie.Need-returns-3
+returns-3 c =
+    let the-standing = c .before .before .before .standing in
+    let the-n = c .before .n in
+    (enter-no _ _ _ _ (the-standing .ensures .0 ∙ the-n .given .1), tt)
 
 returns-4 : tie.Need-returns-4
 returns-4 c =
     let the-standing = c .before .before .before .before .before .standing in
     let the-t = c .before .before .before .t in
-    let the-too-deep2 = c .before .too-deep2 in
-    let the-if4 = c .if4 in
-    (enter-deep _ _ _ _ (the-standing .ensures .0 ∙ the-t .given .1) (the-too-deep2 .ensures ∙ the-if4 .taken), tt)
-
-returns-5 : tie.Need-returns-5
-returns-5 c =
-    let the-standing = c .before .before .before .standing in
-    let the-next = c .before .next in
-    (enter-ended _ _ _ _ (the-standing .ensures .0 ∙ the-next .given .1), subst (Onward _ _) (the-next .given .1) (the-standing .ensures .1))
-
-returns-6 : tie.Need-returns-6
-returns-6 c =
-    let the-standing = c .before .before .before .standing in
-    let the-n = c .before .n in
-    (enter-no _ _ _ _ (the-standing .ensures .0 ∙ the-n .given .1), tt)
-
-returns-7 : tie.Need-returns-7
-returns-7 c =
-    let the-standing = c .before .before .before .before .before .standing in
-    let the-t = c .before .before .before .t in
-    let the-too-deep2 = c .before .too-deep2 in
-    let the-if4 = c .if4 in (
-      enter-here _ _ _ _ (the-standing .ensures .0 ∙ the-t .given .1) (the-too-deep2 .ensures ∙ the-if4 .left),
-      subst (Onward _ _) (the-t .given .1) (the-standing .ensures .1),
-    )
+    let the-too-deep = c .before .too-deep in
+    let the-if1 = c .if1 in
+    (enter-here _ _ _ _ (the-standing .ensures .0 ∙ the-t .given .1) (the-too-deep .ensures ∙ the-if1 .left), subst (Onward _ _) (the-t .given .1) (the-standing .ensures .1))
 
 pub entering-spec : {M : Type 1} → statement M
 entering-spec =
     tie.close
     (tie.spec
-    shut-requires
-    returns
-    short-requires
-    shared-slice-read-short-tag
-    add-short-tag
-    short-tag-requires
-    too-deep-requires
-    returns-2
-    returns-3
     standing-requires
     enum-known-next
     enum-known-n
     enum-known-t
-    too-deep-requires-2
-    returns-4
-    returns-5
-    returns-6
-    returns-7)
+    too-deep-requires
+    returns
+    returns-2
+    returns-3
+    returns-4)

@@ -1,5 +1,7 @@
+use Rattle.ber_containers.proofs.Stack.{Going, going-start, going-stuck, going-done, going-up, going-past, going-in}
 use Rattle.ber_containers.proofs.Stack.{Going, going-start, going-done, going-up, going-past, going-in}
 use Rattle.ber_containers.proofs.Quick.{ahead-of}
+use Rattle.ber_containers.specs.Short.{openBy}
 use lib.ListN.{length}
 use native.Mathlib.Omega.{arith}
 use mathlib.Core.Path.{refl}
@@ -10,11 +12,11 @@ use Rattle.ber_containers.proofs.nests.Statement.{statement}
 use Rattle.ber_containers.proofs.nests.Tie as tie
 
 abbrev Inv-loop : tie.InvT-loop
-Inv-loop s from k forms₀ ends₀ d₀ p₀ here₀ forms ends d p here =
-    Going s k here₀ from forms ends d p here
+Inv-loop s from definite end k forms₀ ends₀ d₀ p₀ here₀ forms ends d p here =
+    Going s k (openBy definite end) from forms ends d p here
 
 abbrev μ-loop : tie.MeasureT-loop
-μ-loop s from k forms₀ ends₀ d₀ p₀ here₀ forms ends d p here =
+μ-loop s from definite end k forms₀ ends₀ d₀ p₀ here₀ forms ends d p here =
     2 * (length s - p) + d
 
 loop-holds : tie.Need-loop-holds Inv-loop μ-loop
@@ -25,44 +27,44 @@ shut-requires c κs = search needs
 
 returns : tie.Need-returns Inv-loop μ-loop
 returns c =
+    let the-loop = c .before .before .before .loop in
     let the-shut = c .before .before .shut in
     let the-if1 = c .before .if1 in
-    let the-loop = c .before .before .before .loop in
     let the-if2 = c .if2 in
     let z = the-shut .ensures (the-if1 .taken) in
-    λ h. going-done _ _ _ _ _ _ _ _ _ (the-loop .inv) (z .0) (z .1) (the-if2 .taken)
+    going-done _ _ _ _ _ _ _ _ _ (the-loop .inv) (z .0) (z .1) (the-if2 .taken)
 
 sub-d : tie.Need-sub-d Inv-loop μ-loop
 sub-d c =
     let the-if2 = c .if2 in
     let y = the-if2 .left in omega (arith, y)
 
-mul-t15 : tie.Need-mul-t15 Inv-loop μ-loop
-mul-t15 c =
+mul-t16 : tie.Need-mul-t16 Inv-loop μ-loop
+mul-t16 c =
     let the-if2 = c .if2 in
     let the-loop = c .before .before .before .loop in
     let y = the-if2 .left in
     let i = the-loop .inv in
     omega (arith, y, i .fits)
 
-array-read-t18 : tie.Need-array-read-t18 Inv-loop μ-loop
-array-read-t18 c =
+array-read-t19 : tie.Need-array-read-t19 Inv-loop μ-loop
+array-read-t19 c =
     let the-if2 = c .if2 in
     let the-loop = c .before .before .before .loop in
     let y = the-if2 .left in
     let i = the-loop .inv in
     omega (arith, y, i .fits)
 
-mul-t19 : tie.Need-mul-t19 Inv-loop μ-loop
-mul-t19 c =
+mul-t20 : tie.Need-mul-t20 Inv-loop μ-loop
+mul-t20 c =
     let the-if2 = c .if2 in
     let the-loop = c .before .before .before .loop in
     let y = the-if2 .left in
     let i = the-loop .inv in
     omega (arith, y, i .fits)
 
-array-read-t22 : tie.Need-array-read-t22 Inv-loop μ-loop
-array-read-t22 c =
+array-read-t23 : tie.Need-array-read-t23 Inv-loop μ-loop
+array-read-t23 c =
     let the-if2 = c .if2 in
     let the-loop = c .before .before .before .loop in
     let y = the-if2 .left in
@@ -90,14 +92,30 @@ loop-again c =
 tag-at-requires : tie.Need-tag-at-requires Inv-loop μ-loop
 tag-at-requires c κs = search needs
 
+sub-stopped : tie.Need-sub-stopped Inv-loop μ-loop
+sub-stopped c = let the-loop = c .before .before .before .before .before .loop in let i = the-loop .inv in omega (arith, i .deep)
+
+stopped-requires : tie.Need-stopped-requires Inv-loop μ-loop
+stopped-requires c κs = λ n t. going-stuck _ _ _ _ _ _ _ _ _ (c .before .before .before .before .before .loop .inv) t
+
 returns-2 : tie.Need-returns-2 Inv-loop μ-loop
-returns-2 c = λ h. absurd (h refl)
+returns-2 c =
+    let the-stopped = c .stopped in
+    the-stopped .ensures
 
 has-room-requires : tie.Need-has-room-requires Inv-loop μ-loop
 has-room-requires c κs = search needs
 
+sub-stopped-2 : tie.Need-sub-stopped-2 Inv-loop μ-loop
+sub-stopped-2 c = let the-loop = c .before .before .before .before .before .before .before .before .before .before .loop in let i = the-loop .inv in omega (arith, i .deep)
+
+stopped-requires-2 : tie.Need-stopped-requires-2 Inv-loop μ-loop
+stopped-requires-2 c κs = λ n t. going-stuck _ _ _ _ _ _ _ _ _ (c .before .before .before .before .before .before .before .before .before .before .loop .inv) t
+
 returns-3 : tie.Need-returns-3 Inv-loop μ-loop
-returns-3 c = λ h. absurd (h refl)
+returns-3 c =
+    let the-stopped2 = c .stopped2 in
+    the-stopped2 .ensures
 
 mul-forms : tie.Need-mul-forms Inv-loop μ-loop
 mul-forms c =
@@ -154,8 +172,16 @@ loop-again-2 c =
     let e = the-tag-at .ensures (the-if3 .left) in
     going-in _ _ _ _ _ _ _ _ _ (the-loop .inv) e (the-if4 .taken) (b .0) (b .1)
 
+sub-stopped-3 : tie.Need-sub-stopped-3 Inv-loop μ-loop
+sub-stopped-3 c = let the-loop = c .before .before .before .before .before .before .before .before .before .before .loop in let i = the-loop .inv in omega (arith, i .deep)
+
+stopped-requires-3 : tie.Need-stopped-requires-3 Inv-loop μ-loop
+stopped-requires-3 c κs = λ n t. going-stuck _ _ _ _ _ _ _ _ _ (c .before .before .before .before .before .before .before .before .before .before .loop .inv) t
+
 returns-4 : tie.Need-returns-4 Inv-loop μ-loop
-returns-4 c = λ h. absurd (h refl)
+returns-4 c =
+    let the-stopped3 = c .stopped3 in
+    the-stopped3 .ensures
 
 loop-less-3 : tie.Need-loop-less-3 Inv-loop μ-loop
 loop-less-3 c =
@@ -185,15 +211,19 @@ nests-spec =
     shut-requires
     returns
     sub-d
-    mul-t15
-    array-read-t18
-    mul-t19
-    array-read-t22
+    mul-t16
+    array-read-t19
+    mul-t20
+    array-read-t23
     loop-less
     loop-again
     tag-at-requires
+    sub-stopped
+    stopped-requires
     returns-2
     has-room-requires
+    sub-stopped-2
+    stopped-requires-2
     returns-3
     mul-forms
     array-write-forms
@@ -202,6 +232,8 @@ nests-spec =
     add-d
     loop-less-2
     loop-again-2
+    sub-stopped-3
+    stopped-requires-3
     returns-4
     loop-less-3
     loop-again-3)

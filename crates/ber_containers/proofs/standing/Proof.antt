@@ -7,13 +7,13 @@ use Rattle.ber_containers.proofs.standing.Tie as tie
 
 returns : tie.Need-returns
 returns c =
-    let the-if1 = c .before .before .if1 in
+    let the-if1 = c .before .if1 in
     let the-if2 = c .if2 in
     (standing-ended _ _ _ (the-if1 .taken) (the-if2 .taken), omega arith)
 
 returns-2 : tie.Need-returns-2
 returns-2 c =
-    let the-if1 = c .before .before .if1 in
+    let the-if1 = c .before .if1 in
     let the-if2 = c .if2 in
     (standing-missing _ _ _ (the-if1 .taken) (the-if2 .left), tt)
 
