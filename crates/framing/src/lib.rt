@@ -42,7 +42,8 @@ fn runs(session: Session, store: &mut [u8], chunk: &[u8]) -> Fed
             };
         };
         let p = framing_strides::strides(next, i, store, chunk);
-        let onward = p.session;
+        let reached = p.session;
+        let onward = framing_session::rebuilt(reached);
         s = onward;
         i = p.at;
     }

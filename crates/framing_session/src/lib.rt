@@ -99,6 +99,41 @@ pub fn message_length(message: Pending) -> usize
     }
 }
 
+fn rebuilt_frame(frame: Frame) -> Frame
+    ensures { λ r. ⌜ r ≡ frame ⌝ }
+{
+    match frame {
+        Frame::Outside => Frame::Outside,
+        Frame::Stray => Frame::Stray,
+        Frame::Inside { length } => Frame::Inside { length },
+        Frame::Escaped { length } => Frame::Escaped { length },
+        Frame::BadByte { length } => Frame::BadByte { length },
+        Frame::TooLong { length } => Frame::TooLong { length },
+    }
+}
+
+fn rebuilt_message(message: Pending) -> Pending
+    ensures { λ r. ⌜ r ≡ message ⌝ }
+{
+    match message {
+        Pending::Nothing => Pending::Nothing,
+        Pending::Part { length } => Pending::Part { length },
+    }
+}
+
+// The same session, built from its cases and lengths. A loop that hands on a session as it came copies the unused bytes of its enums at each turn, and
+// waits for them; one that hands on a rebuilt one copies none.
+pub fn rebuilt(session: Session) -> Session
+    ensures { λ r. ⌜ r ≡ session ⌝ }
+{
+    let frame = session.frame;
+    let message = session.message;
+    Session {
+        frame: rebuilt_frame(frame),
+        message: rebuilt_message(message),
+    }
+}
+
 // 1 SETUP is answered where this is false, for a store of n bytes.
 pub fn is_legal(session: Session, n: usize) -> bool
     ensures { λ r. ⌜ r ≡ legal session n ⌝ }

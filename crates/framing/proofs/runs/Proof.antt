@@ -3,7 +3,7 @@ use Prim.Native.Nat.{ℕ, _+_, _-_}
 use mathlib.Core.Bool.{false}
 use mathlib.Core.List.{List, [], _∷_}
 use mathlib.Core.Logic.{⊎-elim}
-use mathlib.Core.Path.{_≡_, refl, sym, _∙_}
+use mathlib.Core.Path.{_≡_, refl, sym, subst, _∙_}
 use native.Mathlib.Omega.{arith}
 use borrow.Author.Needs.{needs}
 use types.Run.{OneOf}
@@ -129,13 +129,25 @@ module _ (c : tie.After-strides Inv-loop μ-loop) where
       (c .strides .last .1 .1 .0)
   strode = c .strides .ensures .on (stepped-on .legal) (stepped-on .inside)
 
+  -- with the session rebuilt
+  onward : {x : Session} → x ≡ c .strides .result .session
+      → Reaches (chunk loop-step) (i loop-step + 1) (loop-step .step .result .session) (t′ loop-step) (c .strides .result .at) x (c .strides .last .1 .1 .0)
+  onward e =
+      subst
+      (λ (x : Session). Reaches (chunk loop-step) (i loop-step + 1) (loop-step .step .result .session) (t′ loop-step) (c .strides .result .at) x
+      (c .strides .last .1 .1 .0))
+      (sym e) strode
+
+rebuilt-requires : tie.Need-rebuilt-requires Inv-loop μ-loop
+rebuilt-requires c κs = search needs
+
 loop-less : tie.Need-loop-less Inv-loop μ-loop
-loop-less c = let p = strode (c .before .before .before) in omega (arith, p .forward, p .inside)
+loop-less c = let p = strode (c .before .before .before .before) in omega (arith, p .forward, p .inside)
 
 loop-again : tie.Need-loop-again Inv-loop μ-loop
 loop-again c =
-    let strides = c .before .before .before in
-    reaches-on (loop-step strides .before .before .before .before .loop .inv) (reaches-on (stepped-on strides) (strode strides))
+    let strides = c .before .before .before .before in
+    reaches-on (loop-step strides .before .before .before .before .loop .inv) (reaches-on (stepped-on strides) (onward strides (c .rebuilt .ensures)))
 
 same-length-2 : tie.Need-same-length-2 Inv-loop μ-loop
 same-length-2 c = c .before .loop .inv .legal .room ∙ sym (begun (c .before .before .before .before) .room)
@@ -160,6 +172,7 @@ runs-spec =
     same-length
     returns
     strides-requires
+    rebuilt-requires
     loop-less
     loop-again
     same-length-2
