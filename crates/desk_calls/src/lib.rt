@@ -23,6 +23,7 @@ ghost use Rattle.desk_crosspoints.specs.Figures.{cellsOf};
 ghost use Rattle.desk_crosspoints.specs.Crosspoints.{clear, count, takenFrom, withRow, legal};
 ghost use Rattle.desk_crosspoints.specs.Desk.{deskAt, answer};
 ghost use Rattle.desk_requests.specs.Request.{request, named, others, requested};
+ghost use Rattle.desk_requests.specs.Steps.{totalOf};
 ghost use Rattle.glow_reader.specs.Message.{result, readAt};
 ghost use Rattle.desk_calls.specs.Calls.{outcome, called, outcomeOf, calledAfter};
 ghost use Rattle.desk_calls.specs.Steps.{askedOf, answeredAt, servedIn, Takes};
@@ -38,6 +39,18 @@ pub struct Called {
 pub struct ReadCalled {
     pub answer: Answer,
     pub called: Called,
+}
+
+// An answer, and the total after it (`desk_requests::total_of`).
+struct Answered {
+    number: u64,
+    total: u64,
+}
+
+// The place for the next answer, and the total.
+struct Taken {
+    next: usize,
+    total: u64,
 }
 
 // The first source named, 0 if there is none.
@@ -105,7 +118,7 @@ fn put_row(cells: &mut [u8], target: u64, row: &[u8])
     copy(&mut cells[from..to], row);
 }
 
-// A request on a legal desk; `row` is scratch, a cell for each source.
+// A request on a legal desk whose total is known; `row` is scratch, a cell for each source.
 fn ask(
     f: Figures,
     target: u64,
@@ -113,19 +126,28 @@ fn ask(
     operation: u64,
     crosspoints: &mut [u8],
     row: &mut [u8],
-) -> u64
+    total: u64,
+) -> Answered
     requires { ⌜ legal f (now crosspoints) ≡ true ⌝ }
     requires { ⌜ length (now row) ≡ f .sources ⌝ }
+    requires { ⌜ totalOf f (now crosspoints) ≡ total ⌝ }
     ensures { λ r. ⌜ requested (deskAt f [] (now (crosspoints .entry))) (request target (now (sources .entry)) operation)
-        ≡ answer r (now (crosspoints .exit)) ⌝ }
+        ≡ answer (r .number) (now (crosspoints .exit)) ⌝ }
+    ensures { λ r. ⌜ totalOf f (now (crosspoints .exit)) ≡ r .total ⌝ }
 {
-    let told = desk_requests::judge(f, target, sources, operation, crosspoints, row);
+    let told = desk_requests::judge(f, target, sources, operation, crosspoints, row, total);
     if told.number != 0 {
-        return told.number;
+        return Answered {
+            number: told.number,
+            total,
+        };
     }
     free(f, sources, operation, told.ones, crosspoints);
     put_row(crosspoints, target, row);
-    0
+    Answered {
+        number: 0,
+        total: told.total,
+    }
 }
 
 // One request on a legal desk: 41 to 44, or 1 for an operation that is none, leave the crosspoints as they were.
@@ -135,14 +157,25 @@ fn request_legal(
     sources: &[u64],
     operation: u64,
     crosspoints: &mut [u8],
-) -> u64
+    total: u64,
+) -> Answered
     requires { ⌜ legal f (now crosspoints) ≡ true ⌝ }
+    requires { ⌜ totalOf f (now crosspoints) ≡ total ⌝ }
     ensures { λ r. ⌜ requested (deskAt f [] (now (crosspoints .entry))) (request target (now (sources .entry)) operation)
-        ≡ answer r (now (crosspoints .exit)) ⌝ }
+        ≡ answer (r .number) (now (crosspoints .exit)) ⌝ }
+    ensures { λ r. ⌜ totalOf f (now (crosspoints .exit)) ≡ r .total ⌝ }
 {
     let mut row = [0u8; SIDE];
     let w = index(f.sources);
-    ask(f, target, sources, operation, crosspoints, &mut row[..w])
+    ask(
+        f,
+        target,
+        sources,
+        operation,
+        crosspoints,
+        &mut row[..w],
+        total,
+    )
 }
 
 // One request, whatever the desk's path: 0 and the crosspoints as asked for; 41 to 44, or 1 where the desk is not legal or the operation none, and they stay as
@@ -160,17 +193,28 @@ pub fn request(
     if !desk_crosspoints::is_legal(f, crosspoints) {
         return 1;
     }
-    request_legal(f, target, sources, operation, crosspoints)
+    let total = desk_requests::total_of(f, crosspoints);
+    let answered = request_legal(f, target, sources, operation, crosspoints, total);
+    answered.number
 }
 
 // A request with the sources that octets name. The desk was judged before the first of them, and each leaves it legal.
-fn ask_member(f: Figures, target: u64, octets: &[u8], operation: u64, cells: &mut [u8]) -> u64
+fn ask_member(
+    f: Figures,
+    target: u64,
+    octets: &[u8],
+    operation: u64,
+    cells: &mut [u8],
+    total: u64,
+) -> Answered
     requires { ⌜ legal f (now cells) ≡ true ⌝ }
-    ensures { λ r. ⌜ askedOf (deskAt f [] (now (cells .entry))) target (now (octets .entry)) operation ≡ answer r (now (cells .exit)) ⌝ }
+    requires { ⌜ totalOf f (now cells) ≡ total ⌝ }
+    ensures { λ r. ⌜ askedOf (deskAt f [] (now (cells .entry))) target (now (octets .entry)) operation ≡ answer (r .number) (now (cells .exit)) ⌝ }
+    ensures { λ r. ⌜ totalOf f (now (cells .exit)) ≡ r .total ⌝ }
 {
     let mut list = [0u64; SIDE];
     let n = sources_of(octets, f.sources, &mut list);
-    request_legal(f, target, &list[..n], operation, cells)
+    request_legal(f, target, &list[..n], operation, cells, total)
 }
 
 // The answer to the connection at place i.
@@ -182,18 +226,28 @@ fn answer_to(
     i: usize,
     s: &[u8],
     cells: &mut [u8],
-) -> u64
+    total: u64,
+) -> Answered
     requires { ⌜ (legal f (now cells) ≡ true) × ((length (now path) ≤ 16) × ((count ≤ length (now rows)) × (i < count))) ⌝ }
+    requires { ⌜ totalOf f (now cells) ≡ total ⌝ }
     ensures { λ r. ⌜ answeredAt (deskAt f (now (path .entry)) (now (cells .entry))) (now (rows .entry)) count (now (s .entry)) i
-        ≡ answer r (now (cells .exit)) ⌝ }
+        ≡ answer (r .number) (now (cells .exit)) ⌝ }
+    ensures { λ r. ⌜ totalOf f (now (cells .exit)) ≡ r .total ⌝ }
 {
     if !is_path(path, rows, count, s, word_at(rows, i, PARENT)) {
-        return 40;
+        return Answered { number: 40, total };
     }
     let asked = asked_at(rows, i, s);
     let start = asked.start;
     let end = asked.end;
-    ask_member(f, asked.target, &s[start..end], asked.operation, cells)
+    ask_member(
+        f,
+        asked.target,
+        &s[start..end],
+        asked.operation,
+        cells,
+        total,
+    )
 }
 
 fn narrow(x: u64) -> u8
@@ -203,7 +257,7 @@ fn narrow(x: u64) -> u8
     x as u8
 }
 
-// The entry at place i: a connection is answered at place n of the answers. The place for the next answer.
+// The entry at place i: a connection is answered at place n of the answers.
 fn take_entry(
     f: Figures,
     path: &[u64],
@@ -214,21 +268,28 @@ fn take_entry(
     cells: &mut [u8],
     answers: &mut [u8],
     n: usize,
-) -> usize
+    total: u64,
+) -> Taken
     requires { ⌜ (legal f (now cells) ≡ true) × ((length (now path) ≤ 16) × ((count ≤ length (now rows)) × (i < count))) ⌝ }
     requires { ⌜ n < length (now answers) ⌝ }
+    requires { ⌜ totalOf f (now cells) ≡ total ⌝ }
     ensures { λ r. ⌜ Takes (deskAt f (now (path .entry)) (now (cells .entry))) (now (rows .entry)) count (now (s .entry)) i n (now (answers .entry))
-        r (now (answers .exit)) (now (cells .exit)) ⌝ }
-    ensures { λ r. ⌜ (r ≤ n + 1) × (legal f (now (cells .exit)) ≡ true) ⌝ }
+        (r .next) (now (answers .exit)) (now (cells .exit)) ⌝ }
+    ensures { λ r. ⌜ (r .next ≤ n + 1) × ((legal f (now (cells .exit)) ≡ true) × (totalOf f (now (cells .exit)) ≡ r .total)) ⌝ }
 {
     if word_at(rows, i, KIND) != kinds::CONNECTION {
-        return n;
+        return Taken { next: n, total };
     }
-    answers[n] = narrow(answer_to(f, path, rows, count, i, s, cells));
-    n + 1
+    let answered = answer_to(f, path, rows, count, i, s, cells, total);
+    answers[n] = narrow(answered.number);
+    let next = n + 1;
+    Taken {
+        next,
+        total: answered.total,
+    }
 }
 
-// Every connection answered, in order: how many.
+// Every connection answered, in order: how many. The desk's total is counted once, and each answer tells the next.
 fn serve(
     f: Figures,
     path: &[u64],
@@ -244,8 +305,11 @@ fn serve(
 {
     let mut i: usize = 0;
     let mut n: usize = 0;
+    let mut total = desk_requests::total_of(f, cells);
     while i < count {
-        n = take_entry(f, path, rows, count, i, s, cells, answers, n);
+        let taken = take_entry(f, path, rows, count, i, s, cells, answers, n, total);
+        n = taken.next;
+        total = taken.total;
         i += 1;
     }
     n

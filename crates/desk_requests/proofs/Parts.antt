@@ -75,9 +75,6 @@ module _ (w : ℕ) (cells : Cells) (t : ℕ) (old : Cells) (total before : ℕ) 
         sym i ∙ ap count (sym (row-same w cells t)) ∙ count-row w cells t (rowAt w cells t)
         ∙ ap (λ (n : ℕ). count (take (t * w) cells) + (n + count (drop (t * w + w) cells))) (ap count (sym h) ∙ j)
 
-    pub before-le : before ≤ total
-    before-le = omega (arith, total-parts)
-
     pub total-after : (new : Cells) (after : ℕ) → count new ≡ after → count (withRow w cells t new) ≡ total - before + after
     total-after new after k = omega (arith, total-parts, count-row w cells t new, k)
 

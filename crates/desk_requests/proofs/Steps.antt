@@ -19,9 +19,10 @@ use Rattle.desk_crosspoints.proofs.Laws.{count-some, fit-counts, fit-sources-so
 use Rattle.desk_crosspoints.proofs.Under.{rows-apart, rows-le}
 use Rattle.desk_crosspoints.proofs.Legal.{legal-fit, legal-length}
 use Rattle.desk_requests.specs.Request.{Request, named, others, rowAfter, result, many, overTotal, checks, judged, asked, requested}
-use Rattle.desk_requests.specs.Steps.{fits, told}
+use Rattle.desk_requests.specs.Steps.{fits, told, totalOf, totalAfter, judgedWith, toldWith}
 use Rattle.desk_requests.proofs.Parts.{first-below}
-use Rattle.desk_requests.proofs.Answers.{request-asked, request-none, asked-no, asked-yes}
+use Rattle.desk_requests.proofs.Answers.{result-is, request-asked, request-none, asked-no, asked-yes}
+use Rattle.desk_requests.proofs.Totals.{total-le, total-kept, total-tells}
 use Rattle.desk_requests.proofs.Claims.{Granted, granted}
 
 -- a target's cells lie in the crosspoints
@@ -91,17 +92,37 @@ module _ (d : Desk) (req : Request) (row : Cells) where
   abbrev fit : Type 0
   fit = fits (d .figures) (length (d .crosspoints)) (length row) ≡ true
 
-  pub told-unfit : fits (d .figures) (length (d .crosspoints)) (length row) ≡ false → told d req row ≡ 1
-  unfolding told
-  told-unfit h = rw h
-
-  pub told-operation : fit → 2 < req .operation → told d req row ≡ 1
+  told-operation : fit → 2 < req .operation → told d req row ≡ 1
   unfolding told
   told-operation h o = rw (h, lt-leb _ _ o)
 
-  pub told-judged : fit → req .operation ≤ 2 → (n : ℕ) → judged d req ≡ n → told d req row ≡ n
+  told-judged : fit → req .operation ≤ 2 → told d req row ≡ judged d req
   unfolding told
-  told-judged h o n j = rw (h, le-leb _ _ o) j
+  told-judged h o = rw (h, le-leb _ _ o)
+
+  module _ (total : ℕ) where
+    pub with-unfit : fits (d .figures) (length (d .crosspoints)) (length row) ≡ false → toldWith total d req row ≡ 1
+    unfolding toldWith
+    with-unfit h = rw h
+
+    pub with-over : fit → length (d .crosspoints) < total → toldWith total d req row ≡ 1
+    unfolding toldWith
+    with-over h t = rw (h, lt-leb _ _ t)
+
+    pub with-operation : fit → total ≤ length (d .crosspoints) → 2 < req .operation → toldWith total d req row ≡ 1
+    unfolding toldWith
+    with-operation h t o = rw (h, le-leb _ _ t, lt-leb _ _ o)
+
+    pub with-judged : fit → total ≤ length (d .crosspoints) → req .operation ≤ 2 → (n : ℕ) → judgedWith total d req ≡ n → toldWith total d req row ≡ n
+    unfolding toldWith
+    with-judged h t o n j = rw (h, le-leb _ _ t, le-leb _ _ o) j
+
+    -- with the desk's own total it is what is told without one
+    pub told-with : totalOf (d .figures) (d .crosspoints) ≡ total → toldWith total d req row ≡ told d req row
+    unfolding toldWith told judgedWith judged checks
+    told-with e =
+        let t : total ≤ length (d .crosspoints) = omega (arith, e, total-le (d .figures) (d .crosspoints)) in
+        rw (le-leb _ _ t, total-tells d req total e)
 
 -- on a legal desk they are the request
 module _ (d : Desk) (req : Request) (h : legal (d .figures) (d .crosspoints) ≡ true) where
@@ -115,7 +136,7 @@ module _ (d : Desk) (req : Request) (h : legal (d .figures) (d .crosspoints) ≡
     none o = told-operation d req row (legal-fits (length row) e) o
 
     same : req .operation ≤ 2 → told d req row ≡ judged d req
-    same o = told-judged d req row (legal-fits (length row) e) o (judged d req) refl
+    same o = told-judged d req row (legal-fits (length row) e) o
 
     pub told-refused : (n : ℕ) → told d req row ≡ n → (n ≡ 0 → ⊥) → requested d req ≡ answer n (d .crosspoints)
     told-refused n t z =
@@ -147,6 +168,14 @@ module _ (d : Desk) (req : Request) (h : legal (d .figures) (d .crosspoints) ≡
       told-done w some new after l o r a =
           request-asked d req h known
           ∙ asked-yes d req some new after passed o r (a ∙ ap (λ (x : ℕ). withRow x some (req .target) new) l)
+
+-- the crosspoints after a request have the total that was kept
+pub done-total : (d : Desk) (req : Request) (total left w : ℕ) (some new after : Cells) → totalOf (d .figures) (d .crosspoints) ≡ total
+    → w ≡ d .figures .sources → some ≡ others (d .figures) (req .sources) (req .operation) (d .crosspoints) → new ≡ rowAfter d req
+    → after ≡ withRow w some (req .target) new → totalAfter total d req ≡ left → totalOf (d .figures) after ≡ left
+done-total d req total left w some new after e l o r a t =
+    ap (totalOf (d .figures)) (a ∙ ap (λ (x : ℕ). withRow x some (req .target) new) l ∙ sym (result-is d req some new o r))
+    ∙ total-kept d req total e ∙ t
 
 -- a request does not look at the path
 pub request-path : (d : Desk) (path : List ℕ) (req : Request) → requested d req ≡ requested (deskAt (d .figures) path (d .crosspoints)) req

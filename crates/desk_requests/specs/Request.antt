@@ -105,14 +105,17 @@ many d r =
 unfoldable pub overTotal : Desk → Request → Bool
 overTotal d r = both (eqb (d .figures .kind) nToN) (ltb (mostTotal (d .figures)) (count (result d r)))
 
--- "Frame, header and desk checks run in table order": 41 TARGET, 42 SOURCE, 43 MANY, 44 TOTAL
-unfoldable pub checks : Desk → Request → List Check
-checks d r =
+-- "Frame, header and desk checks run in table order": 41 TARGET, 42 SOURCE, 43 MANY, 44 TOTAL, where `over` says whether the total limit is passed
+abbrev pub checksBy : Bool → Desk → Request → List Check
+checksBy over d r =
     check (leb (d .figures .targets) (r .target)) 41
     ∷ check (not (allBelow (d .figures .sources) (r .sources))) 42
     ∷ check (both (limited r) (many d r)) 43
-    ∷ check (both (limited r) (overTotal d r)) 44
+    ∷ check (both (limited r) over) 44
     ∷ []
+
+unfoldable pub checks : Desk → Request → List Check
+checks d r = checksBy (overTotal d r) d r
 
 unfoldable pub judged : Desk → Request → ℕ
 judged d r = firstOf (checks d r)

@@ -13,18 +13,19 @@ ghost use Rattle.base_choices.specs.Choices.{pick, both};
 ghost use Rattle.desk_crosspoints.specs.Figures.{nToN, side, mostCells, cellsOf, mostEach, mostTotal};
 ghost use Rattle.desk_crosspoints.specs.Crosspoints.{count, rowAt};
 ghost use Rattle.desk_crosspoints.specs.Desk.{deskAt};
-ghost use Rattle.desk_requests.specs.Request.{request, marked, named, becomes, allBelow, rowAfter, judged};
-ghost use Rattle.desk_requests.specs.Steps.{fits, told};
+ghost use Rattle.desk_requests.specs.Request.{request, disconnect, marked, named, becomes, allBelow, rowAfter};
+ghost use Rattle.desk_requests.specs.Steps.{fits, heeded, totalOf, totalAfter, judgedWith, toldWith};
 
 // The operations of a request (001); absolute is 0.
 pub const CONNECT: u64 = 1;
 
 pub const DISCONNECT: u64 = 2;
 
-// The number of the first check that fails, 0 where none does, and how many sources are named.
+// The number of the first check that fails, 0 where none does; then how many sources are named, and the total after the request.
 pub struct Judged {
     pub number: u64,
     pub ones: u64,
+    pub total: u64,
 }
 
 // Whether every source named is one of the desk's.
@@ -110,20 +111,45 @@ fn is_many(f: Figures, ones: u64, set: u64) -> bool
     1 < ones
 }
 
-// 44 or 0 for a target that has `before` cells set and will have `after`. Only N:N heeds the total, so that the others need no count.
-fn over_total(f: Figures, cells: &[u8], before: u64, after: u64) -> u64
-    requires { ⌜ length (now cells) ≤ mostCells ⌝ }
-    requires { ⌜ before ≤ count (now cells) ⌝ }
-    requires { ⌜ after ≤ side ⌝ }
-    ensures { λ r. ⌜ pick (both (eqb (f .kind) nToN) (ltb (mostTotal f) (count (now (cells .entry)) - before + after))) 44 0 ≡ r ⌝ }
+// 0, 43 or 44 where a target will have `set` cells set and the desk `total`; `ones` counts the sources named.
+fn limit_told(f: Figures, operation: u64, ones: u64, set: u64, total: u64) -> u64
+    ensures { λ r. ⌜ pick (eqb operation disconnect) 0
+        (pick (pick (eqb (f .kind) nToN) (ltb (mostEach f) set) (ltb 1 ones)) 43 (pick (ltb (mostTotal f) total) 44 0)) ≡ r ⌝ }
+{
+    if DISCONNECT == operation {
+        return 0;
+    }
+    if is_many(f, ones, set) {
+        return 43;
+    }
+    if desk_crosspoints::in_total(f, total) {
+        return 0;
+    }
+    44
+}
+
+// The total as `judge` takes it: how many crosspoints are set on N:N, which alone heeds it; 0 on the others, which need no count.
+pub fn total_of(f: Figures, cells: &[u8]) -> u64
+    ensures { λ r. ⌜ totalOf f (now (cells .entry)) ≡ r ⌝ }
 {
     if f.kind != N_TO_N {
         return 0;
     }
-    if desk_crosspoints::in_total(f, desk_crosspoints::count(cells) - before + after) {
+    desk_crosspoints::count(cells)
+}
+
+// The total after a request on a target that has `before` cells set and will have `after`.
+fn total_after(f: Figures, total: u64, before: u64, after: u64) -> u64
+    requires { ⌜ (total ≤ mostCells) × (after ≤ side) ⌝ }
+    ensures { λ r. ⌜ heeded f (total - before + after) ≡ r ⌝ }
+{
+    if f.kind != N_TO_N {
         return 0;
     }
-    44
+    if total < before {
+        return after;
+    }
+    total - before + after
 }
 
 // A target's cells.
@@ -148,27 +174,31 @@ fn judge_limits(
     ones: u64,
     cells: &[u8],
     row: &mut [u8],
-) -> u64
+    total: u64,
+) -> Judged
     requires { ⌜ (f .targets ≤ side) × (f .sources ≤ side) ⌝ }
     requires { ⌜ length (now cells) ≡ cellsOf f ⌝ }
     requires { ⌜ length (now row) ≡ f .sources ⌝ }
     requires { ⌜ target + 1 ≤ f .targets ⌝ }
     requires { ⌜ allBelow (f .sources) (now sources) ≡ true ⌝ }
     requires { ⌜ count (named (f .sources) (now sources)) ≡ ones ⌝ }
-    ensures { λ r. ⌜ judged (deskAt f [] (now (cells .entry))) (request target (now (sources .entry)) operation) ≡ r ⌝ }
-    ensures { λ _. ⌜ now (row .exit) ≡ rowAfter (deskAt f [] (now (cells .entry))) (request target (now (sources .entry)) operation) ⌝ }
+    requires { ⌜ total ≤ length (now cells) ⌝ }
+    ensures { λ r. ⌜ judgedWith total (deskAt f [] (now (cells .entry))) (request target (now (sources .entry)) operation) ≡ r .number ⌝ }
+    ensures { λ r. ⌜ (count (named (f .sources) (now (sources .entry))) ≡ r .ones)
+        × ((now (row .exit) ≡ rowAfter (deskAt f [] (now (cells .entry))) (request target (now (sources .entry)) operation))
+        × (totalAfter total (deskAt f [] (now (cells .entry))) (request target (now (sources .entry)) operation) ≡ r .total)) ⌝ }
 {
     get_row(row, cells, target);
     let before = desk_crosspoints::count(row);
     become_row(f, sources, operation, ones, row);
-    if DISCONNECT == operation {
-        return 0;
-    }
     let after = desk_crosspoints::count(row);
-    if is_many(f, ones, after) {
-        return 43;
+    let left = total_after(f, total, before, after);
+    let number = limit_told(f, operation, ones, after, left);
+    Judged {
+        number,
+        ones,
+        total: left,
     }
-    over_total(f, cells, before, after)
 }
 
 // Whether n cells and a row of w are those of a desk with these figures.
@@ -185,8 +215,19 @@ fn is_fit(f: Figures, n: usize, w: usize) -> bool
     w == index(f.sources)
 }
 
-// The checks of a request in their order: 41 to 44, or 1 for lengths that are not the desk's and for an operation that is none. Where the number is 0, `row`,
-// else scratch, holds the target's cells after the request.
+// A request that is refused.
+fn refused(number: u64) -> Judged
+    ensures { λ r. ⌜ number ≡ r .number ⌝ }
+{
+    Judged {
+        number,
+        ones: 0,
+        total: 0,
+    }
+}
+
+// The checks of a request in their order, with the total that the caller keeps (`total_of`): 41 to 44, or 1 for lengths that are not the desk's, for a total over
+// its cells and for an operation that is none. Where the number is 0, `row`, else scratch, holds the target's cells after the request.
 pub fn judge(
     f: Figures,
     target: u64,
@@ -194,31 +235,29 @@ pub fn judge(
     operation: u64,
     cells: &[u8],
     row: &mut [u8],
+    total: u64,
 ) -> Judged
-    ensures { λ r. ⌜ told (deskAt f [] (now (cells .entry))) (request target (now (sources .entry)) operation) (now (row .entry)) ≡ r .number ⌝ }
+    ensures { λ r. ⌜ toldWith total (deskAt f [] (now (cells .entry))) (request target (now (sources .entry)) operation) (now (row .entry)) ≡ r .number ⌝ }
     ensures { λ r. ⌜ (r .number ≡ 0 → (count (named (f .sources) (now (sources .entry))) ≡ r .ones)
-        × (now (row .exit) ≡ rowAfter (deskAt f [] (now (cells .entry))) (request target (now (sources .entry)) operation))) ⌝ }
+        × ((now (row .exit) ≡ rowAfter (deskAt f [] (now (cells .entry))) (request target (now (sources .entry)) operation))
+        × (totalAfter total (deskAt f [] (now (cells .entry))) (request target (now (sources .entry)) operation) ≡ r .total))) ⌝ }
 {
     if !is_fit(f, cells.len(), row.len()) {
-        return Judged { number: 1, ones: 0 };
+        return refused(1);
+    }
+    if cells.len() < index(total) {
+        return refused(1);
     }
     if DISCONNECT < operation {
-        return Judged { number: 1, ones: 0 };
+        return refused(1);
     }
     if f.targets <= target {
-        return Judged {
-            number: 41,
-            ones: 0,
-        };
+        return refused(41);
     }
     if !all_below(f.sources, sources) {
-        return Judged {
-            number: 42,
-            ones: 0,
-        };
+        return refused(42);
     }
     list_row(row, sources);
     let ones = desk_crosspoints::count(row);
-    let number = judge_limits(f, target, sources, operation, ones, cells, row);
-    Judged { number, ones }
+    judge_limits(f, target, sources, operation, ones, cells, row, total)
 }

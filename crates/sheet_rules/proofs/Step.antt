@@ -5,7 +5,7 @@ use mathlib.Core.List.{List, [], _∷_}
 use mathlib.Core.Bool.{Bool, true, false}
 use mathlib.Core.Logic.{_⊎_, inl, inr, ⊎-elim}
 use native.Mathlib.Omega.{arith}
-use borrow.Author.Tests.{eqb-true, eqb-false, eq-eqb, ne-eqb, lt-ltb, le-ltb, le-leb, leb-true}
+use borrow.Author.Tests.{eqb-true, eqb-false, eq-eqb, ne-eqb, lt-ltb, le-ltb, lt-leb, le-leb, leb-true}
 use lib.ListN.{length, getD, List·getD-eq-default}
 use lib.Dec.{leb, ltb, eqb}
 use Rattle.base_choices.specs.Choices.{pick, both}
@@ -14,12 +14,12 @@ use Rattle.desk_crosspoints.specs.declared.Figures.{Figures}
 use Rattle.desk_crosspoints.specs.Figures.{cellsOf, mostEach, mostTotal}
 use Rattle.desk_crosspoints.specs.Crosspoints.{Cells, bit, count, clear, rowAt, withRow, holders, takenFrom, legal}
 use Rattle.desk_crosspoints.specs.Desk.{Desk, withCells, answer}
-use Rattle.desk_requests.specs.Request.{Request, request, named, allBelow, others, rowAfter, judged, requested}
+use Rattle.desk_requests.specs.Request.{Request, request, named, allBelow, others, rowAfter, firstOf, overTotal, checks, judged, requested}
 use Rattle.desk_crosspoints.proofs.Laws.{each-one, kind-one, kind-many, fit-sources-some}
 use Rattle.desk_requests.proofs.Laws.{becomes-list}
 use Rattle.desk_requests.proofs.Parts.{others-kind, others-none, others-take, first-below, row-same}
 use Rattle.desk_crosspoints.proofs.Legal.{legal-fit, legal-length, legal-bits, legal-rows, legal-kind, legal-row-there}
-use Rattle.desk_requests.proofs.Answers.{told-limits, asked-yes, request-asked}
+use Rattle.desk_requests.proofs.Answers.{result-is, many-is, asked-yes, request-asked}
 use Rattle.desk_crosspoints.proofs.Under.{Under, under-count, row-cell, row-past, row-length, row-under, with-length, with-before, with-inside, with-after}
 use Rattle.desk_crosspoints.proofs.Under.{rows-apart, rows-le, bits-tell, rows-tell, sources-tell}
 use Rattle.desk_crosspoints.proofs.Kept.{after-under, after-legal}
@@ -172,12 +172,12 @@ module _ (d : Desk) (h : legal (d .figures) (d .crosspoints) ≡ true) where
     after-x = after-under f cells x k row h there under same-length row-long (λ i. omega arith)
 
     fine : judged so r ≡ 0
+    unfolding judged checks overTotal firstOf
     fine =
-        told-limits so r there is-below row (count row) (count row) (count (withRow w x k row)) (count row) (count (withRow w x k row)) 0
-        (λ q. omega arith) row-becomes (ap count is-named) refl refl
+        let m = many-is so r row (count row) (count row) row-becomes refl (ap count is-named) in
+        rw (lt-leb _ _ there, is-below, m, result-is so r x row (sym others-same) row-becomes)
         (limits-fit (f .kind) (count row) (count row) (count (withRow w x k row)) (mostEach f) (mostTotal f) most
         (λ q. omega (arith, under-count (withRow w x k row) cells after-x, total q)) (λ q. omega (arith, most, each-one f q)))
-        refl refl
 
     -- The request is done, and sets exactly the target's row.
     pub step-done : requested (withCells d x) (request k (sourcesAt d k) 0)

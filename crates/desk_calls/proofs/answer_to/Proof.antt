@@ -19,8 +19,9 @@ returns c =
     let the-word-at = c .before .before .word-at in
     let the-is-path = c .before .is-path in
     let the-if1 = c .if1 in
-    other-matrix _ _ _ _ (the-Start .pre .1 .1 .0) _ (the-Start .pre .1 .1 .1) _ (the-word-at .ensures)
-    (sym (has-is _ _ _ (the-Start .pre .1 .0)) ∙ the-is-path .ensures ∙ not-true _ (the-if1 .taken))
+    let q = the-Start .pre .0 .1 in
+    let h = sym (has-is _ _ _ (q .0)) ∙ the-is-path .ensures ∙ not-true _ (the-if1 .taken) in
+    (other-matrix _ _ _ _ (q .1 .0) _ (q .1 .1) _ (the-word-at .ensures) h, the-Start .pre .1)
 
 asked-at-requires : tie.Need-asked-at-requires
 asked-at-requires c κs = search needs
@@ -48,9 +49,10 @@ returns-2 c =
     let the-if1 = c .before .before .before .before .before .before .if1 in
     let the-asked-at = c .before .before .before .before .before .asked-at in
     let the-ask = c .before .before .ask-member in
-    own-matrix _ _ _ _ (the-Start .pre .1 .1 .0) _ (the-Start .pre .1 .1 .1) _ (the-word-at .ensures)
-    (sym (has-is _ _ _ (the-Start .pre .1 .0)) ∙ the-is-path .ensures ∙ not-false _ (the-if1 .left))
-    _ (the-asked-at .ensures) _ (request-path _ _ _ ∙ the-ask .ensures)
+    let q = the-Start .pre .0 .1 in
+    let h = sym (has-is _ _ _ (q .0)) ∙ the-is-path .ensures ∙ not-false _ (the-if1 .left) in
+    let a = the-asked-at .ensures in
+    (own-matrix _ _ _ _ (q .1 .0) _ (q .1 .1) _ (the-word-at .ensures) h _ a _ (request-path _ _ _ ∙ the-ask .ensures .0), the-ask .ensures .1)
 
 pub answer-to-spec : {M : Type 1} → statement M
 answer-to-spec =

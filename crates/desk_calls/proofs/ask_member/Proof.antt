@@ -29,7 +29,7 @@ returns : tie.Need-returns
 returns c =
     let the-sources-of = c .before .before .before .before .before .before .sources-of in
     let the-request-legal = c .before .before .request-legal in
-    sym (the-sources-of .ensures .0 (omega arith) _ _ _ refl) ∙ the-request-legal .ensures
+    (sym (the-sources-of .ensures .0 (omega arith) _ _ _ refl) ∙ the-request-legal .ensures .0, the-request-legal .ensures .1)
 
 pub ask-member-spec : {M : Type 1} → statement M
 ask-member-spec =

@@ -14,20 +14,20 @@ array-borrow-prefix-row : tie.Need-array-borrow-prefix-row
 array-borrow-prefix-row c =
     let the-Start = c .before .before .before .before in
     let the-index = c .before .index in
-    let k = fit-sources-le _ (legal-fit _ _ (the-Start .pre)) in omega (arith, k, the-index .ensures)
+    let k = fit-sources-le _ (legal-fit _ _ (the-Start .pre .0)) in omega (arith, k, the-index .ensures)
 
 slice-aggregate-ask : tie.Need-slice-aggregate-ask
 slice-aggregate-ask c =
     let the-Start = c .before .before .before .before .before in
     let the-index = c .before .before .index in
-    let k = fit-sources-le _ (legal-fit _ _ (the-Start .pre)) in sym (length-take-le (the-index .result) _ (omega (arith, k, the-index .ensures)))
+    let k = fit-sources-le _ (legal-fit _ _ (the-Start .pre .0)) in sym (length-take-le (the-index .result) _ (omega (arith, k, the-index .ensures)))
 
 ask-requires : tie.Need-ask-requires
 ask-requires c κs =
     let the-Start = c .before .before .before .before .before in
     let the-index = c .before .before .index in
-    let k = fit-sources-le _ (legal-fit _ _ (the-Start .pre)) in
-    (the-Start .pre, length-take-le (the-index .result) _ (omega (arith, k, the-index .ensures)) ∙ the-index .ensures)
+    let k = fit-sources-le _ (legal-fit _ _ (the-Start .pre .0)) in
+    (the-Start .pre .0, (length-take-le (the-index .result) _ (omega (arith, k, the-index .ensures)) ∙ the-index .ensures, the-Start .pre .1))
 
 same-length : tie.Need-same-length
 same-length c = search needs

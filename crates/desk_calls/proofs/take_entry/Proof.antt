@@ -15,7 +15,7 @@ returns c =
     let the-word-at = c .before .word-at in
     let the-if1 = c .if1 in
     let q = the-Start .pre .0 in
-    (entry-other _ _ _ (q .1 .1 .0) _ _ _ _ (q .1 .1 .1) _ (the-word-at .ensures) (the-if1 .taken), (omega arith, q .0))
+    (entry-other _ _ _ (q .1 .1 .0) _ _ _ _ (q .1 .1 .1) _ (the-word-at .ensures) (the-if1 .taken), (omega arith, (q .0, the-Start .pre .1 .1)))
 
 answer-to-requires : tie.Need-answer-to-requires
 answer-to-requires c κs = search needs
@@ -23,13 +23,13 @@ answer-to-requires c κs = search needs
 narrow-requires : tie.Need-narrow-requires
 narrow-requires c κs =
     let the-answer-to = c .before .before .answer-to in
-    answered-small _ _ _ _ (the-answer-to .ensures)
+    answered-small _ _ _ _ (the-answer-to .ensures .0)
 
 slice-write-answers : tie.Need-slice-write-answers
 slice-write-answers c = search needs
 
-add-result : tie.Need-add-result
-add-result c = search needs
+add-next : tie.Need-add-next
+add-next c = search needs
 
 same-length : tie.Need-same-length
 same-length c = search needs
@@ -44,9 +44,9 @@ returns-2 c =
     let the-if1 = c .before .before .before .before .before .if1 in
     let the-answer-to = c .before .before .before .answer-to in
     let the-narrow = c .narrow in (
-      entry-asks _ _ _ (the-Start .pre .0 .1 .1 .0) _ _ _ _ (the-Start .pre .0 .1 .1 .1) _ (the-word-at .ensures) (the-if1 .left) (the-Start .pre .1) _ _
-          (answer-same _ _ _ _ (the-answer-to .ensures) (the-narrow .ensures)),
-      (omega arith, answered-legal _ _ _ _ (the-Start .pre .0 .0) (the-answer-to .ensures)),
+      entry-asks _ _ _ (the-Start .pre .0 .1 .1 .0) _ _ _ _ (the-Start .pre .0 .1 .1 .1) _ (the-word-at .ensures) (the-if1 .left) (the-Start .pre .1 .0) _ _
+          (answer-same _ _ _ _ (the-answer-to .ensures .0) (the-narrow .ensures)),
+      (omega arith, (answered-legal _ _ _ _ (the-Start .pre .0 .0) (the-answer-to .ensures .0), the-answer-to .ensures .1)),
     )
 
 pub take-entry-spec : {M : Type 1} → statement M
@@ -58,7 +58,7 @@ take-entry-spec =
     answer-to-requires
     narrow-requires
     slice-write-answers
-    add-result
+    add-next
     same-length
     same-length-2
     returns-2)
