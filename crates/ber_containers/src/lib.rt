@@ -515,7 +515,8 @@ fn nests(s: &[u8], from: usize, definite: u64, end: usize, k: usize) -> Onto
 
 // Passes over values from a place on whose tags and lengths take one octet each, up to the first that is another.
 fn values(s: &[u8], from: usize, end: usize) -> usize
-    ensures { λ r. ⌜ ((k definite : ℕ) (x : Onto) → Through (now (s .entry)) k (openBy definite end) r x → Through (now (s .entry)) k (openBy definite end) from x) ⌝ }
+    ensures { λ r. ⌜ ((k definite : ℕ) (x : Onto) → Through (now (s .entry)) k (openBy definite end) r x
+        → Through (now (s .entry)) k (openBy definite end) from x) ⌝ }
     ensures { λ r. ⌜ from ≤ r ⌝ }
 {
     let mut p = from;

@@ -17,7 +17,8 @@ use Rattle.ber_identifiers.specs.declared.Arc.{Arc}
 use Rattle.ber_identifiers.specs.declared.Arc.the-variants.{Number, Range as Over, Refused as NoArc}
 use Rattle.ber_identifiers.specs.declared.Oid.{Oid}
 use Rattle.ber_identifiers.specs.declared.Oid.the-variants.{Numbers, Range, Refused}
-use Rattle.ber_identifiers.specs.Identifier.{arcIs, arcFrom, arcAt, Arcs, bad, over, numbers, push, pass, arcsFrom, judged, arcs, oidAt, oidOctets, inRange, putOid, arcSays, arcOr, oidSays, oidOr}
+use Rattle.ber_identifiers.specs.Identifier.{arcIs, arcFrom, arcAt, Arcs, bad, over, numbers, push, pass, arcsFrom, judged, arcs, oidAt}
+use Rattle.ber_identifiers.specs.Identifier.{oidOctets, inRange, putOid, arcSays, arcOr, oidSays, oidOr}
 
 pub arc-over : (n next : ℕ) → 2147483647 < n → Over next ≡ arcIs n next
 unfolding arcIs

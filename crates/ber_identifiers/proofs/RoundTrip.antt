@@ -13,7 +13,8 @@ use lib.Arith.{digits-div, digits-mod}
 use borrow.Author.Tests.{le-leb, lt-leb, lt-ltb, le-ltb}
 use Rattle.ber_integers.specs.declared.Wrote.the-variants.{Next, Out}
 use Rattle.ber_integers.specs.Digits.{Put, horner, digits, count, countBy, outcome}
-use Rattle.ber_integers.proofs.Radix.{lt-or-le, none-or-some, Below, length-digits, digits-below, digits-horner, natural-lt, horner-split, count-holds, count-least, power-le}
+use Rattle.ber_integers.proofs.Radix.{lt-or-le, none-or-some, Below, length-digits, digits-below, digits-horner, natural-lt, horner-split}
+use Rattle.ber_integers.proofs.Radix.{count-holds, count-least, power-le}
 use Rattle.ber_integers.proofs.Signs.{below-take, below-drop}
 use Rattle.ber_integers.proofs.Output.{put-fits, put-next, put-there, put-length}
 use Rattle.ber_tags.specs.Write.{marked, septets}
@@ -23,7 +24,8 @@ use Rattle.ber_tags.proofs.Written.{drop-past, not-80}
 use Rattle.ber_identifiers.specs.declared.Arc.{Arc}
 use Rattle.ber_identifiers.specs.declared.Arc.the-variants.{Number, Range as Over, Refused as NoArc}
 use Rattle.ber_identifiers.specs.declared.Oid.the-variants.{Numbers}
-use Rattle.ber_identifiers.specs.Identifier.{arcIs, arcFrom, arcAt, Arcs, bad, over, numbers, push, pass, andThen, arcsFrom, judged, arcs, oidAt, oidOctets, inRange, putOid}
+use Rattle.ber_identifiers.specs.Identifier.{arcIs, arcFrom, arcAt, Arcs, bad, over, numbers, push, pass, andThen, arcsFrom, judged, arcs}
+use Rattle.ber_identifiers.specs.Identifier.{oidAt, oidOctets, inRange, putOid}
 use Rattle.ber_identifiers.proofs.Laws.{arc-over, arc-is, arc-past, arc-none, arc-80, arc-from, arcs-done, arcs-number, oid-within, put-range, put-oid}
 
 -- groups of seven bits are read as their number
@@ -55,7 +57,8 @@ module _ (s : List ℕ) (p end n : ℕ) (rest : List ℕ) (there : drop p s ≡ 
       let t : take (end - p) (drop p s) ≡ septets n ++ take (end - p - length (septets n)) rest =
       ap (take (end - p)) there ∙ ap (λ (i : ℕ). take i (septets n ++ rest)) e ∙ take-append-add (septets n) rest (end - p - length (septets n)) in
       let u = t ∙ append-assoc (marked ds) ((n % 128) ∷ []) (take (end - p - length (septets n)) rest) in
-      let r = from-read ds (n % 128) (take (end - p - length (septets n)) rest) 0 p (omega arith) (digits-below 128 (omega arith) (count 128 (n / 128)) (n / 128)) in
+      let r = from-read ds (n % 128) (take (end - p - length (septets n)) rest) 0 p (omega arith)
+      (digits-below 128 (omega arith) (count 128 (n / 128)) (n / 128)) in
       let i : p + length ds + 1 ≡ p + length (septets n) = omega arith in
       sym (arc-from s p end within (omega arith) (not-80 s p n rest there))
       ∙ ap (arcFrom 0 p) u ∙ r
@@ -82,7 +85,8 @@ arcs-read (n ∷ ns) r s p end f rest t e w k =
     let t2 : drop p s ≡ septets n ++ (oidOctets ns ++ rest) = t ∙ append-assoc (septets n) (oidOctets ns) rest in
     let one = arc-read s p end n (oidOctets ns ++ rest) t2 (h .0) (omega arith) w in
     let q = arcs-number s end p f n (p + length (septets n)) (omega arith) k one (omega arith) in
-    q .1 .1 ∙ ap (push n) (arcs-read ns (h .1) s (p + length (septets n)) end (q .0) rest (drop-past s p (septets n) (oidOctets ns ++ rest) t2) (omega arith) w (q .1 .0))
+    q .1 .1 ∙ ap (push n) (arcs-read ns (h .1) s (p + length (septets n)) end (q .0) rest (drop-past s p (septets n) (oidOctets ns ++ rest) t2)
+    (omega arith) w (q .1 .0))
 
 -- Numbers written into an output are read from it, with nothing left.
 pub written-read : (out : List ℕ) (at : ℕ) (ns : List ℕ) (e : ℕ) (o : List ℕ) → putOid out at ns ≡ outcome (Next e) o
@@ -100,8 +104,10 @@ written-read out at ns e o d = go (inRange ns) refl
         let l = put-length out at bs e o dn in
         let x = put-next out at bs e o dn in
         let k : e - at ≡ length bs = omega arith in
-        let t : drop at o ≡ bs ++ drop (length bs) (drop at o) = sym (take-append-drop (length bs) (drop at o)) ∙ ap (λ (y : List ℕ). y ++ drop (length bs) (drop at o)) (put-there out at bs e o dn) in
-        let a : arcs o at (length bs) ≡ numbers ns = arcs-read ns r o at (at + length bs) (length bs) (drop (length bs) (drop at o)) t refl (omega arith) (omega arith) in
+        let t : drop at o ≡ bs ++ drop (length bs) (drop at o) = sym (take-append-drop (length bs) (drop at o))
+        ∙ ap (λ (y : List ℕ). y ++ drop (length bs) (drop at o)) (put-there out at bs e o dn) in
+        let a : arcs o at (length bs) ≡ numbers ns =
+        arcs-read ns r o at (at + length bs) (length bs) (drop (length bs) (drop at o)) t refl (omega arith) (omega arith) in
         rw k (a, sym (oid-within o at (length bs) (omega arith)) ∙ ap judged a)
 
 -- digits without a leading 0 are the fewest
@@ -223,11 +229,14 @@ arc-written s p end n next y e =
     let lp : length part ≡ end - p = length-part s p (end - p) (omega arith) in
     let oc : part ≡ (marked (g .ds) ++ (g .last ∷ [])) ++ g .rest = g .octets ∙ sym (append-assoc (marked (g .ds)) (g .last ∷ []) (g .rest)) in
     let lf : length (marked (g .ds) ++ (g .last ∷ [])) ≡ next - p = length-append (marked (g .ds)) (g .last ∷ []) ∙ omega arith in
-    let ll : length part ≡ length (marked (g .ds) ++ (g .last ∷ [])) + length (g .rest) = ap length oc ∙ length-append (marked (g .ds) ++ (g .last ∷ [])) (g .rest) in
-    let tk : take (next - p) part ≡ marked (g .ds) ++ (g .last ∷ []) = ap (take (next - p)) oc ∙ take-at (marked (g .ds) ++ (g .last ∷ [])) (g .rest) (next - p) lf in
+    let ll : length part ≡ length (marked (g .ds) ++ (g .last ∷ [])) + length (g .rest) = ap length oc
+    ∙ length-append (marked (g .ds) ++ (g .last ∷ [])) (g .rest) in
+    let tk : take (next - p) part ≡ marked (g .ds) ++ (g .last ∷ []) = ap (take (next - p)) oc
+    ∙ take-at (marked (g .ds) ++ (g .last ∷ [])) (g .rest) (next - p) lf in
     let tt2 : take (next - p) part ≡ take (next - p) (drop p s) = take-take (next - p) (end - p) (drop p s) (omega arith) in
     let hd : getD (marked (g .ds) ++ (g .last ∷ [])) 0 0 ≡ getD s p 0 =
-    ap (λ (l : List ℕ). getD l 0 0) (sym tk) ∙ getD-take (next - p) part 0 0 (omega arith) ∙ getD-take (end - p) (drop p s) 0 0 (omega arith) ∙ getD-drop p s 0 0 ∙ ap (λ (i : ℕ). getD s i 0) (omega arith) in
+    ap (λ (l : List ℕ). getD l 0 0) (sym tk) ∙ getD-take (next - p) part 0 0 (omega arith) ∙ getD-take (end - p) (drop p s) 0 0 (omega arith)
+    ∙ getD-drop p s 0 0 ∙ ap (λ (i : ℕ). getD s i 0) (omega arith) in
     let u = septets-unique (g .ds) (g .last) (g .below) (g .ends) (λ q. f (sym hd ∙ q)) in
     (r .0, (omega arith, (omega arith, sym tt2 ∙ tk ∙ sym u ∙ ap septets (sym (g .value))))))
     (λ (k : end ≤ p). absurd (no-arc e (arc-none s p end w k)))
@@ -248,7 +257,8 @@ pass-inv bad ns e = let z : _≡_ {A = ℕ} 0 1 = cc in omega arith
 pass-inv over ns e = let z : _≡_ {A = ℕ} 0 1 = cc in omega arith
 pass-inv (numbers ms) ns e = let z : _≡_ {A = ℕ} 0 1 = cc in omega arith
 
-finished : (s : List ℕ) (p end : ℕ) (ns : List ℕ) (f : ℕ) → end ≤ p → arcsFrom s f p end ≡ numbers ns → (oidOctets ns ≡ take (end - p) (drop p s)) × (inRange ns ≡ true)
+finished : (s : List ℕ) (p end : ℕ) (ns : List ℕ) (f : ℕ) → end ≤ p → arcsFrom s f p end ≡ numbers ns → (oidOctets ns ≡ take (end - p) (drop p s))
+    × (inRange ns ≡ true)
 unfolding oidOctets
 finished s p end ns f l e =
     let q : numbers [] ≡ numbers ns = sym (arcs-done s end p f l) ∙ e in

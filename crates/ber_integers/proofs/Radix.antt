@@ -7,7 +7,8 @@ use mathlib.Core.Logic.{_⊎_, inl, inr, ⊎-elim}
 use native.Mathlib.Omega.{arith}
 use borrow.Author.Tests.{ltb-true, ltb-false, eq-eqb, ne-eqb}
 use lib.Dec.{ltb}
-use native.Mathlib.Nat.{pow-suc, pow-zero, mod-lt, div-add-mod', div-lt-iff-lt-mul, mul-add-div-right, mul-add-mod-self-right, mul-assoc, mul-comm, add-mul, pow-le-pow-right, lt-of-lt-of-le, div-lt-self, eq-zero-or-pos}
+use native.Mathlib.Nat.{pow-suc, pow-zero, mod-lt, div-add-mod', div-lt-iff-lt-mul, mul-add-div-right, mul-add-mod-self-right, mul-assoc, mul-comm}
+use native.Mathlib.Nat.{add-mul, pow-le-pow-right, lt-of-lt-of-le, div-lt-self, eq-zero-or-pos}
 use lib.Arith.{digits-lt, digits-div, digits-mod}
 use lib.ListN.{length, length-append}
 use Rattle.ber_integers.specs.Digits.{horner, digits, countBy}

@@ -51,7 +51,8 @@ size-least (suc f) m k h l q = ⊎-elim small (more (size-least f (m / 256) (k -
     more : (0 < k - 1 → m / 256 * 2 < 256 ^ (k - 1) → sizeBy f (m / 256) ≤ k - 1) → 128 ≤ m → sizeBy (suc f) m ≤ k
     more r j =
         let p = power-pred k l in
-        let z : 0 < k - 1 = ⊎-elim (λ (e : 0 < k - 1). e) (λ (e : k - 1 ≤ 0). let y : k - 1 ≡ 0 = omega arith in absurd (omega (arith, rw y at p))) (lt-or-le 0 (k - 1)) in
+        let z : 0 < k - 1 = ⊎-elim (λ (e : 0 < k - 1). e) (λ (e : k - 1 ≤ 0). let y : k - 1 ≡ 0 = omega arith in absurd (omega (arith, rw y at p)))
+        (lt-or-le 0 (k - 1)) in
         let s = r z (omega arith) in
         simp (le-ltb _ _ j) (omega arith)
 
@@ -69,7 +70,8 @@ module _ (n : ℕ) (some : 0 < n) where
       let hi = half-high x xs (b .1) in
       ⊎-elim
       (λ (h : x < 128). let v : natural (x ∷ xs) < 128 * 256 ^ (n - 1) = rw k at (lo h) in (λ q. signed-low refl h, λ q. absurd (omega (arith, half))))
-      (λ (h : 128 ≤ x). let v : 128 * 256 ^ (n - 1) ≤ natural (x ∷ xs) = rw k at (hi h) in (λ q. absurd (omega (arith, half)), λ q. rw (sym e) (signed-high refl h)))
+      (λ (h : 128 ≤ x). let v : 128 * 256 ^ (n - 1) ≤ natural (x ∷ xs) = rw k at (hi h) in
+      (λ q. absurd (omega (arith, half)), λ q. rw (sym e) (signed-high refl h)))
       (lt-or-le x 128)
 
   pub signed-octets : (z : ℤ) → mag z * 2 < 256 ^ n → signed (octets n z) ≡ z
@@ -82,7 +84,8 @@ module _ (n : ℕ) (some : 0 < n) where
       let v : natural (digits 256 n (256 ^ n - suc m)) ≡ 256 ^ n - suc m = horner-digits 256 (omega arith) n (256 ^ n - suc m) (omega arith) in
       let q : 256 ^ n ≤ (256 ^ n - suc m) * 2 = omega (arith, half) in
       let d : 256 ^ n - suc (256 ^ n - suc m) ≡ m = omega arith in
-      by-value (digits 256 n (256 ^ n - suc m)) (length-digits 256 (omega arith) n (256 ^ n - suc m)) (digits-below 256 (omega arith) n (256 ^ n - suc m)) .1 (rw v q) ∙ rw (v, d)
+      by-value (digits 256 n (256 ^ n - suc m)) (length-digits 256 (omega arith) n (256 ^ n - suc m))
+      (digits-below 256 (omega arith) n (256 ^ n - suc m)) .1 (rw v q) ∙ rw (v, d)
 
 -- and octets whose number is written again, in as many
 pub octets-signed : (x : ℕ) (xs : List ℕ) → Below 256 (x ∷ xs)

@@ -95,7 +95,8 @@ module _ (m : ℕ) (p : ℤ) (some : 0 < m) (word : m < 2 ^ 64) where
 pub levels : (s : Bool) (n : ℕ) (e : ℤ) (t : Bool) (m : ℕ) (p : ℤ) → 0 < m → T (Ieee.eq (fin s n e) (fin t m p)) → (s ≡ t) × Level n e m p
 unfolding Ieee.eq
 levels s n e t m p h q =
-    let l : Level n e m p = eqb→eq (n * up e * down p) (m * up p * down e) (and-l (eqb (n * up e * down p) (m * up p * down e)) (Bool·beq s t || eqb (n * up e * down p) 0) q) in
+    let l : Level n e m p = eqb→eq (n * up e * down p) (m * up p * down e)
+    (and-l (eqb (n * up e * down p) (m * up p * down e)) (Bool·beq s t || eqb (n * up e * down p) 0) q) in
     let g : 0 < n * up e * down p = subst (λ (x : ℕ). 0 < x) (sym l) (mul-pos (mul-pos h (up-pos p)) (down-pos e)) in
     (sign s t (n * up e * down p) g (and-r (eqb (n * up e * down p) (m * up p * down e)) (Bool·beq s t || eqb (n * up e * down p) 0) q), l)
   where
@@ -132,7 +133,8 @@ module _ (s : Bool) (m : ℕ) (p : ℤ) (some : 0 < m) (word : m < 2 ^ 64) where
   pub accepted : (x : Float) → number s m p ≡ Real x → Equals x s m p
   accepted x e = go (inDouble (oddPart m) (oddPower m p)) (rule-is s (oddPart m) (oddPower m p) (odd-is m some word)) (sym number-is ∙ e)
     where
-      go : (b : Bool) → Ieee.fits binary64 (fin s (oddPart m) (oddPower m p)) ≡ b → pick b (Real (fin s (oddPart m) (oddPower m p))) Refused ≡ Real x → Equals x s m p
+      go : (b : Bool) → Ieee.fits binary64 (fin s (oddPart m) (oddPower m p)) ≡ b → pick b (Real (fin s (oddPart m) (oddPower m p))) Refused ≡ Real x
+          → Equals x s m p
       go true f r =
           let i : fin s (oddPart m) (oddPower m p) ≡ x = cc in
           subst (λ (y : Float). Equals y s m p) i (subst T (sym f) tt, same-eq s (oddPart m) (oddPower m p) m p (odd-level m p some word))

@@ -44,7 +44,8 @@ module _ (first : ℕ) (rest : List ℕ) where
       and-r (leb e 3) (ltb e (length rest) && leb (length rest) (e + 8)) w3
 
   pub formed-within : T (wellFormed first rest) → exponentOctets first < length rest
-  formed-within w = ltb→lt (exponentOctets first) (length rest) (and-l (ltb (exponentOctets first) (length rest)) (leb (length rest) (exponentOctets first + 8)) (lengths w))
+  formed-within w = ltb→lt (exponentOctets first) (length rest)
+      (and-l (ltb (exponentOctets first) (length rest)) (leb (length rest) (exponentOctets first + 8)) (lengths w))
 
   pub mantissa-word : Below 256 rest → T (wellFormed first rest) → m < 2 ^ 64
   mantissa-word b w =
@@ -79,7 +80,8 @@ alone first x = (
   λ h. ⊎-elim (λ (p : (first ≡ 0x40) × (x ≡ inf false)). rw (p .0, p .1)) (λ (p : (first ≡ 0x41) × (x ≡ inf true)). rw (p .0, p .1)) h,
 )
   where
-    go : (a b : Bool) → (a ≡ true → first ≡ 0x40) → (b ≡ true → first ≡ 0x41) → pick a (Real (inf false)) (pick b (Real (inf true)) Refused) ≡ Real x → Means (first ∷ []) x
+    go : (a b : Bool) → (a ≡ true → first ≡ 0x40) → (b ≡ true → first ≡ 0x41) → pick a (Real (inf false)) (pick b (Real (inf true)) Refused) ≡ Real x
+        → Means (first ∷ []) x
     go true b f g e = inl (f refl, sym (same (inf false) x e))
     go false true f g e = inr (g refl, sym (same (inf true) x e))
     go false false f g e = absurd (never Refused x refl e)

@@ -54,7 +54,8 @@ module _ (s : Bool) (m a b : ℕ) where
         one (minus j 1074) (oddPower m (minus a b)) (a + halvings m) b k i
 
     pub rule-held : inDouble (oddPart m) (oddPower m (minus a b)) ≡ true
-    rule-held = rule-at (oddPart m) (oddPower m (minus a b)) (a + halvings m) b odd-at ∙ simp (lt-ltb _ _ narrow, le-leb b (a + halvings m + 1074) (omega arith), le-leb (size (oddPart m) + (a + halvings m)) (b + 1024) (omega arith))
+    rule-held = rule-at (oddPart m) (oddPower m (minus a b)) (a + halvings m) b odd-at
+        ∙ simp (lt-ltb _ _ narrow, le-leb b (a + halvings m + 1074) (omega arith), le-leb (size (oddPart m) + (a + halvings m)) (b + 1024) (omega arith))
 
     pub number-is : Real (fin s (oddPart m) (oddPower m (minus a b))) ≡ number s m (minus a b)
     unfolding number

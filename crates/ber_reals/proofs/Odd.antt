@@ -1,7 +1,9 @@
 -- Laws of odd numbers, of halving a number until it is odd, and of a number's binary digits.
 use Prim.Native.Nat.{ℕ, zero, suc, _+_, _-_, _*_, _/_, _%_, _^_, _≤_, _<_}
 use mathlib.Core.Path.{_≡_, refl, sym, ap, _∙_, subst}
-use native.Mathlib.Nat.{mul-one, mul-assoc, mul-left-comm, pow-succ', pow-suc, zero-lt-suc, eq-of-mul-eq-mul-right, div-div-eq-div-mul, div-one, lt-irrefl, lt-of-lt-of-le, lt-of-not-le, le-of-suc-le-suc, le-antisymm, le-trans, le-of-eq, div-lt-iff-lt-mul, mul-le-mul-right, mul-pos}
+use native.Mathlib.Nat.{mul-one, mul-assoc, mul-left-comm, pow-succ', pow-suc, zero-lt-suc, eq-of-mul-eq-mul-right, div-div-eq-div-mul, div-one}
+use native.Mathlib.Nat.{lt-irrefl, lt-of-lt-of-le, lt-of-not-le, le-of-suc-le-suc, le-antisymm, le-trans, le-of-eq, div-lt-iff-lt-mul}
+use native.Mathlib.Nat.{mul-le-mul-right, mul-pos}
 use native.Mathlib.Omega.{arith}
 use lib.Pow.{pow-add, pow-pos, pow-mono, shl-lt}
 use lib.Count.{trailingZeros, under, leadingZeros, leading-length}
@@ -39,8 +41,11 @@ halved (suc d) n h k = go (n % 2) refl (λ e. halved d (n / 2) (omega arith) sho
     go zero e rest =
         let t = trailingZeros d (n / 2) in
         let ih = rest e in
-        let q : n / 2 ^ suc t ≡ n / 2 / 2 ^ t = ap (λ (x : ℕ). n / x) (pow-succ' 2 t) ∙ sym (div-div-eq-div-mul n 2 (2 ^ t)) in
-        (ap (λ (x : ℕ). x % 2) q ∙ ih .0, ap (λ (x : ℕ). x * 2 ^ suc t) q ∙ ap (λ (x : ℕ). n / 2 / 2 ^ t * x) (pow-succ' 2 t) ∙ mul-left-comm (n / 2 / 2 ^ t) 2 (2 ^ t) ∙ ap (λ (x : ℕ). 2 * x) (ih .1) ∙ omega arith)
+        let q : n / 2 ^ suc t ≡ n / 2 / 2 ^ t = ap (λ (x : ℕ). n / x) (pow-succ' 2 t) ∙ sym (div-div-eq-div-mul n 2 (2 ^ t)) in (
+          ap (λ (x : ℕ). x % 2) q ∙ ih .0,
+          ap (λ (x : ℕ). x * 2 ^ suc t) q ∙ ap (λ (x : ℕ). n / 2 / 2 ^ t * x) (pow-succ' 2 t)
+              ∙ mul-left-comm (n / 2 / 2 ^ t) 2 (2 ^ t) ∙ ap (λ (x : ℕ). 2 * x) (ih .1) ∙ omega arith,
+        )
     go (suc r) e rest = (ap (λ (x : ℕ). x % 2) (div-one n) ∙ omega arith, mul-one (n / 1) ∙ div-one n)
 
 -- fewer times than the number has digits

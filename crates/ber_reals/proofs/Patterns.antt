@@ -27,7 +27,8 @@ module _ (s : Bool) (m j : ℕ) where
 
   bits-are : 0 < m → bitsOf s m j ≡ signBit s + (size m + j - 53) * 2 ^ 52 + m * 2 ^ j / 2 ^ (size m + j - 53)
   unfolding Ieee.toBits
-  bits-are h = ap (λ (n : ℕ). signBit s + (size n - 53) * 2 ^ 52 + n / 2 ^ (size n - 53)) units ∙ ap (λ (z : ℕ). signBit s + (z - 53) * 2 ^ 52 + m * 2 ^ j / 2 ^ (z - 53)) (size-shift m j h)
+  bits-are h = ap (λ (n : ℕ). signBit s + (size n - 53) * 2 ^ 52 + n / 2 ^ (size n - 53)) units
+      ∙ ap (λ (z : ℕ). signBit s + (z - 53) * 2 ^ 52 + m * 2 ^ j / 2 ^ (z - 53)) (size-shift m j h)
 
   pub bits-low : 0 < m → size m + j ≤ 53 → signBit s + m * 2 ^ j ≡ bitsOf s m j
   bits-low h l =

@@ -42,6 +42,7 @@ module _ (s : List ℕ) (at e : ℕ) (bytes : (i : ℕ) → getD s i 0 < 256) (w
 
     pub exponent-high : 128 ≤ getD s at 0 → minus (16777216 + scale + natural part - 256 ^ e) 16777216 ≡ signed part +ℤ pos scale
     exponent-high h =
-        let g : signed part ≡ negsuc (256 ^ e - suc (natural part)) = signed-high (part-cons s at e some within) h ∙ ap (λ (n : ℕ). negsuc (256 ^ n - suc (natural part))) (length-part s at e within) in
+        let g : signed part ≡ negsuc (256 ^ e - suc (natural part)) = signed-high (part-cons s at e some within) h
+        ∙ ap (λ (n : ℕ). negsuc (256 ^ n - suc (natural part))) (length-part s at e within) in
         let l = part-lt in
         raised (negsuc (256 ^ e - suc (natural part))) (256 ^ e) (omega arith) worth-le ∙ ap (λ (n : ℤ). n +ℤ pos scale) (sym g)

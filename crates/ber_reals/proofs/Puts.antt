@@ -51,7 +51,8 @@ module _ (out : List ℕ) (at : ℕ) (xs ys : List ℕ) (room : at + (length xs 
       let l = first-length in
       let e : length (xs ++ ys) ≡ length xs + length ys = length-append xs ys in
       let n : at + length (xs ++ ys) ≡ at + length xs + length ys = omega arith in
-      let w : take at out ++ ((xs ++ ys) ++ drop (at + length (xs ++ ys)) out) ≡ take (at + length xs) first ++ (ys ++ drop (at + length xs + length ys) first) =
+      let w : take at out ++ ((xs ++ ys) ++ drop (at + length (xs ++ ys)) out)
+      ≡ take (at + length xs) first ++ (ys ++ drop (at + length xs + length ys) first) =
       rw (taken, dropped, append-assoc xs ys (drop (at + length (xs ++ ys)) out), append-assoc (take at out) xs (ys ++ drop (at + length (xs ++ ys)) out)) in
       put-in out at (xs ++ ys) (omega arith)
       ∙ ap (λ (k : ℕ). result (Next k) (take at out ++ ((xs ++ ys) ++ drop (at + length (xs ++ ys)) out))) n
@@ -60,7 +61,8 @@ module _ (out : List ℕ) (at : ℕ) (xs ys : List ℕ) (room : at + (length xs 
       ∙ ap (λ (l : List ℕ). put l (at + length xs) ys) (sym i)
 
 -- A number's octets: the first octet f, the k of the exponent and the n of the mantissa.
-module _ (s : Bool) (m units v k n f : ℕ) (exponent : digits 256 k v ≡ shortest (minus units 1074)) (mantissa : n ≡ (size m + 7) / 8) (head : f ≡ firstOctet s k) (octet : f < 256) where
+module _ (s : Bool) (m units v k n f : ℕ) (exponent : digits 256 k v ≡ shortest (minus units 1074)) (mantissa : n ≡ (size m + 7) / 8)
+    (head : f ≡ firstOctet s k) (octet : f < 256) where
   abbrev number : List ℕ
   number = numberOctets s m (minus units 1074)
 
@@ -80,7 +82,8 @@ module _ (s : Bool) (m units v k n f : ℕ) (exponent : digits 256 k v ≡ short
   tail-length = length-append (digits 256 k v) (digits 256 n m) ∙ let a = length-digits 256 base k v in let b = length-digits 256 base n m in omega arith
 
   pub number-length : length number ≡ 1 + k + n
-  number-length = ap length number-list ∙ length-append (digits 256 1 f) (digits 256 k v ++ digits 256 n m) ∙ let a = length-digits 256 base 1 f in let b = tail-length in omega arith
+  number-length = ap length number-list ∙ length-append (digits 256 1 f) (digits 256 k v ++ digits 256 n m) ∙ let a = length-digits 256 base 1 f in
+      let b = tail-length in omega arith
 
   pub number-short : (out : List ℕ) (at : ℕ) → length out < at + (1 + k + n) → put out at number ≡ unchanged out
   number-short out at h = let l = number-length in put-out out at number (omega arith)

@@ -62,7 +62,8 @@ module _ (s : List ℕ) (at n first : ℕ) (within : at + n ≤ length s) (long 
   mantissa-in = ap natural (drop-take e (n - 1) (drop (at + 1) s) ∙ ap (take (n - 1 - e)) (drop-drop e (at + 1) s))
 
   pub message-is : 128 ≤ first → base first ≡ 0 → e ≤ 3 → n - 1 ≤ e + 8
-      → number (negative first) (natural (take (n - 1 - e) (drop (at + 1 + e) s))) (signed (take e (drop (at + 1) s)) +ℤ pos (scale first)) ≡ binaryReal first (take (n - 1) (drop (at + 1) s))
+      → number (negative first) (natural (take (n - 1 - e) (drop (at + 1 + e) s))) (signed (take e (drop (at + 1) s)) +ℤ pos (scale first))
+      ≡ binaryReal first (take (n - 1) (drop (at + 1) s))
   message-is a b c d =
       let l : length (take (n - 1) (drop (at + 1) s)) ≡ n - 1 = length-part s (at + 1) (n - 1) (omega arith) in
       ap (λ (m : ℕ). number (negative first) m (signed (take e (drop (at + 1) s)) +ℤ pos (scale first))) (sym mantissa-in)

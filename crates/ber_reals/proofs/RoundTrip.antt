@@ -130,8 +130,11 @@ module _ (s : Bool) (m : ℕ) (p : ℤ) (some : 0 < m) (double : T (Ieee.fits bi
   mantissa-few : (0 < length (mantissaOctets m)) × (length (mantissaOctets m) ≤ 8)
   mantissa-few =
       let l = mantissa-length in
-      let h : Ieee.size m ≤ 53 = size-le m 53 (mantissa-small s m p some double) in
-      (⊎-elim (λ (z : (Ieee.size m + 7) / 8 ≡ 0). absurd (let q : m < 256 ^ 0 = subst (λ (n : ℕ). m < 256 ^ n) z (octets-hold m) in omega arith)) (λ (z : 0 < (Ieee.size m + 7) / 8). omega arith) (eq-zero-or-pos ((Ieee.size m + 7) / 8)), omega arith)
+      let h : Ieee.size m ≤ 53 = size-le m 53 (mantissa-small s m p some double) in (
+        ⊎-elim (λ (z : (Ieee.size m + 7) / 8 ≡ 0). absurd (let q : m < 256 ^ 0 = subst (λ (n : ℕ). m < 256 ^ n) z (octets-hold m) in omega arith))
+            (λ (z : 0 < (Ieee.size m + 7) / 8). omega arith) (eq-zero-or-pos ((Ieee.size m + 7) / 8)),
+        omega arith,
+      )
 
   rest-length : length rest ≡ e + length (mantissaOctets m)
   rest-length = length-append (shortest p) (mantissaOctets m)
@@ -220,14 +223,17 @@ unfolding form Ieee.fits
 means-form [] x h = subst (λ (y : Float). T (Ieee.fits binary64 y) × ((cs : List ℕ) × (form y ≡ octets cs))) (sym h) (tt, ([], refl))
 means-form (first ∷ []) x h =
     ⊎-elim
-    (λ (p : (first ≡ 0x40) × (x ≡ inf false)). subst (λ (y : Float). T (Ieee.fits binary64 y) × ((cs : List ℕ) × (form y ≡ octets cs))) (sym (p .1)) (tt, (0x40 ∷ [], refl)))
-    (λ (p : (first ≡ 0x41) × (x ≡ inf true)). subst (λ (y : Float). T (Ieee.fits binary64 y) × ((cs : List ℕ) × (form y ≡ octets cs))) (sym (p .1)) (tt, (0x41 ∷ [], refl)))
+    (λ (p : (first ≡ 0x40) × (x ≡ inf false)). subst (λ (y : Float). T (Ieee.fits binary64 y) × ((cs : List ℕ) × (form y ≡ octets cs))) (sym (p .1))
+    (tt, (0x40 ∷ [], refl)))
+    (λ (p : (first ≡ 0x41) × (x ≡ inf true)). subst (λ (y : Float). T (Ieee.fits binary64 y) × ((cs : List ℕ) × (form y ≡ octets cs))) (sym (p .1))
+    (tt, (0x41 ∷ [], refl)))
     h
 means-form (first ∷ (second ∷ rest)) x h =
     (h .2 .0, equal-form (negative first) (mantissa first (second ∷ rest)) (power first (second ∷ rest)) (h .1) x (h .2))
 
 -- What is read is a double of the format, never a NaN nor minus zero: it has octets, which are read as it again.
-pub read-written : (bs : List ℕ) (x : Float) → Below 256 bs → real bs ≡ Real x → T (Ieee.fits binary64 x) × ((cs : List ℕ) × ((form x ≡ octets cs) × (real cs ≡ Real x)))
+pub read-written : (bs : List ℕ) (x : Float) → Below 256 bs → real bs ≡ Real x → T (Ieee.fits binary64 x)
+    × ((cs : List ℕ) × ((form x ≡ octets cs) × (real cs ≡ Real x)))
 read-written bs x b e =
     let f = means-form bs x (exactly bs b x .0 e) in
     (f .0, (f .1 .0, (f .1 .1, written-read x (f .1 .0) (f .0) (f .1 .1))))
@@ -245,7 +251,8 @@ exponent-least (x ∷ xs) b h =
 mantissa-least : (l : List ℕ) → Below 256 l → length (mantissaOctets (natural l)) ≤ length l
 mantissa-least l b =
     let n = length-digits 256 (omega arith) ((Ieee.size (natural l) + 7) / 8) (natural l) in
-    let h : Ieee.size (natural l) ≤ 8 * length l = size-le (natural l) (8 * length l) (subst (λ (x : ℕ). natural l < x) (bytes (length l)) (natural-lt 256 l b)) in
+    let h : Ieee.size (natural l) ≤ 8 * length l =
+    size-le (natural l) (8 * length l) (subst (λ (x : ℕ). natural l < x) (bytes (length l)) (natural-lt 256 l b)) in
     omega arith
 
 -- an odd mantissa's double is that mantissa and power
@@ -300,7 +307,8 @@ written-least (first ∷ (second ∷ rest)) cs x b p e f =
     let r = second ∷ rest in
     let i : x ≡ fin (negative first) (mantissa first r) (power first r) = odd-same (negative first) (mantissa first r) (power first r) x (p .1) (h .2) in
     let l : numberOctets (negative first) (mantissa first r) (power first r) ≡ cs =
-    list-same (numberOctets (negative first) (mantissa first r) (power first r)) cs (sym (number-form (negative first) (mantissa first r) (power first r) (h .1)) ∙ sym (ap form i) ∙ f) in
+    list-same (numberOctets (negative first) (mantissa first r) (power first r)) cs
+    (sym (number-form (negative first) (mantissa first r) (power first r) (h .1)) ∙ sym (ap form i) ∙ f) in
     let n = ap length l in
     let q = parts-least first r (b .1) (h .0) (negative first) (p .0) in
     omega arith

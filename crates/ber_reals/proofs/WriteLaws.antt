@@ -95,7 +95,8 @@ odd-of s (suc q) k h l =
     let a = halved 53 (suc q) h l in
     let b = halved 64 (suc q) h (omega arith) in
     let t : trailingZeros 53 (suc q) ≡ trailingZeros 64 (suc q) =
-    odd-once (suc q / 2 ^ trailingZeros 53 (suc q)) (suc q / 2 ^ trailingZeros 64 (suc q)) (trailingZeros 53 (suc q)) (trailingZeros 64 (suc q)) (a .0) (b .0) (a .1 ∙ sym (b .1)) .1 in
+    odd-once (suc q / 2 ^ trailingZeros 53 (suc q)) (suc q / 2 ^ trailingZeros 64 (suc q)) (trailingZeros 53 (suc q)) (trailingZeros 64 (suc q)) (a .0)
+    (b .0) (a .1 ∙ sym (b .1)) .1 in
     ap (λ (t : ℕ). fin s (suc q / 2 ^ t) (minus (k + t) 1074)) t
 
 -- ---- the exponent units - 1,074 in one octet or two

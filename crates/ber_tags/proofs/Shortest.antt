@@ -61,7 +61,8 @@ module _ (s : List ℕ) (at bound : ℕ) where
       (omega arith, (omega arith, rw (i, sym (r .0)) (digit-more 128 j h b))))
       (λ (b : 128 ≤ getD s p 0).
       let d : suc k - 1 ≡ k = omega arith in
-      let f : longNumber s at bound k (acc * 128 + getD s p 0 % 128) (p + 1) ≡ Number n q = rw d at (long-more s at bound acc p (suc k) (omega arith) w b) ∙ e in
+      let f : longNumber s at bound k (acc * 128 + getD s p 0 % 128) (p + 1) ≡ Number n q =
+      rw d at (long-more s at bound acc p (suc k) (omega arith) w b) ∙ e in
       let l : getD s p 0 % 128 < 128 = omega arith in
       let r = long-range k (acc * 128 + getD s p 0 % 128) (p + 1) n q (j + 1) f (digit-more 128 j h l) in
       let a = r .0 in

@@ -28,7 +28,8 @@ some-octets n h = let q = count-more 256 n n (omega arith) (omega arith) h in le
 
 pub stop-le : (s : List ℕ) (bound q : ℕ) → q ≤ length s → q ≤ bound → q ≤ stop s bound
 stop-le s bound q h k =
-    ⊎-elim (λ (l : length s < bound). rw (sym (stop-length s bound l)) h) (λ (l : bound ≤ length s). rw (sym (stop-bound s bound l)) k) (lt-or-le (length s) bound)
+    ⊎-elim (λ (l : length s < bound). rw (sym (stop-length s bound l)) h) (λ (l : bound ≤ length s). rw (sym (stop-bound s bound l)) k)
+    (lt-or-le (length s) bound)
 
 -- what stands after octets that stand at a position, and how far it goes
 pub drop-past : (s : List ℕ) (p : ℕ) (xs ys : List ℕ) → drop p s ≡ xs ++ ys → drop (p + length xs) s ≡ ys
@@ -195,7 +196,8 @@ module _ (s : List ℕ) (at bound : ℕ) (c : Bool) (n : ℕ) (rest : List ℕ) 
           let e : getD s p 0 - 128 ≡ k = let g = d .1 .0 in omega arith in
           let w : p + 1 + k ≤ stop s bound = stop-le s bound (p + 1 + k) (omega arith) (omega arith) in
           let x : take k (drop (p + 1) s) ≡ digits 256 k n = ap (take k) (d .1 .1) ∙ take-at (digits 256 k n) rest k l in
-          let v : natural (take k (drop (p + 1) s)) ≡ n = ap natural x ∙ horner-digits 256 (omega arith) k n (count-holds 256 (omega arith) n n (omega arith)) in
+          let v : natural (take k (drop (p + 1) s)) ≡ n = ap natural x
+          ∙ horner-digits 256 (omega arith) k n (count-holds 256 (omega arith) n n (omega arith)) in
           let q : p + 1 + k ≡ p + suc (length (digits 256 k n)) = omega arith in
           let g = d .1 .0 in
           simp (le-ltb _ _ h)
@@ -210,7 +212,8 @@ pub head-read : (s : List ℕ) (at bound class : ℕ) (c : Bool) (n len : ℕ) (
 head-read s at bound class c n len rest t hn hl room =
     let tag = tagOctets class c n in
     let size = lengthOctets len in
-    let first = drop-head s at (class * 64 + bit c + tag-low n) (tag-more class c n ++ (size ++ rest)) (t ∙ ap (λ (l : List ℕ). l ++ (size ++ rest)) (tag-cons class c n)) in
+    let first = drop-head s at (class * 64 + bit c + tag-low n) (tag-more class c n ++ (size ++ rest))
+    (t ∙ ap (λ (l : List ℕ). l ++ (size ++ rest)) (tag-cons class c n)) in
     let e : length (size ++ rest) ≡ length size + length rest = length-append size rest in
     let w = drop-room s at tag (size ++ rest) t (first .0) in
     let p : drop (at + length tag) s ≡ size ++ rest = drop-past s at tag (size ++ rest) t in

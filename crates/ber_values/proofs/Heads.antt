@@ -101,7 +101,8 @@ module _ (src : List ℕ) (start len : ℕ) (out : List ℕ) (at kind : ℕ) (on
 
   whole-text : start + len ≤ length src → primitive kind content-octets ≡ kind ∷ (lengthOctets len ++ content-octets)
   unfolding content-octets
-  whole-text w = primitive-cons kind (take len (drop start src)) one ∙ ap (λ (n : ℕ). kind ∷ (lengthOctets n ++ take len (drop start src))) (length-part src start len w)
+  whole-text w = primitive-cons kind (take len (drop start src)) one
+      ∙ ap (λ (n : ℕ). kind ∷ (lengthOctets n ++ take len (drop start src))) (length-part src start len w)
 
   pub text-none : length out < at + (length (lengthOctets len) + 1) → putPrimitive out at kind (part src start len) ≡ unchanged out
   unfolding content-octets
@@ -131,7 +132,8 @@ module _ (src : List ℕ) (start len : ℕ) (out : List ℕ) (at kind : ℕ) (on
         let d : put out (at + 1 + length (lengthOctets len)) (take len (drop start src)) ≡ outcome Out o = rw e at (there w) in
         ap (putPrimitive out at kind) (text-in src start len few w)
         ∙ ap (put out at) (whole-text w)
-        ∙ cons-none out at kind (lengthOctets len ++ take len (drop start src)) Out o (append-none out (at + 1) (lengthOctets len) (take len (drop start src)) o d) refl)
+        ∙ cons-none out at kind (lengthOctets len ++ take len (drop start src)) Out o
+        (append-none out (at + 1) (lengthOctets len) (take len (drop start src)) o d) refl)
         (lt-or-le (length src) (start + len))
 
     pub text-done : (e : ℕ) → r ≡ Next e → (r2 : Wrote) (o2 : List ℕ) → putLength o (at + 1) len ≡ outcome r2 o2 → at < length out

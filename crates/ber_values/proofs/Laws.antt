@@ -24,7 +24,8 @@ use Rattle.ber_integers.specs.Digits.{put, unchanged}
 use Rattle.ber_reals.specs.Write.{unwritten, octets}
 use Rattle.ber_values.specs.Write.{part, putPart}
 use lib.Seq.{drop-cons, getD-take, getD-drop, drop-length}
-use Rattle.ber_values.specs.Value.{boolean, boolAt, onFlag, onNumber, onReal, isListed, kindAt, contentAt, onLength, onHead, valueAt, flagSays, flagOr, answerSays, answerOr}
+use Rattle.ber_values.specs.Value.{boolean, boolAt, onFlag, onNumber, onReal, isListed, kindAt, contentAt, onLength, onHead, valueAt, flagSays}
+use Rattle.ber_values.specs.Value.{flagOr, answerSays, answerOr}
 
 pub bool-length : (bs : List ℕ) → (length bs ≡ 1 → ⊥) → NoFlag ≡ boolean bs
 unfolding boolean

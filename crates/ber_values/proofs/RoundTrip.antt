@@ -44,7 +44,8 @@ use Rattle.ber_values.specs.declared.Answer.the-variants.{Found, Other, 
 use Rattle.ber_values.specs.Value.{boolean, boolAt, onFlag, onNumber, onReal, contentAt, valueAt}
 use Rattle.ber_values.specs.Compared.{Held, moved, octetsOf}
 use Rattle.ber_values.specs.Write.{boolOctet, part, contentOctets, kindOf, primitive, putPrimitive, putValue}
-use Rattle.ber_values.proofs.Laws.{value-by, value-class, value-constructed, value-primitive, Listed, content-missing, content-other, content-bool, content-int, content-octets, content-real, content-text, text-long, text-out, text-in}
+use Rattle.ber_values.proofs.Laws.{value-by, value-class, value-constructed, value-primitive, Listed, content-missing, content-other}
+use Rattle.ber_values.proofs.Laws.{content-bool, content-int, content-octets, content-real, content-text, text-long, text-out, text-in}
 use Rattle.ber_values.proofs.Shorts.{int-short, real-short}
 
 -- A tag with its content that was put into an output: the head is read, and the content stands behind it.
@@ -101,7 +102,8 @@ not-written {out} {o} {e} d =
 
 module _ (src out : List ℕ) (at e : ℕ) (o : List ℕ) (bound : ℕ) (inside : e ≤ bound) where
   text : (kind start len : ℕ) → kind < 31 → putPrimitive out at kind (part src start len) ≡ outcome (Next e) o
-      → (contentAt o at kind (e - len) len ≡ valueAt o at bound) × ((e - len + len ≡ e) × ((e ≤ length o) × (take len (drop (e - len) o) ≡ take len (drop start src))))
+      → (contentAt o at kind (e - len) len ≡ valueAt o at bound)
+      × ((e - len + len ≡ e) × ((e ≤ length o) × (take len (drop (e - len) o) ≡ take len (drop start src))))
   text kind start len one d =
       ⊎-elim
       (λ (h : 4294967295 < len). absurd (not-written (sym (ap (putPrimitive out at kind) (text-long src start len h)) ∙ d)))
@@ -133,7 +135,8 @@ module _ (src out : List ℕ) (at e : ℕ) (o : List ℕ) (bound : ℕ) (inside 
       let t = there out at 2 (shortest z) e o bound (omega arith) (omega arith) inside d in
       let en = t .ends in
       let wi = t .within in
-      let i : integerAt o (t .start) (length (shortest z)) ≡ Whole z = sym (at-part o (t .start) (length (shortest z)) (omega arith)) ∙ ap integer (t .content) ∙ written-read z h in
+      let i : integerAt o (t .start) (length (shortest z)) ≡ Whole z = sym (at-part o (t .start) (length (shortest z)) (omega arith))
+      ∙ ap integer (t .content) ∙ written-read z h in
       let k : t .start + length (shortest z) ≤ length o = omega arith in
       (sym (content-int o at 2 (t .start) (length (shortest z)) refl (le-leb _ _ k) ∙ t .read) ∙ rw (i, en), refl)
   written-read-value (Real x) h d = go (form x) refl d
@@ -237,31 +240,40 @@ module _ (s : List ℕ) (at start len : ℕ) (bytes : Below 256 s) (within : sta
 
   of-text : Found (Text start len) (start + len) ≡ Found v next → (next ≡ start + len) × Content s v 12 len
   of-text e =
-      let vi : Text start len ≡ v = cc in
-      (cc, subst (λ (w : Value). Content s w 12 len) vi (record { kind-is = refl; held = tt; bs = take len (drop start s); writes = text-in s start len few within; same = λ _. size }))
+      let vi : Text start len ≡ v = cc in (
+        cc,
+        subst (λ (w : Value). Content s w 12 len) vi
+            (record { kind-is = refl; held = tt; bs = take len (drop start s); writes = text-in s start len few within; same = λ _. size }),
+      )
 
   of-octets : Found (Octets start len) (start + len) ≡ Found v next → (next ≡ start + len) × Content s v 4 len
   of-octets e =
-      let vi : Octets start len ≡ v = cc in
-      (cc, subst (λ (w : Value). Content s w 4 len) vi (record { kind-is = refl; held = tt; bs = take len (drop start s); writes = text-in s start len few within; same = λ _. size }))
+      let vi : Octets start len ≡ v = cc in (
+        cc,
+        subst (λ (w : Value). Content s w 4 len) vi
+            (record { kind-is = refl; held = tt; bs = take len (drop start s); writes = text-in s start len few within; same = λ _. size }),
+      )
 
   content-inv : (kind : ℕ) → contentAt s at kind start len ≡ Found v next → (next ≡ start + len) × Content s v kind len
   content-inv kind e =
       let w : leb (start + len) (length s) ≡ true = le-leb _ _ within in
       ⊎-elim
       (λ (k : kind ≡ 1). subst⁻¹ (λ (i : ℕ). (next ≡ start + len) × Content s v i len) k
-      (of-flag (boolean (take len (drop start s))) refl (ap (onFlag at (start + len)) (sym (bool-part s start len within)) ∙ content-bool s at kind start len k w ∙ e)))
+      (of-flag (boolean (take len (drop start s))) refl
+      (ap (onFlag at (start + len)) (sym (bool-part s start len within)) ∙ content-bool s at kind start len k w ∙ e)))
       (λ (k1 : kind ≡ 1 → ⊥).
       ⊎-elim
       (λ (k : kind ≡ 2). subst⁻¹ (λ (i : ℕ). (next ≡ start + len) × Content s v i len) k
-      (of-number (integer (take len (drop start s))) refl (ap (onNumber at (start + len)) (at-part s start len within) ∙ content-int s at kind start len k w ∙ e)))
+      (of-number (integer (take len (drop start s))) refl
+      (ap (onNumber at (start + len)) (at-part s start len within) ∙ content-int s at kind start len k w ∙ e)))
       (λ (k2 : kind ≡ 2 → ⊥).
       ⊎-elim
       (λ (k : kind ≡ 4). subst⁻¹ (λ (i : ℕ). (next ≡ start + len) × Content s v i len) k (of-octets (content-octets s at kind start len k w ∙ e)))
       (λ (k4 : kind ≡ 4 → ⊥).
       ⊎-elim
       (λ (k : kind ≡ 9). subst⁻¹ (λ (i : ℕ). (next ≡ start + len) × Content s v i len) k
-      (of-real (real (take len (drop start s))) refl (ap (onReal at (start + len)) (sym (real-part s start len within)) ∙ content-real s at kind start len k w ∙ e)))
+      (of-real (real (take len (drop start s))) refl
+      (ap (onReal at (start + len)) (sym (real-part s start len within)) ∙ content-real s at kind start len k w ∙ e)))
       (λ (k9 : kind ≡ 9 → ⊥).
       ⊎-elim
       (λ (k : kind ≡ 12). subst⁻¹ (λ (i : ℕ). (next ≡ start + len) × Content s v i len) k (of-text (content-text s at kind start len k w ∙ e)))
@@ -275,7 +287,8 @@ module _ (s : List ℕ) (at start len : ℕ) (bytes : Below 256 s) (within : sta
 primitive-length : (kind : ℕ) (bs : List ℕ) → length (primitive kind bs) ≡ length (tagOctets 0 false kind) + (length (lengthOctets (length bs)) + length bs)
 unfolding primitive
 primitive-length kind bs =
-    length-append (tagOctets 0 false kind) (lengthOctets (length bs) ++ bs) ∙ ap (λ (n : ℕ). length (tagOctets 0 false kind) + n) (length-append (lengthOctets (length bs)) bs)
+    length-append (tagOctets 0 false kind) (lengthOctets (length bs) ++ bs)
+    ∙ ap (λ (n : ℕ). length (tagOctets 0 false kind) + n) (length-append (lengthOctets (length bs)) bs)
 
 -- a value that was found was whole
 content-whole : (s : List ℕ) (at kind start len : ℕ) (v : Value) (next : ℕ) → contentAt s at kind start len ≡ Found v next → start + len ≤ length s
@@ -327,7 +340,8 @@ read-value-writes s at bound v next bytes e = byHead (headAt s at bound) refl
         byBit : (c : Bool) (l : Length) → class ≡ 0 → c ≡ c → headAt s at bound ≡ Tag class c kind l nx → Readable s at v next
         byBit true l z r h = absurd (other (value-constructed s at bound h z refl ∙ e))
         byBit false Indefinite z r h = absurd (other (value-primitive s at bound h z refl ∙ e))
-        byBit false (Definite len) z r h = byContent kind nx len (h ∙ ap (λ (i : ℕ). Tag i false kind (Definite len) nx) z) (value-primitive s at bound h z refl ∙ e)
+        byBit false (Definite len) z r h = byContent kind nx len (h ∙ ap (λ (i : ℕ). Tag i false kind (Definite len) nx) z)
+            (value-primitive s at bound h z refl ∙ e)
 
 -- What is read, if it is written again, is read as the same value.
 pub read-again : (s : List ℕ) (at bound : ℕ) (v : Value) (next : ℕ) → Below 256 s → valueAt s at bound ≡ Found v next

@@ -49,7 +49,8 @@ accepted-short (a ∷ (b ∷ bs)) x e = go (wellFormed a (b ∷ bs)) refl e
     go false f g = let z : _≡_ {A = ℕ} 0 1 = cc in absurd (omega arith)
     go true f g =
         let l = leb-true (length (b ∷ bs)) (exponentOctets a + 8)
-        (last-of (binary a) (eqb (base a) 0) (leb (exponentOctets a) 3) (ltb (exponentOctets a) (length (b ∷ bs))) (leb (length (b ∷ bs)) (exponentOctets a + 8)) f) in
+        (last-of (binary a) (eqb (base a) 0) (leb (exponentOctets a) 3) (ltb (exponentOctets a) (length (b ∷ bs)))
+        (leb (length (b ∷ bs)) (exponentOctets a + 8)) f) in
         omega arith
 
 pub real-short : (x : Float) → T (Ieee.fits binary64 x) → (bs : List ℕ) → form x ≡ octets bs → length bs < 128

@@ -138,7 +138,8 @@ module _ (rows : ℕ) (most : rows ≤ 256) (tables : ℕ → Rows) (sized : (i 
       one-not k h p = eqb-false k 1 h p
 
   -- THE CLAIM, with nothing left open. For every stream of octets, every way to cut it, every store of the right length, every legal desk, and every table,
-  -- answers and answer's words at each call, there is a list of calls of `ember_turn` that offers the chunks, each until it is consumed; it tells exactly what the
+  -- answers and answer's words at each call, there is a list of calls of `ember_turn` that offers the chunks, each until it is consumed; it tells
+  -- exactly what the
   -- rules tell for the stream, and leaves what they keep.
   pub record Offered (t : List ℕ) (cells : Cells) (bytes : List ℕ) (chunks : List (List ℕ)) : Type 0 where
     pub made : List Round
@@ -158,7 +159,8 @@ module _ (rows : ℕ) (most : rows ≤ 256) (tables : ℕ → Rows) (sized : (i 
       let k = framing.some-turns chunks (sessionOf begin) t (fresh-legal room) in
       let m = some 0 cells g (fresh-legal room) (k .made) in
       let calls-made =
-      subst (λ (bs : List ℕ). Rounds rows fs path (wordsOf (sessionOf begin)) t cells bs (m .made) (wordsOf (k .session)) (k .store) (m .cells″) []) e (m .calls-made) in
+      subst (λ (bs : List ℕ). Rounds rows fs path (wordsOf (sessionOf begin)) t cells bs (m .made) (wordsOf (k .session)) (k .store) (m .cells″) []) e
+      (m .calls-made) in
       let turns-made =
       subst (λ (bs : List ℕ). claim.Turns rows (sessionOf begin) t (desk cells) bs (m .list) (k .session) (k .store) (desk (m .cells″)) []) e (m .turns-made) in
       let f = rules-claim room g b turns-made in

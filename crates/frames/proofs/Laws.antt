@@ -18,7 +18,8 @@ run-consumed [] s t n = omega arith
 run-consumed (b ∷ bs) s t n = by (run-consumed bs (step s b .next) (kept (step s b) t) (n + 1)) (eqb (step s b .said .number) 0)
   where
     by : run bs (step s b .next) (kept (step s b) t) (n + 1) .consumed ≤ n + 1 + length bs → (x : Bool)
-        → pick x (run bs (step s b .next) (kept (step s b) t) (n + 1)) (whole (step s b .said) (n + 1) (step s b .next) (kept (step s b) t)) .consumed ≤ n + suc (length bs)
+        → pick x (run bs (step s b .next) (kept (step s b) t) (n + 1))
+        (whole (step s b .said) (n + 1) (step s b .next) (kept (step s b) t)) .consumed ≤ n + suc (length bs)
     by h true = omega arith
     by h false = omega arith
 

@@ -43,7 +43,8 @@ module _ (x : ℕ) (xs : List ℕ) (s : State) (t : List ℕ) (i : ℕ) where
   abbrev o : Step
   o = step s x
 
-  ran-more : eqb (o .said .number) 0 ≡ true → Ran xs (o .next) (i + 1) (run xs (o .next) (kept o t) (i + 1)) → Ran (x ∷ xs) s i (run xs (o .next) (kept o t) (i + 1))
+  ran-more : eqb (o .said .number) 0 ≡ true → Ran xs (o .next) (i + 1) (run xs (o .next) (kept o t) (i + 1))
+      → Ran (x ∷ xs) s i (run xs (o .next) (kept o t) (i + 1))
   unfolding happens after
   ran-more e r =
       record {

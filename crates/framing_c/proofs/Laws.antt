@@ -47,7 +47,8 @@ module _ (ws t bs a : List ℕ) (s : Session) (r : Fed) (ws′ t′ a′ : List 
 
 -- ---- the writer
 
-pub puts-told : (o : Outcome) (w : Written) (out : List ℕ) (k : ℕ) {t : Told} → o ≡ outcome w out → tells w k ≡ t → puts o k ≡ record { number = t .number; output = out; count = t .count }
+pub puts-told : (o : Outcome) (w : Written) (out : List ℕ) (k : ℕ) {t : Told} → o ≡ outcome w out → tells w k ≡ t → puts o k
+    ≡ record { number = t .number; output = out; count = t .count }
 unfolding puts
 puts-told o (Done n) out k e f = rw (e, ← f)
 puts-told o Out out k e f = rw (e, ← f)

@@ -18,7 +18,8 @@ use Rattle.framing_content.specs.Content.{isFirst, isLast, emptyBit, packetOf, 
 use Rattle.base_choices.specs.Choices.{pick}
 use Rattle.framing_content.specs.Numbers.{BOF, EOF, messageLimit, number}
 use Rattle.framing_session.specs.Rules.{outside, inside, Message, none, part, State, Step, begin, isOpen, refuses, joins, pieces, reads, ends}
-use Rattle.framing_packets.specs.Written.{escapes, sealed, frame, bodyLimit, requestBody, responseBody, flags, header, packetBody, packet, packets, payloadLimit, earlier, inPackets}
+use Rattle.framing_packets.specs.Written.{escapes, sealed, frame, bodyLimit, requestBody, responseBody, flags, header, packetBody, packet}
+use Rattle.framing_packets.specs.Written.{packets, payloadLimit, earlier, inPackets}
 use Rattle.framing_packets.specs.Read.{Bytes, Opens, Gives, happening, packetEvents, messageEvents}
 use Rattle.framing_packets.proofs.Reading.{state, gives-then, gives-quiet, gives-event, opens-at, opens-outside, step-end, escapes-back}
 
@@ -214,10 +215,12 @@ packets-back (suc k) first d m xs h l b s o q n =
     let r = length-drop payloadLimit m in
     let ys = xs ++ take payloadLimit m in
     let a = length-append xs (take payloadLimit m) in
-    let e : ys ++ drop payloadLimit m ≡ xs ++ m = append-assoc xs (take payloadLimit m) (drop payloadLimit m) ∙ ap (λ (zs : List ℕ). xs ++ zs) (take-append-drop payloadLimit m) in
+    let e : ys ++ drop payloadLimit m ≡ xs ++ m = append-assoc xs (take payloadLimit m) (drop payloadLimit m)
+    ∙ ap (λ (zs : List ℕ). xs ++ zs) (take-append-drop payloadLimit m) in
     gives-then (packet first false (take payloadLimit m)) (packets k false (drop payloadLimit m))
     (packet-back first false (take payloadLimit m) (bytes-take payloadLimit m h) (omega arith) s o n (q false (take payloadLimit m) (omega arith)))
-    (rw (← e) (packets-back k false false (drop payloadLimit m) ys (bytes-drop payloadLimit m h) (omega arith) (omega arith) (state outside (part ys)) (opens-outside (part ys)) (adds-to ys) _))
+    (rw (← e) (packets-back k false false (drop payloadLimit m) ys (bytes-drop payloadLimit m h) (omega arith) (omega arith) (state outside (part ys))
+    (opens-outside (part ys)) (adds-to ys) _))
 
 -- 2 for each packet but the last, then 3 with exactly these bytes; a message that was open is thrown away at the first piece
 pub message-back : (m : List ℕ) → Bytes m → length m ≤ messageLimit → (s : State) → Opens s → (n : ℕ)

@@ -102,9 +102,11 @@ module _ (bs o : List ℕ) where
       short : length o < length bs → into bs o ≡ outcome Out o
       short h = simp (lt-leb _ _ h)
 
-  pub into-done : {v w : Wrote} → wrote [] 0 bs ≡ v → v .next ≤ length (v .output ++ o) → wrote (v .output ++ o) 0 bs ≡ w → into bs o ≡ outcome (Done (v .next)) (w .output)
+  pub into-done : {v w : Wrote} → wrote [] 0 bs ≡ v → v .next ≤ length (v .output ++ o) → wrote (v .output ++ o) 0 bs ≡ w → into bs o
+      ≡ outcome (Done (v .next)) (w .output)
   unfolding into
-  into-done {v} {w} e = subst (λ (u : Wrote). u .next ≤ length (u .output ++ o) → wrote (u .output ++ o) 0 bs ≡ w → into bs o ≡ outcome (Done (u .next)) (w .output)) (sym (wrote-count bs) ∙ e) done
+  into-done {v} {w} e = subst (λ (u : Wrote). u .next ≤ length (u .output ++ o) → wrote (u .output ++ o) 0 bs ≡ w → into bs o
+      ≡ outcome (Done (u .next)) (w .output)) (sym (wrote-count bs) ∙ e) done
     where
       done : length bs ≤ length o → wrote o 0 bs ≡ w → into bs o ≡ outcome (Done (length bs)) (w .output)
       done h q = simp (le-leb _ _ h, wrote-all o bs h q)

@@ -10,7 +10,8 @@ use lib.Bits.{bitXor, xor-block, xor-zero-r}
 use lib.Dec.{ltb, eqb}
 use lib.ListN.{length, length-append}
 use Rattle.framing_content.specs.Numbers.{BOF, EOF, CE, contentLimit}
-use Rattle.framing_session.specs.Rules.{Place, outside, stray, inside, escaped, Message, State, Said, Step, Happening, goes, adds, ends, cuts, inPlace, step, noted, happens, after}
+use Rattle.framing_session.specs.Rules.{Place, outside, stray, inside, escaped, Message, State, Said, Step, Happening, goes, adds, ends, cuts}
+use Rattle.framing_session.specs.Rules.{inPlace, step, noted, happens, after}
 use Rattle.framing_session.proofs.Stream.{happens-append, after-append}
 use Rattle.framing_packets.specs.Written.{escape, escapes}
 use Rattle.framing_packets.proofs.Laws.{escape-plain, escape-high}

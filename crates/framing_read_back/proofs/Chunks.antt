@@ -58,7 +58,8 @@ module _ {s s″ : Session} {t t″ : List ℕ} {ts : List Turn} (legal : Legal 
     module _ (o p : List ℕ) (n : ℕ) (turns : Turns s t (take n p) ts s″ t″ []) where
       -- a frame: one event, at its last byte, which its content decides
       pub frame-in-chunks : (xs : List ℕ) → frameInto xs o ≡ outcome (Done n) p → Bytes xs
-          → ReadAs k ts s″ t″ (record { offset = k + length (frame xs); said = ends (sealed xs) (stateOf s t .message) .said } ∷ []) (ends (sealed xs) (stateOf s t .message) .next)
+          → ReadAs k ts s″ t″ (record { offset = k + length (frame xs); said = ends (sealed xs) (stateOf s t .message) .said } ∷ [])
+          (ends (sealed xs) (stateOf s t .message) .next)
       frame-in-chunks xs c h = in-chunks (written-frame o p n (stateOf s t) opens k xs c h) turns
 
       -- a message: 2 for each packet but the last, then 3 with these very bytes

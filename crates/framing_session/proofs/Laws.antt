@@ -28,10 +28,12 @@ use Rattle.framing_session.proofs.Lists.{sets-append, length-part, sets
 use Rattle.base_choices.specs.Choices.{pick}
 use Rattle.base_choices.proofs.Laws.{pick-by}
 use Rattle.framing_content.specs.Numbers.{BOF, EOF, CE, contentLimit, messageLimit, storeLength, contentStart, number, faultNumbers, feedNumbers}
-use Rattle.framing_session.specs.Rules.{Place, outside, stray, inside, escaped, badByte, tooLong, Message, none, part, State, Said, Step, begin, quiet, makes, goes, refuses, adds, joins, pieces, reads, ends, cuts, faulted, inPlace, step, isOpen}
+use Rattle.framing_session.specs.Rules.{Place, outside, stray, inside, escaped, badByte, tooLong, Message, none, part, State, Said, Step, begin}
+use Rattle.framing_session.specs.Rules.{quiet, makes, goes, refuses, adds, joins, pieces, reads, ends, cuts, faulted, inPlace, step, isOpen}
 use Rattle.framing_content.specs.Content.{packetOf, commandOf, bodyOf, contentOf, body, crcOf, payload}
 use Rattle.framing_checksum.specs.Checksum.{checksum}
-use Rattle.framing_session.specs.Session.{saidBy, contentIn, placeOf, messageOf, stateOf, frameOf, pendingOf, sessionOf, frameLength, messageLength, legal, Legal, content, held, kept, Kept, keeps, whole, run}
+use Rattle.framing_session.specs.Session.{saidBy, contentIn, placeOf, messageOf, stateOf, frameOf, pendingOf, sessionOf, frameLength}
+use Rattle.framing_session.specs.Session.{messageLength, legal, Legal, content, held, kept, Kept, keeps, whole, run}
 use Rattle.framing_session.specs.Steps.{gives, isPart, going, refusing, joining, pastFault, unlessSetup, Reaches, Stays}
 
 -- ---- a test and its two answers
@@ -323,10 +325,12 @@ pub bounded-state : (s : Session) (t : List ℕ) → length t ≡ storeLength �
 bounded-state s t room hf hm =
     record {
       frame =
-          let e : length (content (placeOf (s .frame) t)) ≡ frameLength (s .frame) = ap length (content-place t room (s .frame)) ∙ content-length t room (frameLength (s .frame)) hf in
+          let e : length (content (placeOf (s .frame) t)) ≡ frameLength (s .frame) = ap length (content-place t room (s .frame))
+          ∙ content-length t room (frameLength (s .frame)) hf in
           omega arith;
       message =
-          let e : length (held (messageOf (s .message) t) []) ≡ messageLength (s .message) = ap length (held-message t room (s .message)) ∙ message-length t room (messageLength (s .message)) hm in
+          let e : length (held (messageOf (s .message) t) []) ≡ messageLength (s .message) = ap length (held-message t room (s .message))
+          ∙ message-length t room (messageLength (s .message)) hm in
           omega arith;
     }
 

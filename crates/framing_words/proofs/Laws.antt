@@ -61,7 +61,8 @@ pub session-length : (ws : List ℕ) → isSession ws ≡ true → length ws ≡
 unfolding isSession
 session-length ws h = by (eqb (length ws) 4) refl h
   where
-    by : (t : Bool) → eqb (length ws) 4 ≡ t → pick t (pick (isFrame (getD ws 0 0) (getD ws 1 0)) (isPending (getD ws 2 0) (getD ws 3 0)) false) false ≡ true → length ws ≡ 4
+    by : (t : Bool) → eqb (length ws) 4 ≡ t → pick t (pick (isFrame (getD ws 0 0) (getD ws 1 0)) (isPending (getD ws 2 0) (getD ws 3 0)) false) false
+        ≡ true → length ws ≡ 4
     by true e g = eqb-true _ _ e
     by false e g = absurd (never g)
 

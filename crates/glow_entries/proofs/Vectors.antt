@@ -140,6 +140,7 @@ pub v-other :
     (nodeRead (1 ∷ 0 ∷ 2 ∷ 7 ∷ 0 ∷ words (blanks 15)) ≡ NodeOther) ×
     (matrixRead (7 ∷ 0 ∷ 13 ∷ 40 ∷ 2 ∷ words (blanks 14) ++ (0 ∷ 0 ∷ 1 ∷ [])) ≡ MatrixOther) ×
     (streamRead (9 ∷ 0 ∷ 2 ∷ 100 ∷ 0 ∷ words (blanks 15)) ≡ StreamOther)
-unfolding filled withCell blanks words intOf numberOf flagOf partOf valueOf cellIn keyOf parentOf same readAs parameterRow parameterOf parameterRead intIn numberIn
+unfolding filled withCell blanks words intOf numberOf flagOf partOf valueOf cellIn keyOf parentOf same readAs parameterRow parameterOf parameterRead
+    intIn numberIn
     nodeRow nodeOf nodeRead matrixRow matrixOf matrixRead streamRow streamOf streamRead
 v-other = (refl, refl, refl, refl)

@@ -206,7 +206,8 @@ module _ (kind : ℕ) where
       unfolding memberSize suits memberOctets
       size-word h n a r l i j =
           simp (ne-eqb _ _ listed, p, lt-ltb _ _ fits, e, h)
-          (ap cap (outer-length 0 0 false kind (spelled real kind w) (omega arith) (word-small p) ∙ ap (λ (x : ℕ). taggedSize (taggedSize x)) l) ∙ twice n a r i j)
+          (ap cap (outer-length 0 0 false kind (spelled real kind w) (omega arith) (word-small p) ∙ ap (λ (x : ℕ). taggedSize (taggedSize x)) l)
+          ∙ twice n a r i j)
 
       pub size-word-no : wordSuits what kind w ≡ false → memberSize real what (word kind w) ≡ 65536
       unfolding memberSize suits
@@ -303,7 +304,8 @@ module _ (s : List ℕ) (v : Cell) (what : ℕ) (p : isPart (v .kind) ≡ true) 
 
   module _ (start len : ℕ) (i : start ≡ v .first) (l : len ≡ v .second) (h : v .first + v .second ≤ length s) where
     there : contentOf s v ≡ bytes (v .kind) (take len (drop start s))
-    there = content-part s v p h ∙ ap (λ (n : ℕ). bytes (v .kind) (take n (drop (v .first) s))) (sym l) ∙ ap (λ (n : ℕ). bytes (v .kind) (take len (drop n s))) (sym i)
+    there = content-part s v p h ∙ ap (λ (n : ℕ). bytes (v .kind) (take n (drop (v .first) s))) (sym l)
+        ∙ ap (λ (n : ℕ). bytes (v .kind) (take len (drop n s))) (sym i)
 
     inside : start + len ≤ length s
     inside = omega arith

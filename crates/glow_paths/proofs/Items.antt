@@ -74,7 +74,8 @@ qualified-rest kind h = rw (le-leb _ _ h)
 
 -- what a cell says
 module _ (s : List ℕ) (v : Cell) where
-  pub content-by : (P : Content → Type 0) → P nothing → P wrong → ((n : ℕ) → P (word (v .kind) n)) → ((bs : List ℕ) → P (bytes (v .kind) bs)) → P (contentOf s v)
+  pub content-by : (P : Content → Type 0) → P nothing → P wrong → ((n : ℕ) → P (word (v .kind) n)) → ((bs : List ℕ) → P (bytes (v .kind) bs))
+      → P (contentOf s v)
   unfolding contentOf
   content-by P n a b c =
       go (isPart (v .kind)) (isWord (v .kind)) (leb (v .first + v .second) (length s)) (eqb (v .second) 0) (ltb (v .first) 18446744073709551616)

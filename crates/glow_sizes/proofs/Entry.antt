@@ -31,7 +31,8 @@ pub member-length : (real : ℕ → List ℕ) (n : ℕ) (x : Content) → n < 31
 unfolding memberOctets
 member-length real n nothing h = refl
 member-length real n (word kind w) h =
-    tagged-length 2 true n (tagged 0 false kind (spelled real kind w)) h ∙ sym (tagged-length 2 true 0 (tagged 0 false kind (spelled real kind w)) (omega arith))
+    tagged-length 2 true n (tagged 0 false kind (spelled real kind w)) h
+    ∙ sym (tagged-length 2 true 0 (tagged 0 false kind (spelled real kind w)) (omega arith))
 member-length real n (bytes kind bs) h =
     tagged-length 2 true n (tagged 0 false kind bs) h ∙ sym (tagged-length 2 true 0 (tagged 0 false kind bs) (omega arith))
 member-length real n wrong h = refl

@@ -23,7 +23,8 @@ use Rattle.glow_member_sizes.specs.Sizes.{cap, taggedSize}
 use Rattle.glow_sizes.specs.Sizes.{cellsSize, wrappedSize, pathCap, isEntry, entryOctets, entered, split, keyed, enteredAt}
 use Rattle.glow_member_sizes.proofs.Caps.{cap-in, cap-over, cap-right}
 use Rattle.glow_sizes.proofs.Places.{kind-present, kind-absent, cap-few, cap-many}
-use Rattle.glow_sizes.proofs.Entry.{sized, cells-sized, wrapped-length, members-empty, own-is, inner-is, suited-is, cells-length, not-suited, too-long, too-deep, not-complete, path-long, entered-is}
+use Rattle.glow_sizes.proofs.Entry.{sized, cells-sized, wrapped-length, members-empty, own-is, inner-is, suited-is, cells-length, not-suited}
+use Rattle.glow_sizes.proofs.Entry.{too-long, too-deep, not-complete, path-long, entered-is}
 
 never : {P : Type 0} → false ≡ true → P
 never e = absurd (subst (λ (b : Bool). T (not b)) e tt)

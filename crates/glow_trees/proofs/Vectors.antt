@@ -23,9 +23,11 @@ abbrev pub p12 : Trees
 p12 = tree 2 (word 2 32 ∷ nothings) none none none
 
 pub p12-written : messageOctets writtenReal 0 p12 ≡ 0x60 ∷ 0x0B ∷ 0x6B ∷ 0x09 ∷ 0xA0 ∷ 0x07 ∷ 0x62 ∷ 0x05 ∷ 0xA0 ∷ 0x03 ∷ 0x02 ∷ 0x01 ∷ 0x20 ∷ []
-unfolding messageOctets tagged spelled memberOctets membersOctets wrapped own treesOctets rootNumber inner tagOctets lengthOctets shortest int.octets sizeBy digits intOf contentsOf contentsRows applications
+unfolding messageOctets tagged spelled memberOctets membersOctets wrapped own treesOctets rootNumber inner tagOctets lengthOctets shortest int.octets
+    sizeBy digits intOf contentsOf contentsRows applications
 p12-written = refl
 
 pub p12-legal : legalRoot 0 p12 ≡ true
-unfolding legalRoot legal among holds suited suits ruleAt ruleOf members wordSuits expects isListed inRange least most complete required requirements pathAfter empty inner contentsOf contentsRows intOf
+unfolding legalRoot legal among holds suited suits ruleAt ruleOf members wordSuits expects isListed inRange least most complete required requirements
+    pathAfter empty inner contentsOf contentsRows intOf
 p12-legal = refl

@@ -14,7 +14,8 @@ use Rattle.ber_identifiers.specs.Identifier.{Arcs, numbers, arcs, oidOctets}
 use Rattle.ber_identifiers.specs.Identifier as oid
 use Rattle.glow_grammar.specs.Leaf.{expects, inRange, least, most, allPositive, isPath}
 use Rattle.glow_trees.specs.Content.{Content, nothing, word, bytes, intOf}
-use Rattle.glow_trees.specs.Legal.{wordSuits, partSuits, pathSuits, listSuits, suits, suited, ruleAt, complete, pathAfter, empty, inner, lengthOf, legal, legalRoot}
+use Rattle.glow_trees.specs.Legal.{wordSuits, partSuits, pathSuits, listSuits, suits, suited, ruleAt, complete, pathAfter, empty, inner, lengthOf}
+use Rattle.glow_trees.specs.Legal.{legal, legalRoot}
 use Rattle.glow_trees.specs.Trees.{Trees, none, tree, among, count}
 use Rattle.glow_grammar.specs.Grammar.{ruleOf, members, contentsOf, contentsRows, holds, required, requirements}
 use Rattle.trees_accepted.proofs.Bools.{never}

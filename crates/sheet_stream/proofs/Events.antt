@@ -77,7 +77,8 @@ module _ (k : ℕ) (m : List ℕ) (s : State) (b : ℕ) (bs : List ℕ) (n : ℕ
   abbrev end : State
   end = after (o .next) bs
 
-  byte-is : collects k m (o .next) bs ≡ ofLater k m hs end → collects (another k) (o .said .message) (o .next) bs ≡ ofLater (another k) (o .said .message) hs end
+  byte-is : collects k m (o .next) bs ≡ ofLater k m hs end → collects (another k) (o .said .message) (o .next) bs
+      ≡ ofLater (another k) (o .said .message) hs end
       → collects k m s (b ∷ bs) ≡ ofLater k m (noted (o .said) n hs) end
   unfolding collects ofLater
   byte-is on more = go (leb 10 (o .said .number)) (eqb (o .said .number) 3) refl refl

@@ -82,7 +82,8 @@ module _ (r : Tally) (t : List ℕ) (b : ℕ) (l : Sound r t) (z : r .refused �
   one-run = rw (l .legal) at e
 
   -- what is told, and the session and the store that are left
-  told : (saidBy (f .event) t′ .number ≡ n) × ((n ≡ 3 → saidBy (f .event) t′ .message ≡ o .said .message) × ((f .session ≡ sessionOf (o .next)) × (t′ ≡ kept o t)))
+  told : (saidBy (f .event) t′ .number ≡ n) × ((n ≡ 3 → saidBy (f .event) t′ .message ≡ o .said .message)
+      × ((f .session ≡ sessionOf (o .next)) × (t′ ≡ kept o t)))
   unfolding run
   told = go (eqb n 0) refl one-run
     where
@@ -187,7 +188,8 @@ module _ (r : Tally) (t : List ℕ) (b : ℕ) (l : Sound r t) (z : r .refused �
   taken-message k d q x c =
       let i : 3 ≡ n = ap (λ (x : Event). saidBy x [] .number) (sym q) ∙ number-is in
       let j : take k t′ ≡ o .said .message = ap (λ (x : Event). saidBy x t′ .message) (sym q) ∙ told .1 .0 (sym i) in
-      let s : length (take k t′) ≤ messageLimit = subst (λ (x : List ℕ). length x ≤ messageLimit) (sym j) (said-short (stateOf (r .session) t) b bounded (sym i)) in
+      let s : length (take k t′) ≤ messageLimit = subst (λ (x : List ℕ). length x ≤ messageLimit) (sym j)
+      (said-short (stateOf (r .session) t) b bounded (sym i)) in
       let a = length-take k t′ in
       let room = legal-true (f .session) t′ lawful-next .room in
       record {
@@ -198,7 +200,8 @@ module _ (r : Tally) (t : List ℕ) (b : ℕ) (l : Sound r t) (z : r .refused �
 
 -- ---- the beginning
 
-pub sound-start : (s : Session) (t : List ℕ) → s ≡ sessionOf begin → length t ≡ storeLength → Sound (record { session = s; messages = 0; length = 0; refused = 0 }) t
+pub sound-start : (s : Session) (t : List ℕ) → s ≡ sessionOf begin → length t ≡ storeLength
+    → Sound (record { session = s; messages = 0; length = 0; refused = 0 }) t
 sound-start s t e h =
     record { legal = ap (λ (x : Session). legal x (length t)) e ∙ true-legal (sessionOf begin) t (fresh-legal h); short = omega arith }
 

@@ -141,8 +141,10 @@ collects-any (b ∷ bs) k m m′ s h = go (leb 10 (step s b .said .number)) (eqb
   where
     go : (u v : Bool) → leb 10 (step s b .said .number) ≡ u → eqb (step s b .said .number) 3 ≡ v
         → (loose k (step s b .next) ≡ true → collects k m (step s b .next) bs ≡ collects k m′ (step s b .next) bs)
-        → pick u (refusal (step s b .said .number)) (pick v (collects (another k) (step s b .said .message) (step s b .next) bs) (collects k m (step s b .next) bs))
-        ≡ pick u (refusal (step s b .said .number)) (pick v (collects (another k) (step s b .said .message) (step s b .next) bs) (collects k m′ (step s b .next) bs))
+        → pick u (refusal (step s b .said .number))
+        (pick v (collects (another k) (step s b .said .message) (step s b .next) bs) (collects k m (step s b .next) bs))
+        ≡ pick u (refusal (step s b .said .number))
+        (pick v (collects (another k) (step s b .said .message) (step s b .next) bs) (collects k m′ (step s b .next) bs))
     go true v p q f = refl
     go false true p q f = refl
     go false false p q f = f (loose-next k s b p q h)

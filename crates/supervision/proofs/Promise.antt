@@ -1,4 +1,5 @@
--- THE PROMISE of request 01, over every list of showings. It rests on what `start` and `show` give by their contracts; that there are such calls for every list is shown
+-- THE PROMISE of request 01, over every list of showings. It rests on what `start` and `show` give by their contracts; that there are such calls for
+-- every list is shown
 -- at the end.
 use Prim.Native.Nat.{ℕ, _+_, _≤_, _<_}
 use mathlib.Core.List.{List, [], _∷_}

@@ -17,7 +17,8 @@ use Rattle.supervision.specs.Rules.{Showing, State, silent, asked, dead,
 use Rattle.supervision.specs.Supervisor.{wrap, elapsed, begun, isDue, waited, heard, shows}
 use Rattle.supervision.specs.Promise.{tickAt, Often, last, next, Calls, none, call}
 
--- "shown equal to the true gap under the shown-often premise" (document 01, "Forms"): of two times less than 2^32 ms apart the ticks' wrapping difference is the
+-- "shown equal to the true gap under the shown-often premise" (document 01, "Forms"): of two times less than 2^32 ms apart the ticks' wrapping
+-- difference is the
 -- gap. That what is waited for is never that long ago where showings are often enough is `Holds`, kept by each showing (`same-step`).
 pub elapsed-gap : (o t b : ℕ) → t ≤ b → b < t + wrap → elapsed (tickAt o t) (tickAt o b) ≡ b - t
 elapsed-gap o t b h k = omega arith

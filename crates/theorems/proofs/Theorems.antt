@@ -181,7 +181,8 @@ values-read-back = values.written-read-value
 -- ---- The tree, read
 
 -- `read` answers every message by what it encodes, and nothing else: for at most 16,384 octets and a table of at most 256 rows it answers 0 with a tree exactly
--- if the message encodes it and it fits, 38 exactly if it encodes one that does not fit, and 30 to 37 exactly if it encodes none. `Encodes` (crates/encodings/specs)
+-- if the message encodes it and it fits, 38 exactly if it encodes one that does not fit, and 30 to 37 exactly if it encodes none. `Encodes`
+-- (crates/encodings/specs)
 -- is the grammar as a relation, with no reader in it.
 pub tree-read-exactly : (s : List ℕ) → Below 256 s → length s ≤ 16384 → (table : Rows) → length table ≤ 256
     → AnswersExactly s table (readAt s table .answer) (readAt s table .rows)
@@ -268,7 +269,8 @@ sheet-call-read-back = sheet-reader.read-back
 -- ---- Turns: demand 3
 
 -- THE CLAIM. For every list of turns, each call by what its contract has it ensure, from a fresh session, any store of the right length, a table of any one
--- length and a desk in any legal state: the events in order, with all they say, each message, the tree reader's answer and entries, the answer to each connection,
+-- length and a desk in any legal state: the events in order, with all they say, each message, the tree reader's answer and entries, the answer to
+-- each connection,
 -- and what is kept of frame, message and desk are what the rules give for the bytes consumed so far. The rules know no chunk, no session, no store, and of the
 -- table its length.
 pub turns-claim : {rows : ℕ} {s : Session} {t t′ : List ℕ} {d d′ : Desk} {bytes rest : List ℕ} {ts : List turns.Turn} → length t ≡ storeLength
@@ -296,7 +298,8 @@ turns-function-every-cut = turns-calls.function-every-cut
 
 -- ---- Supervision: request 01
 
--- For every list of showings from the start s to the present z, over any number of the tick's wraps: if each state comes back as left, time does not go back and
+-- For every list of showings from the start s to the present z, over any number of the tick's wraps: if each state comes back as left, time does not
+-- go back and
 -- no more than 1,000 ms pass without a showing, the answers are exactly the rules'; dead no later than 12,000 ms after the last event; never with an event in
 -- every 4,000 ms.
 pub supervision-promise : {o s z : ℕ} {l : Link} {xs : List Showing} {rs : List Answer} → Calls o (begun (tickAt o s)) xs rs l → Often s xs z
@@ -310,7 +313,8 @@ supervision-every-run = supervision.every-run
 
 -- ---- The C functions
 
--- framing_feed, over every list of its calls from the words that framing_start makes, refused ones among them: it tells the rules' events of the bytes consumed,
+-- framing_feed, over every list of its calls from the words that framing_start makes, refused ones among them: it tells the rules' events of the
+-- bytes consumed,
 -- each once and in order, however the stream is cut.
 pub c-framing-claim : (ws₀ : List ℕ) {ws t bytes ws″ t″ rest : List ℕ} {xs : List framing-c.Turn} → starts ws₀ ≡ record { number = 0; session = ws }
     → length t ≡ storeLength → framing-c.Turns ws t bytes xs ws″ t″ rest → framing-c.AsRules begin 0 xs ws″ t″ bytes rest

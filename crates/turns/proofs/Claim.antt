@@ -88,7 +88,8 @@ as-rules-from {rows} {s} {s″} {t} {t″} {d} {d″} {bytes} {rest} {ts} n l p 
 -- THE CLAIM. From a fresh session, any store of the right length and a desk in any legal state, for every list of turns over a stream of octets, with a
 -- table of any one length, its content any at each turn:
 -- the events in order, with all that they say, the bytes of each finished message, the tree reader's answer and entries and the answer to each connection are
--- what the rules tell for the bytes consumed so far; so are the frame, the message and the whole desk that are kept; and each session call consumed the bytes up
+-- what the rules tell for the bytes consumed so far; so are the frame, the message and the whole desk that are kept; and each session call consumed
+-- the bytes up
 -- to and including its event's, or all that it was offered. Every front of a list of turns is a list of turns, so this holds after each turn.
 pub claim : {rows : ℕ} {s : Session} {t t′ : List ℕ} {d d′ : Desk} {bytes rest : List ℕ} {ts : List Turn} → length t ≡ storeLength
     → deskLegal d ≡ true → Below 256 bytes → Turns rows (sessionOf begin) t d bytes ts s t′ d′ rest → AsRules rows begin d 0 ts s t′ d′ bytes rest

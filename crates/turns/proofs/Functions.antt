@@ -20,7 +20,8 @@ use Rattle.turns.specs.Calls.{CallByCall}
 use Rattle.turns.proofs.Calls.{calls-turns, Made, made-turns, some-made}
 use Rattle.turns.proofs.Claim.{claim}
 
--- Whatever list of turns is made by calls of `framing::feed`, `glow_reader::read` and `desk_calls::call`, from a fresh session, any store of the right length and a
+-- Whatever list of turns is made by calls of `framing::feed`, `glow_reader::read` and `desk_calls::call`, from a fresh session, any store of the
+-- right length and a
 -- desk in any legal state, it tells what the rules tell for the bytes consumed so far, and leaves what they keep. (`turns-calls`: every list of turns can be
 -- made so, and there is one for every stream and every cut of it: `every-cut`, Some.antt.)
 pub calls-claim : {rows : ℕ} {s : Session} {t t′ : List ℕ} {d d′ : Desk} {bytes rest : List ℕ} {ts : List Turn} → length t ≡ storeLength

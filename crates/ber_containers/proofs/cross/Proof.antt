@@ -35,8 +35,10 @@ returns-2 c =
     let the-standing = c .before .before .before .before .before .before .standing in
     let the-t = c .before .before .before .before .t in
     let the-if1 = c .before .if1 in
-    let the-if2 = c .if2 in
-    (cross-into _ _ _ _ (the-standing .ensures .0 ∙ the-t .given .1) (the-if1 .taken) (the-if2 .left), subst (Onward _ _) (the-t .given .1) (the-standing .ensures .1))
+    let the-if2 = c .if2 in (
+      cross-into _ _ _ _ (the-standing .ensures .0 ∙ the-t .given .1) (the-if1 .taken) (the-if2 .left),
+      subst (Onward _ _) (the-t .given .1) (the-standing .ensures .1),
+    )
 
 skip-requires : tie.Need-skip-requires
 skip-requires c κs = search needs

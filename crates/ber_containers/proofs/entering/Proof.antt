@@ -49,8 +49,10 @@ returns-4 c =
     let the-standing = c .before .before .before .before .before .standing in
     let the-t = c .before .before .before .t in
     let the-too-deep = c .before .too-deep in
-    let the-if1 = c .if1 in
-    (enter-here _ _ _ _ (the-standing .ensures .0 ∙ the-t .given .1) (the-too-deep .ensures ∙ the-if1 .left), subst (Onward _ _) (the-t .given .1) (the-standing .ensures .1))
+    let the-if1 = c .if1 in (
+      enter-here _ _ _ _ (the-standing .ensures .0 ∙ the-t .given .1) (the-too-deep .ensures ∙ the-if1 .left),
+      subst (Onward _ _) (the-t .given .1) (the-standing .ensures .1),
+    )
 
 pub entering-spec : {M : Type 1} → statement M
 entering-spec =

@@ -68,8 +68,10 @@ returns-5 c =
     let the-if1 = c .before .before .if1 in
     let the-too-deep = c .before .too-deep in
     let the-if2 = c .if2 in
-    let f = the-agree .ensures ∙ not-false _ (the-if1 .left) in
-    (first-here _ _ _ _ (the-standing .ensures .0 ∙ the-t .given .1) f (the-too-deep .ensures ∙ the-if2 .left), subst (Onward _ _) (the-t .given .1) (the-standing .ensures .1))
+    let f = the-agree .ensures ∙ not-false _ (the-if1 .left) in (
+      first-here _ _ _ _ (the-standing .ensures .0 ∙ the-t .given .1) f (the-too-deep .ensures ∙ the-if2 .left),
+      subst (Onward _ _) (the-t .given .1) (the-standing .ensures .1),
+    )
 
 pub first-spec : {M : Type 1} → statement M
 first-spec =

@@ -107,7 +107,8 @@ has-room-requires : tie.Need-has-room-requires Inv-loop μ-loop
 has-room-requires c κs = search needs
 
 sub-stopped-2 : tie.Need-sub-stopped-2 Inv-loop μ-loop
-sub-stopped-2 c = let the-loop = c .before .before .before .before .before .before .before .before .before .before .loop in let i = the-loop .inv in omega (arith, i .deep)
+sub-stopped-2 c = let the-loop = c .before .before .before .before .before .before .before .before .before .before .loop in let i = the-loop .inv in
+    omega (arith, i .deep)
 
 stopped-requires-2 : tie.Need-stopped-requires-2 Inv-loop μ-loop
 stopped-requires-2 c κs = λ n t. going-stuck _ _ _ _ _ _ _ _ _ (c .before .before .before .before .before .before .before .before .before .before .loop .inv) t
@@ -173,7 +174,8 @@ loop-again-2 c =
     going-in _ _ _ _ _ _ _ _ _ (the-loop .inv) e (the-if4 .taken) (b .0) (b .1)
 
 sub-stopped-3 : tie.Need-sub-stopped-3 Inv-loop μ-loop
-sub-stopped-3 c = let the-loop = c .before .before .before .before .before .before .before .before .before .before .loop in let i = the-loop .inv in omega (arith, i .deep)
+sub-stopped-3 c = let the-loop = c .before .before .before .before .before .before .before .before .before .before .loop in let i = the-loop .inv in
+    omega (arith, i .deep)
 
 stopped-requires-3 : tie.Need-stopped-requires-3 Inv-loop μ-loop
 stopped-requires-3 c κs = λ n t. going-stuck _ _ _ _ _ _ _ _ _ (c .before .before .before .before .before .before .before .before .before .before .loop .inv) t

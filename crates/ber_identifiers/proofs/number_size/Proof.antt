@@ -19,7 +19,8 @@ add-result : tie.Need-add-result
 add-result c = let k = nine-groups (c .before .args .v) (c .before .fits .v .fits) in let e = c .septet-count .ensures in omega arith
 
 returns : tie.Need-returns
-returns c = let k = nine-groups (c .before .args .v) (c .before .fits .v .fits) in let e = c .septet-count .ensures in (ap (λ (i : ℕ). i + 1) e ∙ sym (length-septets (c .before .args .v)), omega arith)
+returns c = let k = nine-groups (c .before .args .v) (c .before .fits .v .fits) in let e = c .septet-count .ensures in
+    (ap (λ (i : ℕ). i + 1) e ∙ sym (length-septets (c .before .args .v)), omega arith)
 
 pub number-size-spec : {M : Type 1} → statement M
 number-size-spec = tie.close (tie.spec septet-count-requires add-result returns)

@@ -44,7 +44,8 @@ loop-again c =
 returns : tie.Need-returns Inv-loop μ-loop
 returns c =
     let l = c .before .loop in
-    let d : length (oidOctets (drop (l .i) (c .before .before .before .args .ns .now))) ≡ 0 = ap length (octets-done (c .before .before .before .args .ns .now) (l .i) (c .loop-test .left)) in
+    let d : length (oidOctets (drop (l .i) (c .before .before .before .args .ns .now))) ≡ 0 =
+    ap length (octets-done (c .before .before .before .args .ns .now) (l .i) (c .loop-test .left)) in
     omega (arith, l .inv .1 .1)
 
 pub oid-size-spec : {M : Type 1} → statement M

@@ -19,8 +19,12 @@ abbrev μ-loop : tie.MeasureT-loop
 μ-loop s p end acc₀ i₀ acc i = end - i
 
 -- the octets from p on, where they do not start with 80
-whole : (c : tie.Else3 Inv-loop μ-loop) {r : Arc} → r ≡ arcFrom 0 (c .before .before .before .before .before .args .p) (take (c .before .before .before .before .before .args .end - c .before .before .before .before .before .args .p) (drop (c .before .before .before .before .before .args .p) (c .before .before .before .before .before .args .s .now)))
-    → r ≡ arcAt (c .before .before .before .before .before .args .s .now) (c .before .before .before .before .before .args .p) (c .before .before .before .before .before .args .end)
+whole : (c : tie.Else3 Inv-loop μ-loop) {r : Arc} → r
+    ≡ arcFrom 0 (c .before .before .before .before .before .args .p)
+    (take (c .before .before .before .before .before .args .end - c .before .before .before .before .before .args .p)
+    (drop (c .before .before .before .before .before .args .p) (c .before .before .before .before .before .args .s .now)))
+    → r ≡ arcAt (c .before .before .before .before .before .args .s .now) (c .before .before .before .before .before .args .p)
+    (c .before .before .before .before .before .args .end)
 whole c e = e ∙ arc-from _ _ _ (c .before .before .before .if1 .left) (c .before .before .if2 .left) (λ h. omega (arith, h, c .if3 .left))
 
 returns : tie.Need-returns Inv-loop μ-loop
@@ -61,7 +65,8 @@ returns-4 c =
     let l = c .before .before .before .before .before .loop in
     let w = c .before .before .before .before .before .before .before .before .before .if1 .left in
     let e = whole (c .before .before .before .before .before .before) (l .inv .1 .1 .1) in
-    let h : l .i < c .before .before .before .before .before .before .before .before .before .before .before .args .end = c .before .before .before .before .loop-test .taken in
+    let h : l .i < c .before .before .before .before .before .before .before .before .before .before .before .args .end =
+    c .before .before .before .before .loop-test .taken in
     let r = c .ended .ensures in (
       promised arc-row (r ∙ rw (c .before .wide .ensures .0) (from-last _ _ (l .acc) (l .i) w h (c .before .before .if4 .taken)) ∙ e),
       subst (ArcWithin _ _) (sym r) (arc-within _ _ _ _ (omega arith) (omega arith)),
@@ -83,9 +88,11 @@ loop-again : tie.Need-loop-again Inv-loop μ-loop
 loop-again c =
     let l = c .before .before .before .before .before .loop in
     let w = c .before .before .before .before .before .before .before .before .before .if1 .left in
-    let h : l .i < c .before .before .before .before .before .before .before .before .before .before .before .args .end = c .before .before .before .before .loop-test .taken in
+    let h : l .i < c .before .before .before .before .before .before .before .before .before .before .before .args .end =
+    c .before .before .before .before .loop-test .taken in
     let t : 2147483647 < 2147483648 = omega arith in
-    let k : 2147483647 < l .acc * 128 + getD (c .before .before .before .before .before .before .before .before .before .before .before .args .s .now) (l .i) 0 % 128 = rw (c .before .wide2 .ensures .0) at (c .if5 .taken) in (
+    let k : 2147483647 < l .acc * 128 + getD (c .before .before .before .before .before .before .before .before .before .before .before .args .s .now)
+    (l .i) 0 % 128 = rw (c .before .wide2 .ensures .0) at (c .if5 .taken) in (
       omega arith,
       (omega arith, (omega arith, from-big 2147483648 _ _ _ t k ∙ from-more _ _ (l .acc) (l .i) w h (c .before .before .if4 .left) ∙ l .inv .1 .1 .1)),
     )
@@ -97,15 +104,19 @@ loop-again-2 : tie.Need-loop-again-2 Inv-loop μ-loop
 loop-again-2 c =
     let l = c .before .before .before .before .before .loop in
     let w = c .before .before .before .before .before .before .before .before .before .if1 .left in
-    let h : l .i < c .before .before .before .before .before .before .before .before .before .before .before .args .end = c .before .before .before .before .loop-test .taken in (
+    let h : l .i < c .before .before .before .before .before .before .before .before .before .before .before .args .end =
+    c .before .before .before .before .loop-test .taken in (
       omega arith,
       (omega arith, (omega arith, rw (c .before .wide2 .ensures .0) (from-more _ _ (l .acc) (l .i) w h (c .before .before .if4 .left)) ∙ l .inv .1 .1 .1)),
     )
 
 returns-5 : tie.Need-returns-5 Inv-loop μ-loop
 returns-5 c =
-    let l = c .before .loop in
-    (promised arc-row (from-end _ _ (l .acc) (l .i) (c .before .before .before .before .before .if1 .left) (c .loop-test .left) ∙ whole (c .before .before) (l .inv .1 .1 .1)), tt)
+    let l = c .before .loop in (
+      promised arc-row (from-end _ _ (l .acc) (l .i) (c .before .before .before .before .before .if1 .left) (c .loop-test .left)
+          ∙ whole (c .before .before) (l .inv .1 .1 .1)),
+      tt,
+    )
 
 pub read-number-spec : {M : Type 1} → statement M
 read-number-spec =

@@ -4,7 +4,8 @@ use mathlib.Core.Path.{_≡_, sym, ap, subst, _∙_}
 use native.Mathlib.Omega.{arith}
 use borrow.Author.Needs.{needs}
 use Rattle.ber_identifiers.specs.Identifier.{ArcWithin, judged, arcsFrom}
-use Rattle.ber_identifiers.proofs.Laws.{arc-short, oid-row, tally, tally-start, tally-push, tally-pass, tally-bad, tally-done, arcs-done, arcs-number, arcs-over, arcs-bad, oid-out, oid-within}
+use Rattle.ber_identifiers.proofs.Laws.{arc-short, oid-row, tally, tally-start, tally-push, tally-pass, tally-bad, tally-done, arcs-done}
+use Rattle.ber_identifiers.proofs.Laws.{arcs-number, arcs-over, arcs-bad, oid-out, oid-within}
 use Rattle.ber_identifiers.proofs.read_oid.Statement.{statement}
 use Rattle.ber_identifiers.proofs.read_oid.Tie as tie
 
@@ -70,7 +71,8 @@ loop-again-2 c =
     let l = c .before .before .before .before .before .before .before .loop in
     let w = subst (ArcWithin _ _) (c .before .next .given .1) (c .before .before .before .read-number .ensures .1) in
     let e = sym (c .before .before .before .read-number .ensures .0 .is) ∙ c .before .next .given .1 in
-    let q = arcs-number _ _ (l .p) (l .inv .1 .1 .0) _ _ (c .before .before .before .before .before .before .loop-test .taken) (l .inv .1 .1 .1 .0) e (w .0) in (
+    let q = arcs-number _ _ (l .p) (l .inv .1 .1 .0) _ _ (c .before .before .before .before .before .before .loop-test .taken) (l .inv .1 .1 .1 .0) e
+    (w .0) in (
       omega arith,
       (omega arith, (q .0, (q .1 .0, tally-push (l .count) _ (l .over) _ ∙ ap (tally (l .count) (l .over)) (sym (q .1 .1)) ∙ l .inv .1 .1 .1 .1))),
     )

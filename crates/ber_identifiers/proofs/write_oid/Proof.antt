@@ -18,7 +18,8 @@ use Rattle.ber_identifiers.proofs.write_oid.Tie as tie
 
 abbrev Inv-loop : tie.InvT-loop
 Inv-loop ns out₀ at n end p₀ i₀ out p i =
-    (i ≤ length ns) × ((length out ≡ length out₀) × ((p + length (oidOctets (drop i ns)) ≡ end) × (put out₀ p (oidOctets (drop i ns)) ≡ outcome (Next end) out)))
+    (i ≤ length ns) × ((length out ≡ length out₀) ×
+    ((p + length (oidOctets (drop i ns)) ≡ end) × (put out₀ p (oidOctets (drop i ns)) ≡ outcome (Next end) out)))
 
 abbrev μ-loop : tie.MeasureT-loop
 μ-loop ns out₀ at n end p₀ i₀ out p i = i
@@ -29,8 +30,13 @@ fine c = sym (c .before .in-range .ensures) ∙ not-false _ (c .if1 .left)
 -- the octets of the number before those that are there fit before them
 turn : (c : tie.After-number-size Inv-loop μ-loop)
     → (c .number-size .result ≤ c .before .before .before .loop .p)
-    × ((c .before .before .before .before .before .before .before .before .before .before .before .args .at ≤ c .before .before .before .loop .p - c .number-size .result)
-    × (length (oidOctets (drop (c .before .before .before .loop .i - 1) (c .before .before .before .before .before .before .before .before .before .before .before .args .ns .now))) ≡ c .number-size .result + length (oidOctets (drop (c .before .before .before .loop .i) (c .before .before .before .before .before .before .before .before .before .before .before .args .ns .now)))))
+    × ((c .before .before .before .before .before .before .before .before .before .before .before .args .at ≤ c .before .before .before .loop .p
+    - c .number-size .result)
+    × (length (oidOctets (drop (c .before .before .before .loop .i - 1)
+    (c .before .before .before .before .before .before .before .before .before .before .before .args .ns .now)))
+    ≡ c .number-size .result + length (oidOctets
+    (drop (c .before .before .before .loop .i)
+    (c .before .before .before .before .before .before .before .before .before .before .before .args .ns .now)))))
 turn c =
     let a = c .before .before .before .before .before .before .before .before .before .before .before .args in
     let l = c .before .before .before .loop in
@@ -112,7 +118,8 @@ loop-again c =
     let m = rw i at (octets-more (a .ns .now) (l .i - 1) h) in
     let e : l .p ≡ l .p - n + length (septets v) = omega arith in
     let o = rw e at (l .inv .1 .1 .1) in
-    let w = append-done (a .out .now) (l .p - n) (septets v) (oidOctets (drop (l .i) (a .ns .now))) _ (l .out) o _ _ (c .before .before .write-septets .ensures) in (
+    let w = append-done (a .out .now) (l .p - n) (septets v) (oidOctets (drop (l .i) (a .ns .now))) _ (l .out) o _ _
+    (c .before .before .write-septets .ensures) in (
       omega arith,
       (
         c .before .before .write-septets .kept .1 .0 ∙ l .inv .1 .0,

@@ -17,7 +17,8 @@ returns : tie.Need-returns
 returns c = let a = c .before .before in rw (c .magnitude .ensures .0, toZ-ofZ (a .fits .x)) (negative (a .args .x) (a .fits .x) (c .before .if1 .taken) .1)
 
 returns-2 : tie.Need-returns-2
-returns-2 c = let a = c .before .before in rw (c .magnitude2 .ensures .0, toZ-ofZ (a .fits .x)) (natural-sign (a .args .x) (a .fits .x) (c .before .if1 .left) .1)
+returns-2 c = let a = c .before .before in rw (c .magnitude2 .ensures .0, toZ-ofZ (a .fits .x))
+    (natural-sign (a .args .x) (a .fits .x) (c .before .if1 .left) .1)
 
 pub bits-of-spec : {M : Type 1} → statement M
 bits-of-spec =

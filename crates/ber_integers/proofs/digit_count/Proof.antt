@@ -33,7 +33,8 @@ loop-again c =
     (omega arith, (q .0, (q .1 .0, omega (arith, q .1 .1, l .inv .1 .1 .1))))
 
 returns : tie.Need-returns Inv-loop μ-loop
-returns c = let l = c .before .loop in let z : l .r ≡ 0 = omega arith in omega (arith, count-none (c .before .before .args .base) (l .inv .1 .0) (l .r) z, l .inv .1 .1 .1)
+returns c = let l = c .before .loop in let z : l .r ≡ 0 = omega arith in
+    omega (arith, count-none (c .before .before .args .base) (l .inv .1 .0) (l .r) z, l .inv .1 .1 .1)
 
 pub digit-count-spec : {M : Type 1} → statement M
 digit-count-spec =

@@ -35,7 +35,8 @@ read-signed-requires-2 c κs = search needs
 
 returns-6 : tie.Need-returns-6
 returns-6 c = promised integer-row (let e = c .before .before .before .nine-bits .ensures in
-    c .read-signed2 .ensures .is ∙ integer-free _ _ _ (omega arith) (omega arith) (λ h. c .before .before .if4 .left (e ∙ h)) (λ h. c .before .if5 .left (e ∙ h)))
+    c .read-signed2 .ensures .is ∙ integer-free _ _ _ (omega arith) (omega arith) (λ h. c .before .before .if4 .left (e ∙ h))
+    (λ h. c .before .if5 .left (e ∙ h)))
 
 pub read-int-spec : {M : Type 1} → statement M
 read-int-spec =

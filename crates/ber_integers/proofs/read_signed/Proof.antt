@@ -57,7 +57,10 @@ shared-slice-read-if5 c = search needs
 
 cast-t11 : tie.Need-cast-t11
 cast-t11 c =
-    record { sfits = rw (c .before .before .natural-of .ensures .0) (low-fits _ _ _ (bytes (c .before)) (some (c .before)) (few (c .before)) (within (c .before)) (c .if5 .taken)) }
+    record {
+      sfits = rw (c .before .before .natural-of .ensures .0)
+          (low-fits _ _ _ (bytes (c .before)) (some (c .before)) (few (c .before)) (within (c .before)) (c .if5 .taken));
+    }
 
 ones-requires : tie.Need-ones-requires
 ones-requires c κs = search needs
@@ -79,7 +82,8 @@ returns-5 c = promised integer-row (let e = c .before .before .natural-of .ensur
 
 returns-6 : tie.Need-returns-6
 returns-6 c = promised integer-row (let p = c .before .before in
-    ap Int (minus-is _ (far c) ∙ rw (p .before .natural-of .ensures .0) (sym (high-is _ _ _ (bytes p) (some p) (few p) (within p) (c .before .if5 .left) (c .ones .result) (c .ones .ensures))))
+    ap Int (minus-is _ (far c) ∙ rw (p .before .natural-of .ensures .0)
+    (sym (high-is _ _ _ (bytes p) (some p) (few p) (within p) (c .before .if5 .left) (c .ones .result) (c .ones .ensures))))
     ∙ signed-is _ _ _ (within p) (some p) (few p))
 
 pub read-signed-spec : {M : Type 1} → statement M

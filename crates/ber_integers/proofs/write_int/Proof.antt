@@ -31,10 +31,13 @@ returns c =
     let a = c .before .before .before .before .before .before .before .before in
     let x = a .args .x in
     let r : toZ w64 (ofZ w64 x) ≡ x = toZ-ofZ (a .fits .x) in
-    let m : c .before .before .before .before .before .before .magnitude .result ≡ mag x = c .before .before .before .before .before .before .magnitude .ensures .0 ∙ ap mag r in
-    let n : c .before .before .before .before .before .size-of .result ≡ size x = c .before .before .before .before .before .size-of .ensures ∙ ap (λ (i : ℕ). sizeBy i i) m in
+    let m : c .before .before .before .before .before .before .magnitude .result ≡ mag x =
+    c .before .before .before .before .before .before .magnitude .ensures .0 ∙ ap mag r in
+    let n : c .before .before .before .before .before .size-of .result ≡ size x = c .before .before .before .before .before .size-of .ensures
+    ∙ ap (λ (i : ℕ). sizeBy i i) m in
     let b : c .before .before .before .before .bits-of .result ≡ ofZ w64 x = c .before .before .before .before .bits-of .ensures ∙ ap (ofZ w64) r in
-    let e : digits 256 (c .before .before .before .before .before .size-of .result) (c .before .before .before .before .bits-of .result) ≡ shortest x = rw (n, b) (bits-octets x (a .fits .x)) in
+    let e : digits 256 (c .before .before .before .before .before .size-of .result) (c .before .before .before .before .bits-of .result) ≡ shortest x =
+    rw (n, b) (bits-octets x (a .fits .x)) in
     ap (put (a .args .out .now) (a .args .at)) (sym e) ∙ c .before .before .write-octets .ensures
 
 pub write-int-spec : {M : Type 1} → statement M

@@ -12,7 +12,8 @@ use Rattle.ber_integers.proofs.write_octets.Tie as tie
 
 abbrev Inv-loop : tie.InvT-loop
 Inv-loop v n out₀ at r₀ i₀ out r i =
-    (i ≤ n) × ((length out ≡ length out₀) × ((tail : List ℕ) × ((digits 256 i r ++ tail ≡ digits 256 n v) × (out ≡ take (at + i) out₀ ++ (tail ++ drop (at + n) out₀)))))
+    (i ≤ n) × ((length out ≡ length out₀) × ((tail : List ℕ)
+    × ((digits 256 i r ++ tail ≡ digits 256 n v) × (out ≡ take (at + i) out₀ ++ (tail ++ drop (at + n) out₀)))))
 
 abbrev μ-loop : tie.MeasureT-loop
 μ-loop v n out₀ at r₀ i₀ out r i = i
@@ -58,7 +59,8 @@ loop-again c =
           l .r % 256 ∷ l .inv .1 .1 .0,
           (
             sym (digits-step 256 (l .i) (l .r) (l .inv .1 .1 .0) h) ∙ l .inv .1 .1 .1 .0,
-            rw (c .low .ensures, l .inv .1 .1 .1 .1) (fill-step (a .out .now) (a .at) (l .i) (l .r % 256) (l .inv .1 .1 .0) (drop (a .at + a .n) (a .out .now)) h k),
+            rw (c .low .ensures, l .inv .1 .1 .1 .1)
+                (fill-step (a .out .now) (a .at) (l .i) (l .r % 256) (l .inv .1 .1 .0) (drop (a .at + a .n) (a .out .now)) h k),
           ),
         ),
       ),

@@ -101,7 +101,8 @@ returns-6 c =
     let a = entry (c .before .before .before .before .before .before .before .before .before) .args in
     let f = first (c .before .before .before .before .before .before .before .before .before) in
     let u = c .before .before .read-unsigned in
-    absurd (read-never (a .s .now) (a .at + 1 + (f % 4 + 1)) (a .n - 1 - (f % 4 + 1)) (omega arith) (omega arith) (u .result) (u .ensures .is) (c .enum-told .given .1))
+    absurd (read-never (a .s .now) (a .at + 1 + (f % 4 + 1)) (a .n - 1 - (f % 4 + 1)) (omega arith) (omega arith) (u .result) (u .ensures .is)
+    (c .enum-told .given .1))
 
 exact-requires : tie.Need-exact-requires
 exact-requires c κs = search needs
@@ -115,7 +116,8 @@ returns-7 c =
     let u = c .before .before .before .before .read-unsigned in
     let p = c .before .before .before .before .before .power in
     let m : c .before .before .m .given .0 .0 ≡ natural (take (a .n - 1 - e) (drop (a .at + 1 + e) (a .s .now))) =
-    read-value (a .s .now) (a .at + 1 + e) (a .n - 1 - e) (omega arith) (omega arith) (u .result) (u .ensures .is) (c .before .before .m .given .0 .0) (c .before .before .m .given .1) in
+    read-value (a .s .now) (a .at + 1 + e) (a .n - 1 - e) (omega arith) (omega arith) (u .result) (u .ensures .is) (c .before .before .m .given .0 .0)
+    (c .before .before .m .given .1) in
     answer k _
     (c .exact .ensures
     ∙ ap (number (leb 64 (f % 128)) (c .before .before .m .given .0 .0)) (p .ensures .0)

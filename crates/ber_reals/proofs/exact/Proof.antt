@@ -99,7 +99,8 @@ module _ (c : tie.After-pattern) where
   abbrev start : tie.Start
   start = entry before-pattern
 
-  made : T (not (Ieee.nanBits binary64 (c .pattern .result))) × (Real (Ieee.ofBits binary64 (c .pattern .result)) ≡ number (start .args .negative) (start .args .m) (minus (start .args .power) 16777216))
+  made : T (not (Ieee.nanBits binary64 (c .pattern .result)))
+      × (Real (Ieee.ofBits binary64 (c .pattern .result)) ≡ number (start .args .negative) (start .args .m) (minus (start .args .power) 16777216))
   made =
       let k = before-pattern in
       let a = start .args in

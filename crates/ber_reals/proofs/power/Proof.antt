@@ -29,7 +29,8 @@ module _ (c : tie.After-v) where
 
   value : v ≡ natural (take (entry .args .e) (drop (entry .args .at) (entry .args .s .now)))
   value =
-      read-value (entry .args .s .now) (entry .args .at) (entry .args .e) (omega arith) within (c .before .before .read-unsigned .result) (c .before .before .read-unsigned .ensures .is) v
+      read-value (entry .args .s .now) (entry .args .at) (entry .args .e) (omega arith) within (c .before .before .read-unsigned .result)
+      (c .before .before .read-unsigned .ensures .is) v
       (c .v .given .1)
 
   small : v < 256 ^ entry .args .e
@@ -51,7 +52,8 @@ enum-told c = search needs
 returns : tie.Need-returns
 returns c =
     let a = c .before .before .before .before .args in
-    absurd (read-never (a .s .now) (a .at) (a .e) (omega arith) (omega arith) (c .before .before .read-unsigned .result) (c .before .before .read-unsigned .ensures .is) (c .enum-told .given .1))
+    absurd (read-never (a .s .now) (a .at) (a .e) (omega arith) (omega arith) (c .before .before .read-unsigned .result)
+    (c .before .before .read-unsigned .ensures .is) (c .enum-told .given .1))
 
 add-raised : tie.Need-add-raised
 add-raised c = search needs
@@ -81,8 +83,10 @@ returns-3 : tie.Need-returns-3
 returns-3 c =
     let k = c .before .before .before .before in
     let a = entry k .args in (
-      subst (λ (w : ℕ). minus (16777216 + a .scale + v k - w) 16777216 ≡ signed (take (a .e) (drop (a .at) (a .s .now))) +ℤ pos (a .scale)) (sym (c .power-of-256 .ensures))
-          (subst (λ (x : ℕ). minus (16777216 + a .scale + x - 256 ^ a .e) 16777216 ≡ signed (take (a .e) (drop (a .at) (a .s .now))) +ℤ pos (a .scale)) (sym (value k))
+      subst (λ (w : ℕ). minus (16777216 + a .scale + v k - w) 16777216 ≡ signed (take (a .e) (drop (a .at) (a .s .now))) +ℤ pos (a .scale))
+          (sym (c .power-of-256 .ensures))
+          (subst (λ (x : ℕ). minus (16777216 + a .scale + x - 256 ^ a .e) 16777216 ≡ signed (take (a .e) (drop (a .at) (a .s .now))) +ℤ pos (a .scale))
+          (sym (value k))
           (exponent-high (a .s .now) (a .at) (a .e) (bytes k) (within k) (a .scale) (omega arith) (omega arith) (c .before .if1 .left))),
       omega (arith, small k, worth k),
     )

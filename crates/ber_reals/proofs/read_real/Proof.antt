@@ -41,7 +41,8 @@ unfolding Ieee.nanBits
 float-from-bits-t10 c = tt
 
 returns-4 : tie.Need-returns-4
-returns-4 c = promised real-row (let a = c .before .before .before .before .before .before .before .args in ap Real plus ∙ real-plus (a .s .now) (a .at) (a .n) (omega arith) (c .before .before .if4 .taken) (c .if5 .taken))
+returns-4 c = promised real-row (let a = c .before .before .before .before .before .before .before .args in
+    ap Real plus ∙ real-plus (a .s .now) (a .at) (a .n) (omega arith) (c .before .before .if4 .taken) (c .if5 .taken))
 
 shared-slice-read-if6 : tie.Need-shared-slice-read-if6
 shared-slice-read-if6 c = search needs
@@ -51,16 +52,19 @@ unfolding Ieee.nanBits
 float-from-bits-t12 c = tt
 
 returns-5 : tie.Need-returns-5
-returns-5 c = promised real-row (let a = c .before .before .before .before .before .before .before .before .before .args in ap Real minus ∙ real-minus (a .s .now) (a .at) (a .n) (omega arith) (c .before .before .before .before .if4 .taken) (c .if6 .taken))
+returns-5 c = promised real-row (let a = c .before .before .before .before .before .before .before .before .before .args in
+    ap Real minus ∙ real-minus (a .s .now) (a .at) (a .n) (omega arith) (c .before .before .before .before .if4 .taken) (c .if6 .taken))
 
 returns-6 : tie.Need-returns-6
-returns-6 c = promised real-row (let a = c .before .before .before .before .before .before .before .before .before .args in real-alone (a .s .now) (a .at) (a .n) (omega arith) (c .before .before .before .before .if4 .taken) (c .before .before .if5 .left) (c .if6 .left))
+returns-6 c = promised real-row (let a = c .before .before .before .before .before .before .before .before .before .args in
+    real-alone (a .s .now) (a .at) (a .n) (omega arith) (c .before .before .before .before .if4 .taken) (c .before .before .if5 .left) (c .if6 .left))
 
 binary-requires : tie.Need-binary-requires
 binary-requires c κs = search needs
 
 returns-7 : tie.Need-returns-7
-returns-7 c = promised real-row (let a = c .before .before .before .before .before .before .args in c .binary .ensures ∙ real-binary (a .s .now) (a .at) (a .n) (omega arith) (omega (arith, c .before .before .if3 .left, c .before .if4 .left)))
+returns-7 c = promised real-row (let a = c .before .before .before .before .before .before .args in
+    c .binary .ensures ∙ real-binary (a .s .now) (a .at) (a .n) (omega arith) (omega (arith, c .before .before .if3 .left, c .before .if4 .left)))
 
 pub read-real-spec : {M : Type 1} → statement M
 read-real-spec =

@@ -38,7 +38,8 @@ returns c =
     let o = odd-is (a .q) (omega arith) (omega arith) in
     ap (writeAt (a .out .now) (a .at)) (odd-of (a .negative) (a .q) (a .units) (omega arith) (omega arith))
     ∙ write-number (a .out .now) (a .at) (a .negative) (oddPart (a .q)) (minus (a .units + halvings (a .q)) 1074) (omega arith)
-    ∙ sym (ap (λ (z : ℕ). put (a .out .now) (a .at) (numberOctets (a .negative) (a .q / 2 ^ z) (minus (a .units + z) 1074))) (c .before .before .before .before .halvings .ensures))
+    ∙ sym (ap (λ (z : ℕ). put (a .out .now) (a .at) (numberOctets (a .negative) (a .q / 2 ^ z) (minus (a .units + z) 1074)))
+    (c .before .before .before .before .halvings .ensures))
     ∙ c .before .before .write-number .ensures
 
 pub write-finite-spec : {M : Type 1} → statement M

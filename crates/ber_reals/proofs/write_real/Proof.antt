@@ -19,7 +19,8 @@ no-nan (inf s) e = tt
 no-nan (fin s m p) e = tt
 
 returns : tie.Need-returns
-returns c = let a = c .before .before .args in ap (writeAt (a .out .now) (a .at)) (differs-from-itself (a .x) (subst T (sym (c .if1 .taken)) tt)) ∙ write-nan (a .out .now) (a .at)
+returns c = let a = c .before .before .args in ap (writeAt (a .out .now) (a .at)) (differs-from-itself (a .x) (subst T (sym (c .if1 .taken)) tt))
+    ∙ write-nan (a .out .now) (a .at)
 
 float-to-bits-write-bits : tie.Need-float-to-bits-write-bits
 float-to-bits-write-bits c = no-nan (c .before .before .args .x) (c .if1 .left)
@@ -33,7 +34,8 @@ same-length c = search needs
 returns-2 : tie.Need-returns-2
 returns-2 c =
     let a = c .before .before .before .before .before .before .args in
-    ap (writeAt (a .out .now) (a .at)) (sym (ofBits-toBits binary64 (a .x) (subst T (sym (c .before .before .before .before .before .before .good .0 .1)) tt))) ∙ c .before .before .write-bits .ensures
+    ap (writeAt (a .out .now) (a .at)) (sym (ofBits-toBits binary64 (a .x)
+    (subst T (sym (c .before .before .before .before .before .before .good .0 .1)) tt))) ∙ c .before .before .write-bits .ensures
 
 pub write-real-spec : {M : Type 1} → statement M
 write-real-spec =

@@ -21,12 +21,14 @@ apart : {x : ℕ} → NoNat ≡ Nat x → ⊥
 apart e = let z : _≡_ {A = ℕ} 0 1 = cc in omega arith
 
 -- the first length octet is there
-inside : (c : tie.After-shared-slice-known2) → c .before .before .before .before .before .args .p < stop (c .before .before .before .before .before .args .s .now) (c .before .before .before .before .before .args .bound)
+inside : (c : tie.After-shared-slice-known2) → c .before .before .before .before .before .args .p < stop
+    (c .before .before .before .before .before .args .s .now) (c .before .before .before .before .before .args .bound)
 inside c = rw (c .before .before .before .stop-of .ensures .0) at (c .before .if1 .left)
 
 -- a long length: its first octet, and the octets that follow
 abbrev octet : tie.Else5 → ℕ
-octet c = getD (c .before .before .before .before .before .before .before .before .args .s .now) (c .before .before .before .before .before .before .before .before .args .p) 0
+octet c = getD (c .before .before .before .before .before .before .before .before .args .s .now)
+    (c .before .before .before .before .before .before .before .before .args .p) 0
 
 above : (c : tie.Else5) → 128 < octet c
 above c = omega (arith, c .before .if3 .left)
@@ -37,12 +39,17 @@ below c = omega arith
 counted : (c : tie.After-index2) → c .index2 .result ≡ octet (c .before .before) - 128
 counted c = c .index2 .ensures ∙ c .before .wide2 .ensures .0
 
-read : (c : tie.Else6) {r : Natural} → r ≡ unsignedAt (c .before .before .before .before .before .before .before .before .before .before .before .args .s .now) (c .before .before .before .before .before .before .before .before .before .before .before .args .p + 1) (c .before .index2 .result)
-    → r ≡ Nat (natural (take (octet (c .before .before .before) - 128) (drop (c .before .before .before .before .before .before .before .before .before .before .before .args .p + 1) (c .before .before .before .before .before .before .before .before .before .before .before .args .s .now))))
+read : (c : tie.Else6) {r : Natural} → r ≡ unsignedAt
+    (c .before .before .before .before .before .before .before .before .before .before .before .args .s .now)
+    (c .before .before .before .before .before .before .before .before .before .before .before .args .p + 1) (c .before .index2 .result)
+    → r ≡ Nat (natural (take (octet (c .before .before .before) - 128)
+    (drop (c .before .before .before .before .before .before .before .before .before .before .before .args .p + 1)
+    (c .before .before .before .before .before .before .before .before .before .before .before .args .s .now))))
 read c e =
     let n = counted (c .before) in
     let p = c .before .before .before in
-    e ∙ rw n (sym (unsigned-is (c .before .before .before .before .before .before .before .before .before .before .before .args .s .now) (c .before .before .before .before .before .before .before .before .before .before .before .args .p + 1) (octet p - 128) (omega arith) (omega arith)))
+    e ∙ rw n (sym (unsigned-is (c .before .before .before .before .before .before .before .before .before .before .before .args .s .now)
+    (c .before .before .before .before .before .before .before .before .before .before .before .args .p + 1) (octet p - 128) (omega arith) (omega arith)))
 
 stop-of-requires : tie.Need-stop-of-requires
 stop-of-requires c κs = search needs
@@ -69,7 +76,8 @@ fitted-requires : tie.Need-fitted-requires
 fitted-requires c κs = search needs
 
 returns-2 : tie.Need-returns-2
-returns-2 c = rw (c .before .index .ensures, c .before .before .wide .ensures .0) at (c .fitted .ensures) ∙ length-short _ _ _ _ _ (inside (c .before .before .before .before)) (c .before .before .before .if2 .taken)
+returns-2 c = rw (c .before .index .ensures, c .before .before .wide .ensures .0) at (c .fitted .ensures)
+    ∙ length-short _ _ _ _ _ (inside (c .before .before .before .before)) (c .before .before .before .if2 .taken)
 
 add-t20 : tie.Need-add-t20
 add-t20 c = search needs
@@ -100,7 +108,8 @@ returns-6 c =
     let p = c .before .before .before in
     let n = counted (c .before) in
     let e = c .before .before .before .before .before .before .before .before .before .stop-of .ensures .0 in
-    ap Refused (c .before .before .before .before .before .before .before .before .cut-of .ensures) ∙ length-cut-long _ _ _ _ _ (inside (p .before .before .before)) (above p) (below p) (omega arith)
+    ap Refused (c .before .before .before .before .before .before .before .before .cut-of .ensures)
+    ∙ length-cut-long _ _ _ _ _ (inside (p .before .before .before)) (above p) (below p) (omega arith)
 
 read-unsigned-requires : tie.Need-read-unsigned-requires
 read-unsigned-requires c κs = search needs
@@ -126,7 +135,8 @@ returns-7 c =
     let n = counted (c .before .before .before .before .before .before .before) in
     let e = c .before .before .before .before .before .before .before .before .before .before .before .before .before .before .before .stop-of .ensures .0 in
     let u = read (c .before .before .before .before .before .before) (c .before .before .before .before .before .read-unsigned .ensures .is) in
-    let v : c .before .before .before .v .given .0 .0 ≡ natural (take (octet p - 128) (drop (c .before .before .before .before .before .before .before .before .before .before .before .before .before .before .before .before .before .args .p + 1) (c .before .before .before .before .before .before .before .before .before .before .before .before .before .before .before .before .before .args .s .now))) = same (sym (c .before .before .before .v .given .1) ∙ u) in
+    let v : c .before .before .before .v .given .0 .0
+    ≡ natural (take (octet p - 128) (drop (c .before .before .before .before .before .before .before .before .before .before .before .before .before .before .before .before .before .args .p + 1) (c .before .before .before .before .before .before .before .before .before .before .before .before .before .before .before .before .before .args .s .now))) = same (sym (c .before .before .before .v .given .1) ∙ u) in
     rw (c .before .index3 .ensures, n) at (c .fitted2 .ensures)
     ∙ ap (λ (x : ℕ). sized (c .before .before .before .before .before .before .before .before .before .before .before .before .before .before .before .before .before .args .at) (c .before .before .before .before .before .before .before .before .before .before .before .before .before .before .before .before .before .args .bound) x (c .before .before .before .before .before .before .before .before .before .before .before .before .before .before .before .before .before .args .p + 1 + (octet p - 128))) v
     ∙ length-long _ _ _ _ _ (inside (p .before .before .before)) (above p) (below p) (omega arith)

@@ -26,7 +26,11 @@ add-result : tie.Need-add-result
 add-result c = let k = eight c in omega arith
 
 returns-2 : tie.Need-returns-2
-returns-2 c = let k = eight c in (let e = c .octet-count .ensures in let z = length-length-long (c .before .before .args .n) (c .before .if1 .left) in omega arith, omega arith)
+returns-2 c = let k = eight c in (
+  let e = c .octet-count .ensures in let z = length-length-long (c .before .before .args .n) (c .before .if1 .left) in
+      omega arith,
+  omega arith,
+)
 
 pub length-size-spec : {M : Type 1} → statement M
 length-size-spec = tie.close (tie.spec returns octet-count-requires add-result returns-2)

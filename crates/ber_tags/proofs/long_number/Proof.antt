@@ -36,7 +36,8 @@ returns : tie.Need-returns Inv-loop μ-loop
 returns c =
     let l = c .before .before .loop in
     let e = c .before .before .before .before .stop-of .ensures .0 in (
-      ap Refused (c .before .before .before .cut-of .ensures) ∙ long-cut _ _ _ _ _ (l .k) (c .before .loop-test .taken) (rw e at (c .if1 .taken)) ∙ l .inv .1 .1,
+      ap Refused (c .before .before .before .cut-of .ensures) ∙ long-cut _ _ _ _ _ (l .k) (c .before .loop-test .taken) (rw e at (c .if1 .taken))
+          ∙ l .inv .1 .1,
       tt,
     )
 
@@ -44,13 +45,15 @@ shared-slice-read-b : tie.Need-shared-slice-read-b Inv-loop μ-loop
 shared-slice-read-b c = omega arith
 
 mul-t13 : tie.Need-mul-t13 Inv-loop μ-loop
-mul-t13 c = let h = room (c .before .before .before .before .loop .inv .0) (c .before .before .before .loop-test .taken) (c .before .before .before .before .loop .inv .1 .0) in omega arith
+mul-t13 c = let h = room (c .before .before .before .before .loop .inv .0) (c .before .before .before .loop-test .taken)
+    (c .before .before .before .before .loop .inv .1 .0) in omega arith
 
 wide-requires : tie.Need-wide-requires Inv-loop μ-loop
 wide-requires c κs = search needs
 
 add-t15 : tie.Need-add-t15 Inv-loop μ-loop
-add-t15 c = let h = room (c .before .before .before .before .before .loop .inv .0) (c .before .before .before .before .loop-test .taken) (c .before .before .before .before .before .loop .inv .1 .0) in omega arith
+add-t15 c = let h = room (c .before .before .before .before .before .loop .inv .0) (c .before .before .before .before .loop-test .taken)
+    (c .before .before .before .before .before .loop .inv .1 .0) in omega arith
 
 add-t16 : tie.Need-add-t16 Inv-loop μ-loop
 add-t16 c = omega arith
@@ -65,13 +68,15 @@ returns-2 c =
     )
 
 mul-acc : tie.Need-mul-acc Inv-loop μ-loop
-mul-acc c = let h = room (c .before .before .before .before .loop .inv .0) (c .before .before .before .loop-test .taken) (c .before .before .before .before .loop .inv .1 .0) in omega arith
+mul-acc c = let h = room (c .before .before .before .before .loop .inv .0) (c .before .before .before .loop-test .taken)
+    (c .before .before .before .before .loop .inv .1 .0) in omega arith
 
 wide-requires-2 : tie.Need-wide-requires-2 Inv-loop μ-loop
 wide-requires-2 c κs = search needs
 
 add-acc : tie.Need-add-acc Inv-loop μ-loop
-add-acc c = let h = room (c .before .before .before .before .before .loop .inv .0) (c .before .before .before .before .loop-test .taken) (c .before .before .before .before .before .loop .inv .1 .0) in omega arith
+add-acc c = let h = room (c .before .before .before .before .before .loop .inv .0) (c .before .before .before .before .loop-test .taken)
+    (c .before .before .before .before .before .loop .inv .1 .0) in omega arith
 
 add-p-2 : tie.Need-add-p-2 Inv-loop μ-loop
 add-p-2 c = omega arith

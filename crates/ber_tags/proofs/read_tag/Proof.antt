@@ -16,7 +16,8 @@ enum-known-number : tie.Need-enum-known-number
 enum-known-number c = search needs
 
 shared-slice-read-b : tie.Need-shared-slice-read-b
-shared-slice-read-b c = let w = subst (NumberWithin _ _) (c .before .before .number .given .1) (c .before .before .before .before .tag-number .ensures .1) in w .0
+shared-slice-read-b c = let w = subst (NumberWithin _ _) (c .before .before .number .given .1)
+    (c .before .before .before .before .tag-number .ensures .1) in w .0
 
 length-at-requires : tie.Need-length-at-requires
 length-at-requires c κs = search needs
@@ -28,7 +29,8 @@ returns : tie.Need-returns
 returns c = promised head-row (head-by _ _ _ (sym (c .before .before .before .tag-number .ensures .0) ∙ c .before .place .given .1))
 
 returns-2 : tie.Need-returns-2
-returns-2 c = promised head-row (rw (c .before .length-at .ensures) at (c .headed .ensures) ∙ head-by _ _ _ (sym (c .before .before .before .before .before .before .tag-number .ensures .0) ∙ c .before .before .before .before .number .given .1))
+returns-2 c = promised head-row (rw (c .before .length-at .ensures) at (c .headed .ensures)
+    ∙ head-by _ _ _ (sym (c .before .before .before .before .before .before .tag-number .ensures .0) ∙ c .before .before .before .before .number .given .1))
 
 pub read-tag-spec : {M : Type 1} → statement M
 read-tag-spec =

@@ -9,7 +9,8 @@ use Rattle.ber_tags.proofs.tag_number.Statement.{statement}
 use Rattle.ber_tags.proofs.tag_number.Tie as tie
 
 -- the first octet is there
-inside : (c : tie.After-shared-slice-known2) → c .before .before .before .before .before .args .at < stop (c .before .before .before .before .before .args .s .now) (c .before .before .before .before .before .args .bound)
+inside : (c : tie.After-shared-slice-known2) → c .before .before .before .before .before .args .at < stop
+    (c .before .before .before .before .before .args .s .now) (c .before .before .before .before .before .args .bound)
 inside c = rw (c .before .before .before .stop-of .ensures .0) at (c .before .if1 .left)
 
 stop-of-requires : tie.Need-stop-of-requires
@@ -37,20 +38,31 @@ add-p : tie.Need-add-p
 add-p c = search needs
 
 returns-3 : tie.Need-returns-3
-returns-3 c = (ap Refused (c .before .before .before .before .cut-of .ensures) ∙ number-cut-long _ _ _ (inside (c .before .before)) (c .before .if2 .left) (rw (c .before .before .before .before .before .stop-of .ensures .0) at (c .if3 .taken)), tt)
+returns-3 c = (
+  ap Refused (c .before .before .before .before .cut-of .ensures)
+      ∙ number-cut-long _ _ _ (inside (c .before .before)) (c .before .if2 .left)
+      (rw (c .before .before .before .before .before .stop-of .ensures .0) at (c .if3 .taken)),
+  tt,
+)
 
 shared-slice-read-if4 : tie.Need-shared-slice-read-if4
 shared-slice-read-if4 c = search needs
 
 returns-4 : tie.Need-returns-4
-returns-4 c = (number-80 _ _ _ (inside (c .before .before .before .before)) (c .before .before .before .if2 .left) (rw (c .before .before .before .before .before .before .before .stop-of .ensures .0) at (c .before .before .if3 .left)) (omega arith), tt)
+returns-4 c = (
+  number-80 _ _ _ (inside (c .before .before .before .before)) (c .before .before .before .if2 .left)
+      (rw (c .before .before .before .before .before .before .before .stop-of .ensures .0) at (c .before .before .if3 .left)) (omega arith),
+  tt,
+)
 
 long-number-requires : tie.Need-long-number-requires
 long-number-requires c κs = search needs
 
 returns-5 : tie.Need-returns-5
 returns-5 c = (
-  c .long-number .ensures .0 ∙ number-long _ _ _ (inside (c .before .before .before .before .before)) (c .before .before .before .before .if2 .left) (rw (c .before .before .before .before .before .before .before .before .stop-of .ensures .0) at (c .before .before .before .if3 .left)) (λ h. omega (arith, h, c .before .if4 .left)),
+  c .long-number .ensures .0 ∙ number-long _ _ _ (inside (c .before .before .before .before .before)) (c .before .before .before .before .if2 .left)
+      (rw (c .before .before .before .before .before .before .before .before .stop-of .ensures .0) at (c .before .before .before .if3 .left))
+      (λ h. omega (arith, h, c .before .if4 .left)),
   c .long-number .ensures .1,
 )
 

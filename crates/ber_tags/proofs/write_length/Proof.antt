@@ -30,7 +30,8 @@ same-length : tie.Need-same-length
 same-length c = search needs
 
 returns-2 : tie.Need-returns-2
-returns-2 c = put-length-short _ _ _ (c .before .before .before .before .before .if2 .taken) ∙ rw (c .before .before .before .before .small .ensures) at (c .before .before .write-octet .ensures)
+returns-2 c = put-length-short _ _ _ (c .before .before .before .before .before .if2 .taken)
+    ∙ rw (c .before .before .before .before .small .ensures) at (c .before .before .write-octet .ensures)
 
 returns-3 : tie.Need-returns-3
 returns-3 c = put-length-long _ _ _ (c .before .before .if1 .left) (c .before .if2 .left) ∙ put-out _ _ _ (omega arith)
@@ -68,9 +69,15 @@ same-length-2 c = search needs
 returns-4 : tie.Need-returns-4
 returns-4 c =
     let a = c .before .before .before .before .before .before .before .before .before .before .before .before .before .before .args in
-    let b : c .small2 .result ≡ 128 + count 256 (a .n) = c .small2 .ensures ∙ ap (λ (i : ℕ). 128 + i) (c .before .word .ensures ∙ c .before .before .before .before .before .before .before .before .before .octet-count .ensures) in
-    put-length-long _ _ _ (c .before .before .before .before .before .before .before .before .before .before .before .before .if1 .left) (c .before .before .before .before .before .before .before .before .before .before .before .if2 .left)
-    ∙ rw b (cons-done (a .out .now) (a .at) (128 + count 256 (a .n)) (digits 256 (count 256 (a .n)) (a .n)) _ _ _ (rw (c .before .before .before .before .before .before .before .before .before .octet-count .ensures) at (c .before .before .before .before .before .before .before .write-octets .ensures)) (c .before .before .before .e .given .1) (c .before .before .before .before .before .before .before .before .before .before .if3 .left))
+    let b : c .small2 .result ≡ 128 + count 256 (a .n) = c .small2 .ensures
+    ∙ ap (λ (i : ℕ). 128 + i) (c .before .word .ensures
+    ∙ c .before .before .before .before .before .before .before .before .before .octet-count .ensures) in
+    put-length-long _ _ _ (c .before .before .before .before .before .before .before .before .before .before .before .before .if1 .left)
+    (c .before .before .before .before .before .before .before .before .before .before .before .if2 .left)
+    ∙ rw b (cons-done (a .out .now) (a .at) (128 + count 256 (a .n)) (digits 256 (count 256 (a .n)) (a .n)) _ _ _
+    (rw (c .before .before .before .before .before .before .before .before .before .octet-count .ensures) at
+    (c .before .before .before .before .before .before .before .write-octets .ensures)) (c .before .before .before .e .given .1)
+    (c .before .before .before .before .before .before .before .before .before .before .if3 .left))
 
 same-length-3 : tie.Need-same-length-3
 same-length-3 c = search needs
@@ -78,8 +85,11 @@ same-length-3 c = search needs
 returns-5 : tie.Need-returns-5
 returns-5 c =
     let a = c .before .before .before .before .before .before .before .before .before .before .before .args in
-    put-length-long _ _ _ (c .before .before .before .before .before .before .before .before .before .if1 .left) (c .before .before .before .before .before .before .before .before .if2 .left)
-    ∙ cons-none (a .out .now) (a .at) (128 + count 256 (a .n)) (digits 256 (count 256 (a .n)) (a .n)) _ _ (rw (c .before .before .before .before .before .before .octet-count .ensures) at (c .before .before .before .before .write-octets .ensures)) (c .enum-told .given .1)
+    put-length-long _ _ _ (c .before .before .before .before .before .before .before .before .before .if1 .left)
+    (c .before .before .before .before .before .before .before .before .if2 .left)
+    ∙ cons-none (a .out .now) (a .at) (128 + count 256 (a .n)) (digits 256 (count 256 (a .n)) (a .n)) _ _
+    (rw (c .before .before .before .before .before .before .octet-count .ensures) at (c .before .before .before .before .write-octets .ensures))
+    (c .enum-told .given .1)
 
 pub write-length-spec : {M : Type 1} → statement M
 write-length-spec =

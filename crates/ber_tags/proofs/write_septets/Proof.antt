@@ -14,7 +14,8 @@ use Rattle.ber_tags.proofs.write_septets.Tie as tie
 
 abbrev Inv-loop : tie.InvT-loop
 Inv-loop v out₀ at n r₀ i₀ out r i =
-    (i ≤ n) × ((length out ≡ length out₀) × ((tail : List ℕ) × ((marked (digits 128 i r) ++ tail ≡ septets v) × (out ≡ take (at + i) out₀ ++ (tail ++ drop (at + n + 1) out₀)))))
+    (i ≤ n) × ((length out ≡ length out₀) × ((tail : List ℕ)
+    × ((marked (digits 128 i r) ++ tail ≡ septets v) × (out ≡ take (at + i) out₀ ++ (tail ++ drop (at + n + 1) out₀)))))
 
 abbrev μ-loop : tie.MeasureT-loop
 μ-loop v out₀ at n r₀ i₀ out r i = i
@@ -74,7 +75,9 @@ add-out-3 : tie.Need-add-out-3 Inv-loop μ-loop
 add-out-3 c = omega arith
 
 slice-write-out-2 : tie.Need-slice-write-out-2 Inv-loop μ-loop
-slice-write-out-2 c = let a = c .before .before .before .before .before .before .before .before .args in let n = c .before .before .before .before .before .before .septet-count .result in let s = length-set (a .out .now) (a .at + n) (c .before .before .before .low .result) in omega arith
+slice-write-out-2 c = let a = c .before .before .before .before .before .before .before .before .args in
+    let n = c .before .before .before .before .before .before .septet-count .result in
+    let s = length-set (a .out .now) (a .at + n) (c .before .before .before .low .result) in omega arith
 
 loop-less : tie.Need-loop-less Inv-loop μ-loop
 loop-less c = omega arith
@@ -108,7 +111,9 @@ add-t11 : tie.Need-add-t11 Inv-loop μ-loop
 add-t11 c = omega arith
 
 same-length : tie.Need-same-length Inv-loop μ-loop
-same-length c = let a = c .before .before .before .before .before .before .before .args in c .before .loop .inv .1 .0 ∙ length-set (a .out .now) (a .at + c .before .before .before .before .before .septet-count .result) (c .before .before .low .result)
+same-length c = let a = c .before .before .before .before .before .before .before .args in
+    c .before .loop .inv .1 .0 ∙ length-set (a .out .now) (a .at + c .before .before .before .before .before .septet-count .result)
+    (c .before .before .low .result)
 
 returns-3 : tie.Need-returns-3 Inv-loop μ-loop
 returns-3 c =
@@ -117,7 +122,8 @@ returns-3 c =
     let n = c .before .before .before .before .before .septet-count .result in
     let x = c .before .before .low .result in
     let z : l .i ≡ 0 = omega arith in
-    let m : length (septets (a .v)) ≡ n + 1 = length-septets (a .v) ∙ ap (λ (i : ℕ). i + 1) (sym (c .before .before .before .before .before .septet-count .ensures)) in
+    let m : length (septets (a .v)) ≡ n + 1 = length-septets (a .v)
+    ∙ ap (λ (i : ℕ). i + 1) (sym (c .before .before .before .before .before .septet-count .ensures)) in
     let t : l .inv .1 .1 .0 ≡ septets (a .v) = septets-done (l .i) (l .r) (l .inv .1 .1 .0) z ∙ l .inv .1 .1 .1 .0 in
     let d : a .at + 0 ≡ a .at = omega arith in
     let e : a .at + (n + 1) ≡ a .at + n + 1 = omega arith in

@@ -31,10 +31,14 @@ same-length : tie.Need-same-length
 same-length c = search needs
 
 returns-3 : tie.Need-returns-3
-returns-3 c = tag-short _ _ _ _ _ (c .before .before .before .before .before .before .before .before .if1 .left) (c .before .before .before .before .before .if3 .taken) ∙ rw (c .before .before .before .before .before .before .lead .ensures .0, c .before .before .before .before .small .ensures) at (c .before .before .write-octet .ensures)
+returns-3 c = tag-short _ _ _ _ _ (c .before .before .before .before .before .before .before .before .if1 .left)
+    (c .before .before .before .before .before .if3 .taken)
+    ∙ rw (c .before .before .before .before .before .before .lead .ensures .0, c .before .before .before .before .small .ensures) at
+    (c .before .before .write-octet .ensures)
 
 returns-4 : tie.Need-returns-4
-returns-4 c = tag-long _ _ _ _ _ (c .before .before .before .before .if1 .left) (c .before .before .before .if2 .left) (c .before .if3 .left) ∙ put-out _ _ _ (omega arith)
+returns-4 c = tag-long _ _ _ _ _ (c .before .before .before .before .if1 .left) (c .before .before .before .if2 .left) (c .before .if3 .left)
+    ∙ put-out _ _ _ (omega arith)
 
 add-write-septets : tie.Need-add-write-septets
 add-write-septets c = search needs
@@ -60,8 +64,13 @@ same-length-2 c = search needs
 returns-5 : tie.Need-returns-5
 returns-5 c =
     let a = c .before .before .before .before .before .before .before .before .before .before .before .before .before .args in
-    tag-long _ _ _ _ _ (c .before .before .before .before .before .before .before .before .before .before .before .if1 .left) (c .before .before .before .before .before .before .before .before .before .before .if2 .left) (c .before .before .before .before .before .before .before .before .if3 .left)
-    ∙ rw (c .before .before .before .before .before .before .before .before .before .lead .ensures .0) (cons-done (a .out .now) (a .at) (a .class * 64 + bit (a .constructed) + 31) (septets (a .number)) _ _ _ (c .before .before .before .before .before .write-septets .ensures) (c .before .e .given .1) (c .before .before .before .before .before .before .before .if4 .left))
+    tag-long _ _ _ _ _ (c .before .before .before .before .before .before .before .before .before .before .before .if1 .left)
+    (c .before .before .before .before .before .before .before .before .before .before .if2 .left)
+    (c .before .before .before .before .before .before .before .before .if3 .left)
+    ∙ rw (c .before .before .before .before .before .before .before .before .before .lead .ensures .0)
+    (cons-done (a .out .now) (a .at) (a .class * 64 + bit (a .constructed) + 31) (septets (a .number)) _ _ _
+    (c .before .before .before .before .before .write-septets .ensures) (c .before .e .given .1)
+    (c .before .before .before .before .before .before .before .if4 .left))
 
 same-length-3 : tie.Need-same-length-3
 same-length-3 c = search needs
@@ -69,8 +78,11 @@ same-length-3 c = search needs
 returns-6 : tie.Need-returns-6
 returns-6 c =
     let a = c .before .before .before .before .before .before .before .before .before .before .before .before .args in
-    tag-long _ _ _ _ _ (c .before .before .before .before .before .before .before .before .before .before .if1 .left) (c .before .before .before .before .before .before .before .before .before .if2 .left) (c .before .before .before .before .before .before .before .if3 .left)
-    ∙ cons-none (a .out .now) (a .at) (a .class * 64 + bit (a .constructed) + 31) (septets (a .number)) _ _ (c .before .before .before .before .write-septets .ensures) (c .enum-told .given .1)
+    tag-long _ _ _ _ _ (c .before .before .before .before .before .before .before .before .before .before .if1 .left)
+    (c .before .before .before .before .before .before .before .before .before .if2 .left)
+    (c .before .before .before .before .before .before .before .if3 .left)
+    ∙ cons-none (a .out .now) (a .at) (a .class * 64 + bit (a .constructed) + 31) (septets (a .number)) _ _
+    (c .before .before .before .before .write-septets .ensures) (c .enum-told .given .1)
 
 pub write-tag-spec : {M : Type 1} → statement M
 write-tag-spec =

@@ -19,7 +19,8 @@ returns-5 : tie.Need-returns-5
 returns-5 c = listed-12 _ (omega arith)
 
 returns-6 : tie.Need-returns-6
-returns-6 c = listed-none _ (c .before .before .before .before .if1 .left) (c .before .before .before .if2 .left) (c .before .before .if3 .left) (c .before .if4 .left) (c .if5 .left)
+returns-6 c = listed-none _ (c .before .before .before .before .if1 .left) (c .before .before .before .if2 .left) (c .before .before .if3 .left)
+    (c .before .if4 .left) (c .if5 .left)
 
 pub listed-spec : {M : Type 1} → statement M
 listed-spec = tie.close (tie.spec returns returns-2 returns-3 returns-4 returns-5 returns-6)

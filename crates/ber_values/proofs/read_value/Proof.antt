@@ -16,10 +16,13 @@ enum-known-class : tie.Need-enum-known-class
 enum-known-class c = search needs
 
 returns : tie.Need-returns
-returns c = promised answer-row (value-class _ _ _ (sym (c .before .before .before .before .read-tag .ensures .is) ∙ c .before .before .class .given .1) (c .if1 .taken))
+returns c = promised answer-row (value-class _ _ _
+    (sym (c .before .before .before .before .read-tag .ensures .is) ∙ c .before .before .class .given .1) (c .if1 .taken))
 
 returns-2 : tie.Need-returns-2
-returns-2 c = promised answer-row (value-constructed _ _ _ (sym (c .before .before .before .before .before .read-tag .ensures .is) ∙ c .before .before .before .class .given .1) (c .before .if1 .left) (c .if2 .taken))
+returns-2 c = promised answer-row (value-constructed _ _ _
+    (sym (c .before .before .before .before .before .read-tag .ensures .is) ∙ c .before .before .before .class .given .1) (c .before .if1 .left)
+    (c .if2 .taken))
 
 enum-known-length : tie.Need-enum-known-length
 enum-known-length c = search needs
@@ -35,11 +38,14 @@ returns-3 c = promised answer-row (value-by _ _ _ (sym (c .before .before .befor
 
 returns-4 : tie.Need-returns-4
 returns-4 c = promised answer-row (c .read-content .ensures .is ∙ sym (ap (onLength _ _ _ _) (c .before .before .length .given .1))
-    ∙ value-primitive _ _ _ (sym (c .before .before .before .before .before .before .before .before .before .read-tag .ensures .is) ∙ c .before .before .before .before .before .before .before .class .given .1) (c .before .before .before .before .before .if1 .left) (c .before .before .before .before .if2 .left))
+    ∙ value-primitive _ _ _ (sym (c .before .before .before .before .before .before .before .before .before .read-tag .ensures .is)
+    ∙ c .before .before .before .before .before .before .before .class .given .1) (c .before .before .before .before .before .if1 .left)
+    (c .before .before .before .before .if2 .left))
 
 returns-5 : tie.Need-returns-5
 returns-5 c = promised answer-row (sym (ap (onLength _ _ _ _) (c .enum-told .given .1))
-    ∙ value-primitive _ _ _ (sym (c .before .before .before .before .before .before .before .read-tag .ensures .is) ∙ c .before .before .before .before .before .class .given .1) (c .before .before .before .if1 .left) (c .before .before .if2 .left))
+    ∙ value-primitive _ _ _ (sym (c .before .before .before .before .before .before .before .read-tag .ensures .is)
+    ∙ c .before .before .before .before .before .class .given .1) (c .before .before .before .if1 .left) (c .before .before .if2 .left))
 
 pub read-value-spec : {M : Type 1} → statement M
 read-value-spec =

@@ -29,13 +29,17 @@ write-real-requires : tie.Need-write-real-requires
 write-real-requires c κs = search needs
 
 sealed-requires : tie.Need-sealed-requires
-sealed-requires c κs = let a = c .before .before .before .before .before .before .before .before in form-fits (a .args .out .now) (a .args .at) 9 (omega arith) (form (a .args .x)) (real-short (a .args .x) (double a)) _ _ (sym (write-form _ _ _) ∙ c .before .before .before .write-real .ensures)
+sealed-requires c κs = let a = c .before .before .before .before .before .before .before .before in
+    form-fits (a .args .out .now) (a .args .at) 9 (omega arith) (form (a .args .x)) (real-short (a .args .x) (double a)) _ _
+    (sym (write-form _ _ _) ∙ c .before .before .before .write-real .ensures)
 
 same-length : tie.Need-same-length
 same-length c = search needs
 
 returns-3 : tie.Need-returns-3
-returns-3 c = let a = c .before .before .before .before .before .before .before .before .before .before .before in form-put (a .args .out .now) (a .args .at) 9 (omega arith) (form (a .args .x)) (real-short (a .args .x) (double a)) _ _ (sym (write-form _ _ _) ∙ c .before .before .before .before .before .before .write-real .ensures) ∙ c .before .before .sealed .ensures
+returns-3 c = let a = c .before .before .before .before .before .before .before .before .before .before .before in
+    form-put (a .args .out .now) (a .args .at) 9 (omega arith) (form (a .args .x)) (real-short (a .args .x) (double a)) _ _
+    (sym (write-form _ _ _) ∙ c .before .before .before .before .before .before .write-real .ensures) ∙ c .before .before .sealed .ensures
 
 pub write-double-spec : {M : Type 1} → statement M
 write-double-spec =

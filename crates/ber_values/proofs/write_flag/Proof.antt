@@ -16,7 +16,8 @@ sub-if2 : tie.Need-sub-if2
 sub-if2 c = search needs
 
 returns-2 : tie.Need-returns-2
-returns-2 c = let a = c .before .before .before in form-none _ _ 1 (omega arith) (octets (boolOctet (a .args .b) ∷ [])) (one-short (boolOctet (a .args .b))) (omega arith)
+returns-2 c = let a = c .before .before .before in
+    form-none _ _ 1 (omega arith) (octets (boolOctet (a .args .b) ∷ [])) (one-short (boolOctet (a .args .b))) (omega arith)
 
 bool-octet-requires : tie.Need-bool-octet-requires
 bool-octet-requires c κs = search needs
@@ -28,13 +29,18 @@ write-octet-requires : tie.Need-write-octet-requires
 write-octet-requires c κs = search needs
 
 sealed-requires : tie.Need-sealed-requires
-sealed-requires c κs = let a = c .before .before .before .before .before .before .before .before .before in form-fits (a .args .out .now) (a .args .at) 1 (omega arith) (octets (boolOctet (a .args .b) ∷ [])) (one-short (boolOctet (a .args .b))) _ _ (rw (c .before .before .before .before .before .bool-octet .ensures) at (c .before .before .before .write-octet .ensures))
+sealed-requires c κs = let a = c .before .before .before .before .before .before .before .before .before in
+    form-fits (a .args .out .now) (a .args .at) 1 (omega arith) (octets (boolOctet (a .args .b) ∷ [])) (one-short (boolOctet (a .args .b))) _ _
+    (rw (c .before .before .before .before .before .bool-octet .ensures) at (c .before .before .before .write-octet .ensures))
 
 same-length : tie.Need-same-length
 same-length c = search needs
 
 returns-3 : tie.Need-returns-3
-returns-3 c = let a = c .before .before .before .before .before .before .before .before .before .before .before .before in form-put (a .args .out .now) (a .args .at) 1 (omega arith) (octets (boolOctet (a .args .b) ∷ [])) (one-short (boolOctet (a .args .b))) _ _ (rw (c .before .before .before .before .before .before .before .before .bool-octet .ensures) at (c .before .before .before .before .before .before .write-octet .ensures)) ∙ c .before .before .sealed .ensures
+returns-3 c = let a = c .before .before .before .before .before .before .before .before .before .before .before .before in
+    form-put (a .args .out .now) (a .args .at) 1 (omega arith) (octets (boolOctet (a .args .b) ∷ [])) (one-short (boolOctet (a .args .b))) _ _
+    (rw (c .before .before .before .before .before .before .before .before .bool-octet .ensures) at
+    (c .before .before .before .before .before .before .write-octet .ensures)) ∙ c .before .before .sealed .ensures
 
 pub write-flag-spec : {M : Type 1} → statement M
 write-flag-spec =

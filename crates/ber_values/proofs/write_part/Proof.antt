@@ -75,7 +75,8 @@ loop-again c =
       omega arith,
       (
         length-set (l .out) (a .at + (l .i - 1)) v ∙ l .inv .1 .0,
-        rw (l .inv .1 .1, part-back (a .src .now) (a .start) (a .len) (l .i) w h (l .inv .0)) (fill-step (a .out .now) (a .at) (l .i) v (drop (l .i) p) (drop (a .at + a .len) (a .out .now)) h k),
+        rw (l .inv .1 .1, part-back (a .src .now) (a .start) (a .len) (l .i) w h (l .inv .0))
+            (fill-step (a .out .now) (a .at) (l .i) v (drop (l .i) p) (drop (a .at + a .len) (a .out .now)) h k),
       ),
     )
 
@@ -93,7 +94,8 @@ returns-5 c =
     let n : length (take (a .len) (drop (a .start) (a .src .now))) ≡ a .len = length-part (a .src .now) (a .start) (a .len) w in
     let z : l .i ≡ 0 = omega arith in
     let d : a .at + 0 ≡ a .at = omega arith in
-    let o : l .out ≡ take (a .at) (a .out .now) ++ (take (a .len) (drop (a .start) (a .src .now)) ++ drop (a .at + a .len) (a .out .now)) = l .inv .1 .1 ∙ rw (z, d) in
+    let o : l .out ≡ take (a .at) (a .out .now) ++ (take (a .len) (drop (a .start) (a .src .now)) ++ drop (a .at + a .len) (a .out .now)) =
+    l .inv .1 .1 ∙ rw (z, d) in
     part-in _ _ _ _ _ w ∙ put-in (a .out .now) (a .at) (take (a .len) (drop (a .start) (a .src .now))) (rw n (omega arith)) ∙ rw (n, o)
 
 pub write-part-spec : {M : Type 1} → statement M

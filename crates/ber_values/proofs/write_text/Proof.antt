@@ -32,7 +32,8 @@ returns-2 : tie.Need-returns-2
 returns-2 c =
     let a = c .before .before .before .before .before .before .args in
     let z = size (c .before) in
-    text-none (a .src .now) (a .start) (a .len) (a .out .now) (a .at) (a .kind) (c .before .before .before .before .before .before .pre) (few (c .before .before)) (omega arith)
+    text-none (a .src .now) (a .start) (a .len) (a .out .now) (a .at) (a .kind) (c .before .before .before .before .before .before .pre)
+    (few (c .before .before)) (omega arith)
 
 add-if3 : tie.Need-add-if3
 add-if3 c = search needs
@@ -44,7 +45,8 @@ returns-3 : tie.Need-returns-3
 returns-3 c =
     let a = c .before .before .before .before .before .before .before .args in
     let z = size (c .before .before) in
-    text-none (a .src .now) (a .start) (a .len) (a .out .now) (a .at) (a .kind) (c .before .before .before .before .before .before .before .pre) (few (c .before .before .before)) (omega arith)
+    text-none (a .src .now) (a .start) (a .len) (a .out .now) (a .at) (a .kind) (c .before .before .before .before .before .before .before .pre)
+    (few (c .before .before .before)) (omega arith)
 
 add-write-part : tie.Need-add-write-part
 add-write-part c = search needs
@@ -71,13 +73,17 @@ enum-told : tie.Need-enum-told
 enum-told c = search needs
 
 same-length : tie.Need-same-length
-same-length c = simp length-set (c .before .before .write-length .kept .1 .0 ∙ c .before .before .before .before .before .before .before .before .before .write-part .kept .1 .1 .1 .0)
+same-length c = simp length-set (c .before .before .write-length .kept .1 .0
+    ∙ c .before .before .before .before .before .before .before .before .before .write-part .kept .1 .1 .1 .0)
 
 returns-4 : tie.Need-returns-4
 returns-4 c =
     let a = c .before .before .before .before .before .before .before .before .before .before .before .before .before .before .before .before .before .before .args in
-    text-done (a .src .now) (a .start) (a .len) (a .out .now) (a .at) (a .kind) (c .before .before .before .before .before .before .before .before .before .before .before .before .before .before .before .before .before .before .pre) (few (c .before .before .before .before .before .before .before .before .before .before .before .before .before .before)) (c .before .before .before .before .before .before .before .before .before .before .before .before .before .length-size .result) (size (c .before .before .before .before .before .before .before .before .before .before .before .before .before)) _ _ (c .before .before .before .before .before .before .before .before .before .write-part .ensures)
-    _ (c .before .before .before .before .before .e .given .1) _ _ (rw (c .before .before .before .before .before .before .before .before .before .before .before .before .before .before .before .word .ensures) at (c .before .before .write-length .ensures)) (omega arith)
+    text-done (a .src .now) (a .start) (a .len) (a .out .now) (a .at) (a .kind)
+    (c .before .before .before .before .before .before .before .before .before .before .before .before .before .before .before .before .before .before .pre) (few (c .before .before .before .before .before .before .before .before .before .before .before .before .before .before)) (c .before .before .before .before .before .before .before .before .before .before .before .before .before .length-size .result) (size (c .before .before .before .before .before .before .before .before .before .before .before .before .before)) _ _ (c .before .before .before .before .before .before .before .before .before .write-part .ensures)
+    _ (c .before .before .before .before .before .e .given .1) _ _
+    (rw (c .before .before .before .before .before .before .before .before .before .before .before .before .before .before .before .word .ensures)
+    at (c .before .before .write-length .ensures)) (omega arith)
 
 same-length-2 : tie.Need-same-length-2
 same-length-2 c = search needs
@@ -85,7 +91,12 @@ same-length-2 c = search needs
 returns-5 : tie.Need-returns-5
 returns-5 c =
     let a = c .before .before .before .before .before .before .before .before .before .before .before .before .before .args in
-    text-stop (a .src .now) (a .start) (a .len) (a .out .now) (a .at) (a .kind) (c .before .before .before .before .before .before .before .before .before .before .before .before .before .pre) (few (c .before .before .before .before .before .before .before .before .before)) (c .before .before .before .before .before .before .before .before .length-size .result) (size (c .before .before .before .before .before .before .before .before)) _ _ (c .before .before .before .before .write-part .ensures) (c .enum-told .given .1)
+    text-stop (a .src .now) (a .start) (a .len) (a .out .now) (a .at) (a .kind)
+    (c .before .before .before .before .before .before .before .before .before .before .before .before .before .pre)
+    (few (c .before .before .before .before .before .before .before .before .before))
+    (c .before .before .before .before .before .before .before .before .length-size .result)
+    (size (c .before .before .before .before .before .before .before .before)) _ _
+    (c .before .before .before .before .write-part .ensures) (c .enum-told .given .1)
 
 pub write-text-spec : {M : Type 1} → statement M
 write-text-spec =

@@ -16,7 +16,8 @@ sub-if2 : tie.Need-sub-if2
 sub-if2 c = search needs
 
 returns-2 : tie.Need-returns-2
-returns-2 c = let a = c .before .before .before in form-none _ _ 2 (omega arith) (octets (shortest (a .args .x))) (int-short (a .args .x) (a .fits .x)) (omega arith)
+returns-2 c = let a = c .before .before .before in
+    form-none _ _ 2 (omega arith) (octets (shortest (a .args .x))) (int-short (a .args .x) (a .fits .x)) (omega arith)
 
 add-write-int : tie.Need-add-write-int
 add-write-int c = search needs
@@ -25,13 +26,17 @@ write-int-requires : tie.Need-write-int-requires
 write-int-requires c κs = search needs
 
 sealed-requires : tie.Need-sealed-requires
-sealed-requires c κs = let a = c .before .before .before .before .before .before .before .before in form-fits (a .args .out .now) (a .args .at) 2 (omega arith) (octets (shortest (a .args .x))) (int-short (a .args .x) (a .fits .x)) _ _ (rw (toZ-ofZ (a .fits .x)) at (c .before .before .before .write-int .ensures))
+sealed-requires c κs = let a = c .before .before .before .before .before .before .before .before in
+    form-fits (a .args .out .now) (a .args .at) 2 (omega arith) (octets (shortest (a .args .x))) (int-short (a .args .x) (a .fits .x)) _ _
+    (rw (toZ-ofZ (a .fits .x)) at (c .before .before .before .write-int .ensures))
 
 same-length : tie.Need-same-length
 same-length c = search needs
 
 returns-3 : tie.Need-returns-3
-returns-3 c = let a = c .before .before .before .before .before .before .before .before .before .before .before in form-put (a .args .out .now) (a .args .at) 2 (omega arith) (octets (shortest (a .args .x))) (int-short (a .args .x) (a .fits .x)) _ _ (rw (toZ-ofZ (a .fits .x)) at (c .before .before .before .before .before .before .write-int .ensures)) ∙ c .before .before .sealed .ensures
+returns-3 c = let a = c .before .before .before .before .before .before .before .before .before .before .before in
+    form-put (a .args .out .now) (a .args .at) 2 (omega arith) (octets (shortest (a .args .x))) (int-short (a .args .x) (a .fits .x)) _ _
+    (rw (toZ-ofZ (a .fits .x)) at (c .before .before .before .before .before .before .write-int .ensures)) ∙ c .before .before .sealed .ensures
 
 pub write-whole-spec : {M : Type 1} → statement M
 write-whole-spec =

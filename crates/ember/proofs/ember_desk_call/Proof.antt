@@ -40,7 +40,8 @@ returns-2 c =
     let the-figures-at = c .before .before .before .before .before .before .before .before .before .figures-at in
     let the-call = c .before .before .before .before .before .before .before .call in
     let the-put-answers = c .before .before .put-answers in
-    desk-called _ _ _ _ _ _ _ _ _ (the-if1 .left) (the-is-figures .ensures) (the-if2 .taken) (the-figures-at .ensures) (the-call .ensures) (the-put-answers .ensures _)
+    desk-called _ _ _ _ _ _ _ _ _ (the-if1 .left) (the-is-figures .ensures) (the-if2 .taken) (the-figures-at .ensures) (the-call .ensures)
+    (the-put-answers .ensures _)
 
 returns-3 : tie.Need-returns-3
 returns-3 c =

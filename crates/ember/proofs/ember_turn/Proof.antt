@@ -53,7 +53,8 @@ returns c =
     let the-lengths-fit = c .before .before .before .before .before .before .before .before .before .before .before .before .before .before .before .before .before .lengths-fit in
     let the-if2 = c .before .before .before .before .before .before .before .before .before .before .before .before .before .before .before .before .if2 in
     let the-go = c .before .before .before .before .before .before .before .before .before .go in
-    turns-on _ _ _ _ _ _ _ _ _ (the-is-figures .ensures) (the-if1 .taken) (the-figures-at .ensures) (the-size .ensures) (the-lengths-fit .ensures) (the-if2 .taken)
+    turns-on _ _ _ _ _ _ _ _ _ (the-is-figures .ensures) (the-if1 .taken) (the-figures-at .ensures) (the-size .ensures) (the-lengths-fit .ensures)
+    (the-if2 .taken)
     (the-go .ensures)
 
 returns-2 : tie.Need-returns-2
@@ -64,7 +65,8 @@ returns-2 c =
     let the-size = c .before .before .size in
     let the-lengths-fit = c .before .lengths-fit in
     let the-if2 = c .if2 in
-    turns-lengths _ _ _ _ _ _ _ _ _ (the-is-figures .ensures) (the-if1 .taken) (the-figures-at .ensures) (the-size .ensures) (the-lengths-fit .ensures) (the-if2 .left)
+    turns-lengths _ _ _ _ _ _ _ _ _ (the-is-figures .ensures) (the-if1 .taken) (the-figures-at .ensures) (the-size .ensures) (the-lengths-fit .ensures)
+    (the-if2 .left)
 
 returns-3 : tie.Need-returns-3
 returns-3 c =

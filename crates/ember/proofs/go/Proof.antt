@@ -85,7 +85,8 @@ returns-2 c =
     let the-follow = c .before .before .before .before .before .before .before .before .before .follow in
     let the-later = c .before .before .before .before .later in
     let the-put-answer = c .before .before .put-answer in
-    turned-on _ _ _ _ _ _ _ (the-framing-feed .ensures) (the-front .result) (the-follow .result .after) _ _ _ (the-if1 .left) (the-framing-feed .kept .1 .1 .1 .0) (the-front .ensures .0) (the-follow .ensures) (the-later .ensures) (the-put-answer .ensures)
+    turned-on _ _ _ _ _ _ _ (the-framing-feed .ensures) (the-front .result) (the-follow .result .after) _ _ _ (the-if1 .left)
+    (the-framing-feed .kept .1 .1 .1 .0) (the-front .ensures .0) (the-follow .ensures) (the-later .ensures) (the-put-answer .ensures)
 
 pub go-spec : {M : Type 1} → statement M
 go-spec =

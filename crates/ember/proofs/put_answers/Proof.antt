@@ -26,7 +26,8 @@ returns-2 : tie.Need-returns-2
 returns-2 c =
     let the-Start = c .before .before .before .before .before in
     let the-word = c .word in
-    λ cells. put-done (the-Start .args .called) (the-Start .args .answers .now) (the-Start .args .answer .now) cells (the-Start .pre) (omega arith) (the-word .ensures)
+    λ cells. put-done (the-Start .args .called) (the-Start .args .answers .now) (the-Start .args .answer .now) cells (the-Start .pre) (omega arith)
+    (the-word .ensures)
 
 pub put-answers-spec : {M : Type 1} → statement M
 put-answers-spec =

@@ -33,7 +33,8 @@ sum-requires : tie.Need-sum-requires Inv-loop μ-loop
 sum-requires c κs = tt
 
 same-length : tie.Need-same-length Inv-loop μ-loop
-same-length c = c .before .before .before .before .before .feed .kept .1 .0 ∙ c .before .before .before .before .before .before .before .before .before .loop .inv .0
+same-length c = c .before .before .before .before .before .feed .kept .1 .0
+    ∙ c .before .before .before .before .before .before .before .before .before .loop .inv .0
 
 same-length-2 : tie.Need-same-length-2 Inv-loop μ-loop
 same-length-2 c = c .before .before .before .before .before .before .before .before .before .loop .inv .1 .0
@@ -51,7 +52,11 @@ loop-less : tie.Need-loop-less Inv-loop μ-loop
 loop-less c = omega (arith, feeds-consumed _ _ _ (c .before .before .before .before .before .before .before .before .before .before .before .feed .ensures))
 
 loop-again : tie.Need-loop-again Inv-loop μ-loop
-loop-again c = (c .before .before .before .before .before .before .before .before .before .before .before .feed .kept .1 .0 ∙ c .before .before .before .before .before .before .before .before .before .before .before .before .before .before .before .loop .inv .0, (c .before .before .report .kept .0 ∙ c .before .before .before .before .before .before .before .before .before .before .before .before .before .before .before .loop .inv .1 .0, (omega arith, omega (arith, feeds-consumed _ _ _ (c .before .before .before .before .before .before .before .before .before .before .before .feed .ensures)))))
+loop-again c = (
+  c .before .before .before .before .before .before .before .before .before .before .before .feed .kept .1 .0
+      ∙ c .before .before .before .before .before .before .before .before .before .before .before .before .before .before .before .loop .inv .0,
+  (c .before .before .report .kept .0 ∙ c .before .before .before .before .before .before .before .before .before .before .before .before .before .before .before .loop .inv .1 .0, (omega arith, omega (arith, feeds-consumed _ _ _ (c .before .before .before .before .before .before .before .before .before .before .before .feed .ensures)))),
+)
 
 same-length-3 : tie.Need-same-length-3 Inv-loop μ-loop
 same-length-3 c = c .before .loop .inv .0

@@ -17,7 +17,8 @@ legal-words-requires c κs = search needs
 
 returns-2 : tie.Need-returns-2
 unfolding accepts
-returns-2 c = simp (eq-eqb _ _ (c .before .before .before .if1 .left), sym (c .before .before .is-session .ensures) ∙ c .before .if2 .taken) (c .legal-words .ensures)
+returns-2 c = simp (eq-eqb _ _ (c .before .before .before .if1 .left), sym (c .before .before .is-session .ensures) ∙ c .before .if2 .taken)
+    (c .legal-words .ensures)
 
 returns-3 : tie.Need-returns-3
 unfolding accepts

@@ -26,7 +26,8 @@ returns-2 : tie.Need-returns-2
 unfolding starts
 returns-2 c =
     let four = c .before .before .before .before .before .if1 .left in
-    simp (eq-eqb _ _ four) (ap (λ (ws : List ℕ). record { number = 0; session = ws }) (sym (c .before .before .put-session .ensures ∙ (put-four _ _ four ∙ ap wordsOf (c .before .before .before .start .ensures)))))
+    simp (eq-eqb _ _ four) (ap (λ (ws : List ℕ). record { number = 0; session = ws })
+    (sym (c .before .before .put-session .ensures ∙ (put-four _ _ four ∙ ap wordsOf (c .before .before .before .start .ensures)))))
 
 pub framing-start-spec : {M : Type 1} → statement M
 framing-start-spec =

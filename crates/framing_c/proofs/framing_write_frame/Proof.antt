@@ -13,7 +13,8 @@ same-length : tie.Need-same-length
 same-length c = search needs
 
 returns : tie.Need-returns
-returns c = puts-told _ (c .before .before .before .before .write-frame .result) _ _ (c .before .before .before .before .write-frame .ensures) (c .tell .ensures)
+returns c = puts-told _ (c .before .before .before .before .write-frame .result) _ _ (c .before .before .before .before .write-frame .ensures)
+    (c .tell .ensures)
 
 pub framing-write-frame-spec : {M : Type 1} → statement M
 framing-write-frame-spec =

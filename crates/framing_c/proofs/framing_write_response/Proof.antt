@@ -13,7 +13,8 @@ same-length : tie.Need-same-length
 same-length c = search needs
 
 returns : tie.Need-returns
-returns c = puts-told _ (c .before .before .before .before .write-response .result) _ _ (c .before .before .before .before .write-response .ensures) (c .tell .ensures)
+returns c = puts-told _ (c .before .before .before .before .write-response .result) _ _ (c .before .before .before .before .write-response .ensures)
+    (c .tell .ensures)
 
 pub framing-write-response-spec : {M : Type 1} → statement M
 framing-write-response-spec =

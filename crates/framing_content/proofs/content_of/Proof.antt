@@ -36,7 +36,10 @@ of-requires c κs = search needs
 
 returns-2 : tie.Need-returns-2
 unfolding contentOf
-returns-2 c = simp (le-ltb _ _ (c .before .before .before .before .before .before .if1 .left), ne-eqb _ _ (λ e. c .if2 .taken (c .before .before .joined .ensures ∙ e ∙ sym (c .before .of .ensures))))
+returns-2 c = simp (
+  le-ltb _ _ (c .before .before .before .before .before .before .if1 .left),
+  ne-eqb _ _ (λ e. c .if2 .taken (c .before .before .joined .ensures ∙ e ∙ sym (c .before .of .ensures))),
+)
 
 header-requires : tie.Need-header-requires
 header-requires c κs =
@@ -45,7 +48,10 @@ header-requires c κs =
 
 returns-3 : tie.Need-returns-3
 unfolding contentOf
-returns-3 c = simp (le-ltb _ _ (c .before .before .before .before .before .before .before .if1 .left), eq-eqb _ _ (sym (c .before .before .before .joined .ensures) ∙ c .before .if2 .left ∙ c .before .before .of .ensures)) (c .header .ensures)
+returns-3 c = simp (
+  le-ltb _ _ (c .before .before .before .before .before .before .before .if1 .left),
+  eq-eqb _ _ (sym (c .before .before .before .joined .ensures) ∙ c .before .if2 .left ∙ c .before .before .of .ensures),
+) (c .header .ensures)
 
 pub content-of-spec : {M : Type 1} → statement M
 content-of-spec =

@@ -30,7 +30,11 @@ command-requires c κs = search needs
 
 returns-4 : tie.Need-returns-4
 unfolding bodyOf
-returns-4 c = simp (eq-eqb _ _ (c .before .before .before .before .before .if1 .left), eq-eqb _ _ (c .before .before .before .if2 .left), eq-eqb _ _ (c .before .if3 .left)) (c .command .ensures)
+returns-4 c = simp (
+  eq-eqb _ _ (c .before .before .before .before .before .if1 .left),
+  eq-eqb _ _ (c .before .before .before .if2 .left),
+  eq-eqb _ _ (c .before .if3 .left),
+) (c .command .ensures)
 
 pub header-spec : {M : Type 1} → statement M
 header-spec =

@@ -22,32 +22,63 @@ empty-bit-requires c κs = search needs
 
 returns-3 : tie.Need-returns-3
 unfolding packetOf
-returns-3 c = simp (le-ltb _ _ (c .before .before .before .before .if1 .left), eq-eqb _ _ (c .before .before .if2 .left), ne-eqb _ _ (λ e. c .if3 .taken (e ∙ sym (c .before .empty-bit .ensures))))
+returns-3 c = simp (
+  le-ltb _ _ (c .before .before .before .before .if1 .left),
+  eq-eqb _ _ (c .before .before .if2 .left),
+  ne-eqb _ _ (λ e. c .if3 .taken (e ∙ sym (c .before .empty-bit .ensures))),
+)
 
 shared-slice-read-if4 : tie.Need-shared-slice-read-if4
 shared-slice-read-if4 c = search needs
 
 returns-4 : tie.Need-returns-4
 unfolding packetOf
-returns-4 c = simp (le-ltb _ _ (c .before .before .before .before .before .before .if1 .left), eq-eqb _ _ (c .before .before .before .before .if2 .left), eq-eqb _ _ (c .before .before .if3 .left ∙ c .before .before .before .empty-bit .ensures), ne-eqb _ _ (c .if4 .taken))
+returns-4 c = simp (
+  le-ltb _ _ (c .before .before .before .before .before .before .if1 .left),
+  eq-eqb _ _ (c .before .before .before .before .if2 .left),
+  eq-eqb _ _ (c .before .before .if3 .left ∙ c .before .before .before .empty-bit .ensures),
+  ne-eqb _ _ (c .if4 .taken),
+)
 
 shared-slice-read-if5 : tie.Need-shared-slice-read-if5
 shared-slice-read-if5 c = search needs
 
 returns-5 : tie.Need-returns-5
 unfolding packetOf
-returns-5 c = simp (le-ltb _ _ (c .before .before .before .before .before .before .before .before .if1 .left), eq-eqb _ _ (c .before .before .before .before .before .before .if2 .left), eq-eqb _ _ (c .before .before .before .before .if3 .left ∙ c .before .before .before .before .before .empty-bit .ensures), eq-eqb _ _ (c .before .before .if4 .left), ne-eqb _ _ (c .if5 .taken))
+returns-5 c = simp (
+  le-ltb _ _ (c .before .before .before .before .before .before .before .before .if1 .left),
+  eq-eqb _ _ (c .before .before .before .before .before .before .if2 .left),
+  eq-eqb _ _ (c .before .before .before .before .if3 .left ∙ c .before .before .before .before .before .empty-bit .ensures),
+  eq-eqb _ _ (c .before .before .if4 .left),
+  ne-eqb _ _ (c .if5 .taken),
+)
 
 shared-slice-read-if6 : tie.Need-shared-slice-read-if6
 shared-slice-read-if6 c = search needs
 
 returns-6 : tie.Need-returns-6
 unfolding packetOf
-returns-6 c = simp (le-ltb _ _ (c .before .before .before .before .before .before .before .before .before .before .if1 .left), eq-eqb _ _ (c .before .before .before .before .before .before .before .before .if2 .left), eq-eqb _ _ (c .before .before .before .before .before .before .if3 .left ∙ c .before .before .before .before .before .before .before .empty-bit .ensures), eq-eqb _ _ (c .before .before .before .before .if4 .left), eq-eqb _ _ (c .before .before .if5 .left), ne-eqb _ _ (c .if6 .taken))
+returns-6 c = simp (
+  le-ltb _ _ (c .before .before .before .before .before .before .before .before .before .before .if1 .left),
+  eq-eqb _ _ (c .before .before .before .before .before .before .before .before .if2 .left),
+  eq-eqb _ _ (c .before .before .before .before .before .before .if3 .left
+      ∙ c .before .before .before .before .before .before .before .empty-bit .ensures),
+  eq-eqb _ _ (c .before .before .before .before .if4 .left),
+  eq-eqb _ _ (c .before .before .if5 .left),
+  ne-eqb _ _ (c .if6 .taken),
+)
 
 returns-7 : tie.Need-returns-7
 unfolding packetOf
-returns-7 c = rw (le-ltb _ _ (c .before .before .before .before .before .before .before .before .before .before .if1 .left), eq-eqb _ _ (c .before .before .before .before .before .before .before .before .if2 .left), eq-eqb _ _ (c .before .before .before .before .before .before .if3 .left ∙ c .before .before .before .before .before .before .before .empty-bit .ensures), eq-eqb _ _ (c .before .before .before .before .if4 .left), eq-eqb _ _ (c .before .before .if5 .left), eq-eqb _ _ (c .if6 .left))
+returns-7 c = rw (
+  le-ltb _ _ (c .before .before .before .before .before .before .before .before .before .before .if1 .left),
+  eq-eqb _ _ (c .before .before .before .before .before .before .before .before .if2 .left),
+  eq-eqb _ _ (c .before .before .before .before .before .before .if3 .left
+      ∙ c .before .before .before .before .before .before .before .empty-bit .ensures),
+  eq-eqb _ _ (c .before .before .before .before .if4 .left),
+  eq-eqb _ _ (c .before .before .if5 .left),
+  eq-eqb _ _ (c .if6 .left),
+)
 
 pub packet-spec : {M : Type 1} → statement M
 packet-spec =

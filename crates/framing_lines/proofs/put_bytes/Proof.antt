@@ -41,7 +41,8 @@ loop-again c =
         omega arith,
         (
           e .kept .0 ∙ l .inv .1 .1 .0,
-          l .inv .1 .1 .1 ∙ rw (rest-more s (l .i) (c .before .before .before .before .before .loop-test .taken)) (wrote-then _ _ _ _ (e .ensures .0 (omega arith))),
+          l .inv .1 .1 .1 ∙ rw (rest-more s (l .i) (c .before .before .before .before .before .loop-test .taken))
+              (wrote-then _ _ _ _ (e .ensures .0 (omega arith))),
         ),
       ),
     )

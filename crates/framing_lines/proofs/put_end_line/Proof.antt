@@ -48,9 +48,27 @@ returns c =
     let start = word .before .before .before .before in
     let first : count .put-decimal .result < lastPlace = omega (arith, start .pre, start .good, word .put-bytes .ensures .1, count .put-decimal .ensures .1) in
     let second : frame .put-frame .result < lastPlace =
-    omega (arith, start .pre, start .good, word .put-bytes .ensures .1, count .put-decimal .ensures .1, first-space .put .ensures .1, frame .put-frame .ensures .1) in
+    omega (
+      arith,
+      start .pre,
+      start .good,
+      word .put-bytes .ensures .1,
+      count .put-decimal .ensures .1,
+      first-space .put .ensures .1,
+      frame .put-frame .ensures .1,
+    ) in
     let third : message .put-pending .result < lastPlace =
-    omega (arith, start .pre, start .good, word .put-bytes .ensures .1, count .put-decimal .ensures .1, first-space .put .ensures .1, frame .put-frame .ensures .1, second-space .put2 .ensures .1, message .put-pending .ensures .1) in (
+    omega (
+      arith,
+      start .pre,
+      start .good,
+      word .put-bytes .ensures .1,
+      count .put-decimal .ensures .1,
+      first-space .put .ensures .1,
+      frame .put-frame .ensures .1,
+      second-space .put2 .ensures .1,
+      message .put-pending .ensures .1,
+    ) in (
       wrote-then _ _ _ _ (word .put-bytes .ensures .0)
           ∙ wrote-then _ _ _ _ (count .put-decimal .ensures .0)
           ∙ wrote-then _ _ _ _ (first-space .put .ensures .0 first)

@@ -42,7 +42,16 @@ returns c =
     let first : the-put-decimal .result < lastPlace = omega (arith, the-Start .pre, the-Start .good, the-put-decimal .ensures .1) in
     let second : the-put-decimal2 .result < lastPlace =
     omega (arith, the-Start .pre, the-Start .good, the-put-decimal .ensures .1, the-put .ensures .1, the-put-decimal2 .ensures .1) in
-    let third : the-put2 .result < lastPlace = omega (arith, second, the-Start .pre, the-Start .good, the-put-decimal .ensures .1, the-put .ensures .1, the-put-decimal2 .ensures .1, the-put2 .ensures .1) in (
+    let third : the-put2 .result < lastPlace = omega (
+      arith,
+      second,
+      the-Start .pre,
+      the-Start .good,
+      the-put-decimal .ensures .1,
+      the-put .ensures .1,
+      the-put-decimal2 .ensures .1,
+      the-put2 .ensures .1,
+    ) in (
       rw (← the-bit .ensures)
           (wrote-then _ _ _ _ (the-put-decimal .ensures .0)
           ∙ wrote-then _ _ _ _ (the-put .ensures .0 first)

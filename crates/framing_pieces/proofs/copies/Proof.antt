@@ -59,8 +59,11 @@ loop-again : tie.Need-loop-again Inv-loop μ-loop
 loop-again c =
     let a = c .before .before .before .args in
     let l = c .before .before .loop in
-    let p = c .before .before .before .pre in
-    (omega arith, ap (λ (s : List ℕ). set s (a .at + l .i) (getD s (16393 + l .i) 0)) (l .inv .1) ∙ turn (a .store .now) (a .at) (a .n) (l .i) (p .0) (p .1) (c .before .loop-test .taken))
+    let p = c .before .before .before .pre in (
+      omega arith,
+      ap (λ (s : List ℕ). set s (a .at + l .i) (getD s (16393 + l .i) 0)) (l .inv .1)
+          ∙ turn (a .store .now) (a .at) (a .n) (l .i) (p .0) (p .1) (c .before .loop-test .taken),
+    )
 
 same-length : tie.Need-same-length Inv-loop μ-loop
 same-length c =

@@ -19,7 +19,8 @@ same-length c = search needs
 
 returns : tie.Need-returns
 unfolding unlessSetup
-returns c = rw (sym (c .before .before .before .before .before .is-legal .ensures) ∙ c .before .before .before .before .if1 .taken) (c .before .before .ends .ensures)
+returns c = rw (sym (c .before .before .before .before .before .is-legal .ensures) ∙ c .before .before .before .before .if1 .taken)
+    (c .before .before .ends .ensures)
 
 returns-2 : tie.Need-returns-2
 unfolding unlessSetup

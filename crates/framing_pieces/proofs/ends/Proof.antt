@@ -54,7 +54,8 @@ sub-n c =
     let p = c .before .before .before .before .before .before .before .pre in
     let t = a .store .now in
     let i : a .length ≡ contentStart + a .length - contentStart = omega arith in
-    let k : contentOf (contentIn (a .length) t) ≡ _ = ap (λ (i : ℕ). contentOf (take i (drop contentStart t))) i ∙ sym (c .before .before .before .content-of .ensures) ∙ c .before .content2 .given .1 in
+    let k : contentOf (contentIn (a .length) t) ≡ _ = ap (λ (i : ℕ). contentOf (take i (drop contentStart t))) i
+    ∙ sym (c .before .before .before .content-of .ensures) ∙ c .before .content2 .given .1 in
     omega (arith, piece-long _ _ _ k, content-length t (p .0) (a .length) (p .1 .0))
 
 pieces-requires : tie.Need-pieces-requires
@@ -70,8 +71,10 @@ returns c =
     let p = c .before .before .before .before .before .before .before .before .pre in
     let t = a .store .now in
     let i : a .length ≡ contentStart + a .length - contentStart = omega arith in
-    let k : contentOf (contentIn (a .length) t) ≡ _ = ap (λ (i : ℕ). contentOf (take i (drop contentStart t))) i ∙ sym (c .before .before .before .before .content-of .ensures) ∙ c .before .before .content .given .1 in
-    rw k (keeps-refuses t (p .0) Outside (a .message) (omega arith) (p .1 .1) (c .before .before .content .given .0 .0) ∙ gives-same (sym (c .refuses .ensures)) refl)
+    let k : contentOf (contentIn (a .length) t) ≡ _ = ap (λ (i : ℕ). contentOf (take i (drop contentStart t))) i
+    ∙ sym (c .before .before .before .before .content-of .ensures) ∙ c .before .before .content .given .1 in
+    rw k (keeps-refuses t (p .0) Outside (a .message) (omega arith) (p .1 .1) (c .before .before .content .given .0 .0)
+    ∙ gives-same (sym (c .refuses .ensures)) refl)
 
 same-length-2 : tie.Need-same-length-2
 same-length-2 c = search needs
@@ -83,7 +86,8 @@ returns-2 c =
     let p = c .before .before .before .before .before .before .before .pre in
     let t = a .store .now in
     let i : a .length ≡ contentStart + a .length - contentStart = omega arith in
-    let k : contentOf (contentIn (a .length) t) ≡ _ = ap (λ (i : ℕ). contentOf (take i (drop contentStart t))) i ∙ sym (c .before .before .before .content-of .ensures) ∙ c .before .enum-told .given .1 in
+    let k : contentOf (contentIn (a .length) t) ≡ _ = ap (λ (i : ℕ). contentOf (take i (drop contentStart t))) i
+    ∙ sym (c .before .before .before .content-of .ensures) ∙ c .before .enum-told .given .1 in
     rw k (keeps-same t (p .0) Outside (a .message) (omega arith) (p .1 .1) 4 ∙ gives-same (sym (c .keep-alive .ensures)) refl)
 
 same-length-3 : tie.Need-same-length-3
@@ -96,7 +100,8 @@ returns-3 c =
     let p = c .before .before .before .before .before .before .before .pre in
     let t = a .store .now in
     let i : a .length ≡ contentStart + a .length - contentStart = omega arith in
-    let k : contentOf (contentIn (a .length) t) ≡ _ = ap (λ (i : ℕ). contentOf (take i (drop contentStart t))) i ∙ sym (c .before .before .before .content-of .ensures) ∙ c .before .enum-told2 .given .1 in
+    let k : contentOf (contentIn (a .length) t) ≡ _ = ap (λ (i : ℕ). contentOf (take i (drop contentStart t))) i
+    ∙ sym (c .before .before .before .content-of .ensures) ∙ c .before .enum-told2 .given .1 in
     rw k (keeps-same t (p .0) Outside (a .message) (omega arith) (p .1 .1) 5 ∙ gives-same (sym (c .keep-alive2 .ensures)) refl)
 
 same-length-4 : tie.Need-same-length-4
@@ -109,7 +114,9 @@ returns-4 c =
     let p = c .before .before .before .before .before .before .before .before .before .before .before .pre in
     let t = a .store .now in
     let i : a .length ≡ contentStart + a .length - contentStart = omega arith in
-    let k : contentOf (contentIn (a .length) t) ≡ _ = ap (λ (i : ℕ). contentOf (take i (drop contentStart t))) i ∙ sym (c .before .before .before .before .before .before .before .content-of .ensures) ∙ c .before .before .before .before .before .content2 .given .1 in
+    let k : contentOf (contentIn (a .length) t) ≡ _ = ap (λ (i : ℕ). contentOf (take i (drop contentStart t))) i
+    ∙ sym (c .before .before .before .before .before .before .before .content-of .ensures)
+    ∙ c .before .before .before .before .before .content2 .given .1 in
     rw (k, payload-in t (p .0) (a .length) (p .1 .0)) (c .before .before .pieces .ensures)
 
 pub ends-spec : {M : Type 1} → statement M

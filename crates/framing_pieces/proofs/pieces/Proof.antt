@@ -42,7 +42,8 @@ returns c =
     let t = a .store .now in
     rw (c .before .before .before .before .before .before .if1 .taken)
     (keeps-first t (p .0) (a .last) (a .n) (p .1 .0) (a .message)
-    ∙ gives-same (sym (c .joins .ensures ∙ ap (λ (d : Bool). joining (a .last) d (a .n)) (c .before .before .before .before .before .is-part .ensures))) (sym (c .before .before .before .copies .ensures)))
+    ∙ gives-same (sym (c .joins .ensures ∙ ap (λ (d : Bool). joining (a .last) d (a .n))
+    (c .before .before .before .before .before .is-part .ensures))) (sym (c .before .before .before .copies .ensures)))
 
 enum-told : tie.Need-enum-told
 enum-told c = search needs
@@ -68,7 +69,8 @@ returns-2 c =
     let e : a .message ≡ Part (c .before .before .before .message .given .0 .0) = c .before .before .before .message .given .1 in
     rw (c .before .before .before .before .before .if1 .left)
     (ap (λ (m : Pending). keeps (pieces false (a .last) (take (a .n) (drop 16393 t)) (messageOf m t)) t) e
-    ∙ keeps-big t (p .0) (a .last) (a .n) (p .1 .0) (c .before .before .before .message .given .0 .0) (omega (arith, ap messageLength e)) (c .before .if2 .taken)
+    ∙ keeps-big t (p .0) (a .last) (a .n) (p .1 .0) (c .before .before .before .message .given .0 .0) (omega (arith, ap messageLength e))
+    (c .before .if2 .taken)
     ∙ gives-same (sym (c .refuses2 .ensures)) refl)
 
 copies-requires-2 : tie.Need-copies-requires-2
@@ -98,10 +100,12 @@ returns-4 c =
     let a = c .before .before .before .before .before .before .before .before .before .before .before .args in
     let p = c .before .before .before .before .before .before .before .before .before .before .before .pre in
     let t = a .store .now in
-    let e : a .message ≡ Part (c .before .before .before .before .before .before .before .message .given .0 .0) = c .before .before .before .before .before .before .before .message .given .1 in
+    let e : a .message ≡ Part (c .before .before .before .before .before .before .before .message .given .0 .0) =
+    c .before .before .before .before .before .before .before .message .given .1 in
     rw (c .before .before .before .before .before .before .before .before .before .if1 .left)
     (ap (λ (m : Pending). keeps (pieces false (a .last) (take (a .n) (drop 16393 t)) (messageOf m t)) t) e
-    ∙ keeps-later t (p .0) (a .last) (a .n) (p .1 .0) (c .before .before .before .before .before .before .before .message .given .0 .0) (omega (arith, ap messageLength e)) (c .before .before .before .before .before .if2 .left)
+    ∙ keeps-later t (p .0) (a .last) (a .n) (p .1 .0) (c .before .before .before .before .before .before .before .message .given .0 .0)
+    (omega (arith, ap messageLength e)) (c .before .before .before .before .before .if2 .left)
     ∙ gives-same (sym (c .joins2 .ensures)) (sym (c .before .before .before .copies2 .ensures)))
 
 pub pieces-spec : {M : Type 1} → statement M

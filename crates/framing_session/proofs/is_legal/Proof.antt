@@ -16,7 +16,12 @@ message-length-requires : tie.Need-message-length-requires
 message-length-requires c κs = search needs
 
 returns-3 : tie.Need-returns-3
-returns-3 c = simp (eq-eqb _ _ (c .before .before .before .if1 .left), ← c .before .before .frame-length .ensures, le-leb _ _ (c .before .if2 .left), ← c .message-length .ensures)
+returns-3 c = simp (
+  eq-eqb _ _ (c .before .before .before .if1 .left),
+  ← c .before .before .frame-length .ensures,
+  le-leb _ _ (c .before .if2 .left),
+  ← c .message-length .ensures,
+)
 
 pub is-legal-spec : {M : Type 1} → statement M
 is-legal-spec =

@@ -37,7 +37,8 @@ returns-2 : tie.Need-returns-2
 returns-2 c =
     let s = c .before .before .before .args in
     let p = c .before .before .before .pre in
-    keeps-over (s .store .now) (p .0) (s .length) (s .x) (s .message) (p .1 .0) (p .1 .1) (c .before .if1 .left) ∙ ap (λ (r : Stepped). gives r (s .store .now)) (sym (c .goes2 .ensures))
+    keeps-over (s .store .now) (p .0) (s .length) (s .x) (s .message) (p .1 .0) (p .1 .1) (c .before .if1 .left)
+    ∙ ap (λ (r : Stepped). gives r (s .store .now)) (sym (c .goes2 .ensures))
 
 pub adds-spec : {M : Type 1} → statement M
 adds-spec =

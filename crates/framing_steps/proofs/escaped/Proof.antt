@@ -18,7 +18,12 @@ returns c =
     let a = c .before .before .before .args in
     let p = c .before .before .before .pre in
     let t = a .store .now in
-    simp (ne-eqb (a .b) 0xfe (λ e. omega (arith, e, c .before .if1 .taken)), ne-eqb (a .b) 0xff (λ e. omega (arith, e, c .before .if1 .taken)), lt-ltb (a .b) 0xd8 (c .before .if1 .taken)) (keeps-goes t (p .0) (BadByte (a .length)) (a .message) (p .1 .0) (p .1 .1) ∙ gives-same (sym (c .goes .ensures)) refl)
+    simp (
+      ne-eqb (a .b) 0xfe (λ e. omega (arith, e, c .before .if1 .taken)),
+      ne-eqb (a .b) 0xff (λ e. omega (arith, e, c .before .if1 .taken)),
+      lt-ltb (a .b) 0xd8 (c .before .if1 .taken),
+    )
+    (keeps-goes t (p .0) (BadByte (a .length)) (a .message) (p .1 .0) (p .1 .1) ∙ gives-same (sym (c .goes .ensures)) refl)
 
 adds-requires : tie.Need-adds-requires
 adds-requires c κs = search needs
@@ -32,7 +37,12 @@ returns-2 c =
     let a = c .before .before .before .before .before .before .before .args in
     let p = c .before .before .before .before .before .before .before .pre in
     let t = a .store .now in
-    simp (ne-eqb (a .b) 0xfe (λ e. omega (arith, e, c .before .before .before .before .if2 .taken)), ne-eqb (a .b) 0xff (λ e. omega (arith, e, c .before .before .before .before .if2 .taken)), le-ltb (a .b) 0xd8 (c .before .before .before .before .before .if1 .left), le-ltb 0xdf (a .b) (c .before .before .before .before .if2 .taken)) (c .before .before .adds .ensures)
+    simp (
+      ne-eqb (a .b) 0xfe (λ e. omega (arith, e, c .before .before .before .before .if2 .taken)),
+      ne-eqb (a .b) 0xff (λ e. omega (arith, e, c .before .before .before .before .if2 .taken)),
+      le-ltb (a .b) 0xd8 (c .before .before .before .before .before .if1 .left),
+      le-ltb 0xdf (a .b) (c .before .before .before .before .if2 .taken),
+    ) (c .before .before .adds .ensures)
 
 refuses-requires : tie.Need-refuses-requires
 refuses-requires c κs = search needs
@@ -43,7 +53,8 @@ returns-3 c =
     let a = c .before .before .before .before .before .args in
     let p = c .before .before .before .before .before .pre in
     let t = a .store .now in
-    simp (eq-eqb (a .b) 0xfe (c .before .if3 .taken)) (keeps-refuses t (p .0) (Inside 0) (a .message) (omega arith) (p .1 .1) Cut ∙ gives-same (sym (c .refuses .ensures)) refl)
+    simp (eq-eqb (a .b) 0xfe (c .before .if3 .taken))
+    (keeps-refuses t (p .0) (Inside 0) (a .message) (omega arith) (p .1 .1) Cut ∙ gives-same (sym (c .refuses .ensures)) refl)
 
 refuses-requires-2 : tie.Need-refuses-requires-2
 refuses-requires-2 c κs = search needs
@@ -54,7 +65,8 @@ returns-4 c =
     let a = c .before .before .before .before .before .before .args in
     let p = c .before .before .before .before .before .before .pre in
     let t = a .store .now in
-    simp (ne-eqb (a .b) 0xfe (c .before .before .if3 .left), eq-eqb (a .b) 0xff (c .before .if4 .taken)) (keeps-refuses t (p .0) Outside (a .message) (omega arith) (p .1 .1) Escape ∙ gives-same (sym (c .refuses2 .ensures)) refl)
+    simp (ne-eqb (a .b) 0xfe (c .before .before .if3 .left), eq-eqb (a .b) 0xff (c .before .if4 .taken))
+    (keeps-refuses t (p .0) Outside (a .message) (omega arith) (p .1 .1) Escape ∙ gives-same (sym (c .refuses2 .ensures)) refl)
 
 goes-requires-2 : tie.Need-goes-requires-2
 goes-requires-2 c κs = search needs
@@ -65,7 +77,13 @@ returns-5 c =
     let a = c .before .before .before .before .before .before .args in
     let p = c .before .before .before .before .before .before .pre in
     let t = a .store .now in
-    simp (ne-eqb (a .b) 0xfe (c .before .before .if3 .left), ne-eqb (a .b) 0xff (c .before .if4 .left), le-ltb (a .b) 0xd8 (c .before .before .before .before .if1 .left), lt-ltb 0xdf (a .b) (c .before .before .before .if2 .left)) (keeps-goes t (p .0) (BadByte (a .length)) (a .message) (p .1 .0) (p .1 .1) ∙ gives-same (sym (c .goes2 .ensures)) refl)
+    simp (
+      ne-eqb (a .b) 0xfe (c .before .before .if3 .left),
+      ne-eqb (a .b) 0xff (c .before .if4 .left),
+      le-ltb (a .b) 0xd8 (c .before .before .before .before .if1 .left),
+      lt-ltb 0xdf (a .b) (c .before .before .before .if2 .left),
+    )
+    (keeps-goes t (p .0) (BadByte (a .length)) (a .message) (p .1 .0) (p .1 .1) ∙ gives-same (sym (c .goes2 .ensures)) refl)
 
 pub escaped-spec : {M : Type 1} → statement M
 escaped-spec =

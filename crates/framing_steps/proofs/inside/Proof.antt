@@ -23,7 +23,12 @@ returns c =
     let a = c .before .before .before .before .before .before .args in
     let p = c .before .before .before .before .before .before .pre in
     let t = a .store .now in
-    simp (ne-eqb (a .b) 254 (λ e. omega (arith, e, c .before .before .before .before .if1 .taken)), ne-eqb (a .b) 255 (λ e. omega (arith, e, c .before .before .before .before .if1 .taken)), ne-eqb (a .b) 253 (λ e. omega (arith, e, c .before .before .before .before .if1 .taken)), lt-leb 0xf8 (a .b) (c .before .before .before .before .if1 .taken)) (c .before .before .adds .ensures)
+    simp (
+      ne-eqb (a .b) 254 (λ e. omega (arith, e, c .before .before .before .before .if1 .taken)),
+      ne-eqb (a .b) 255 (λ e. omega (arith, e, c .before .before .before .before .if1 .taken)),
+      ne-eqb (a .b) 253 (λ e. omega (arith, e, c .before .before .before .before .if1 .taken)),
+      lt-leb 0xf8 (a .b) (c .before .before .before .before .if1 .taken),
+    ) (c .before .before .adds .ensures)
 
 goes-requires : tie.Need-goes-requires
 goes-requires c κs = search needs
@@ -34,7 +39,12 @@ returns-2 c =
     let a = c .before .before .before .before .args in
     let p = c .before .before .before .before .pre in
     let t = a .store .now in
-    simp (ne-eqb (a .b) 254 (λ e. omega (arith, e, c .before .if2 .taken)), ne-eqb (a .b) 255 (λ e. omega (arith, e, c .before .if2 .taken)), eq-eqb (a .b) 0xfd (c .before .if2 .taken)) (keeps-goes t (p .0) (Escaped (a .length)) (a .message) (p .1 .0) (p .1 .1) ∙ ap (λ (r : Stepped). gives r t) (sym (c .goes .ensures)))
+    simp (
+      ne-eqb (a .b) 254 (λ e. omega (arith, e, c .before .if2 .taken)),
+      ne-eqb (a .b) 255 (λ e. omega (arith, e, c .before .if2 .taken)),
+      eq-eqb (a .b) 0xfd (c .before .if2 .taken),
+    )
+    (keeps-goes t (p .0) (Escaped (a .length)) (a .message) (p .1 .0) (p .1 .1) ∙ ap (λ (r : Stepped). gives r t) (sym (c .goes .ensures)))
 
 end-frame-requires : tie.Need-end-frame-requires
 end-frame-requires c κs = search needs
@@ -48,7 +58,12 @@ returns-3 c =
     let a = c .before .before .before .before .before .before .before .before .args in
     let p = c .before .before .before .before .before .before .before .before .pre in
     let t = a .store .now in
-    simp (ne-eqb (a .b) 254 (λ e. omega (arith, e, c .before .before .before .before .if3 .taken)), eq-eqb (a .b) 0xff (c .before .before .before .before .if3 .taken)) (unless-legal (insideOf (a .length) (a .message)) t (record { room = p .0; frame = p .1 .0; message = p .1 .1 }) (c .before .before .end-frame .ensures))
+    simp (
+      ne-eqb (a .b) 254 (λ e. omega (arith, e, c .before .before .before .before .if3 .taken)),
+      eq-eqb (a .b) 0xff (c .before .before .before .before .if3 .taken),
+    )
+    (unless-legal (insideOf (a .length) (a .message)) t (record { room = p .0; frame = p .1 .0; message = p .1 .1 })
+    (c .before .before .end-frame .ensures))
 
 goes-requires-2 : tie.Need-goes-requires-2
 goes-requires-2 c κs = search needs
@@ -59,7 +74,8 @@ returns-4 c =
     let a = c .before .before .before .before .before .before .before .args in
     let p = c .before .before .before .before .before .before .before .pre in
     let t = a .store .now in
-    simp (eq-eqb (a .b) 0xfe (c .before .before .if4 .taken), eq-eqb _ 0 (content-length t (p .0) (a .length) (p .1 .0) ∙ c .before .if5 .taken)) (keeps-goes t (p .0) (Inside 0) (a .message) (omega arith) (p .1 .1) ∙ ap (λ (r : Stepped). gives r t) (sym (c .goes2 .ensures)))
+    simp (eq-eqb (a .b) 0xfe (c .before .before .if4 .taken), eq-eqb _ 0 (content-length t (p .0) (a .length) (p .1 .0) ∙ c .before .if5 .taken))
+    (keeps-goes t (p .0) (Inside 0) (a .message) (omega arith) (p .1 .1) ∙ ap (λ (r : Stepped). gives r t) (sym (c .goes2 .ensures)))
 
 refuses-requires : tie.Need-refuses-requires
 refuses-requires c κs = search needs
@@ -70,7 +86,11 @@ returns-5 c =
     let a = c .before .before .before .before .before .before .before .args in
     let p = c .before .before .before .before .before .before .before .pre in
     let t = a .store .now in
-    simp (eq-eqb (a .b) 0xfe (c .before .before .if4 .taken), ne-eqb _ 0 (λ e. c .before .if5 .left (sym (content-length t (p .0) (a .length) (p .1 .0)) ∙ e))) (keeps-refuses t (p .0) (Inside 0) (a .message) (omega arith) (p .1 .1) Cut ∙ ap (λ (r : Stepped). gives r t) (sym (c .refuses .ensures)))
+    simp (
+      eq-eqb (a .b) 0xfe (c .before .before .if4 .taken),
+      ne-eqb _ 0 (λ e. c .before .if5 .left (sym (content-length t (p .0) (a .length) (p .1 .0)) ∙ e)),
+    )
+    (keeps-refuses t (p .0) (Inside 0) (a .message) (omega arith) (p .1 .1) Cut ∙ ap (λ (r : Stepped). gives r t) (sym (c .refuses .ensures)))
 
 goes-requires-3 : tie.Need-goes-requires-3
 goes-requires-3 c κs = search needs
@@ -81,7 +101,13 @@ returns-6 c =
     let a = c .before .before .before .before .before .before .args in
     let p = c .before .before .before .before .before .before .pre in
     let t = a .store .now in
-    simp (ne-eqb _ _ (c .before .if4 .left), ne-eqb _ _ (c .before .before .if3 .left), ne-eqb _ _ (c .before .before .before .if2 .left), le-leb 0xf8 (a .b) (c .before .before .before .before .if1 .left)) (keeps-goes t (p .0) (BadByte (a .length)) (a .message) (p .1 .0) (p .1 .1) ∙ ap (λ (r : Stepped). gives r t) (sym (c .goes3 .ensures)))
+    simp (
+      ne-eqb _ _ (c .before .if4 .left),
+      ne-eqb _ _ (c .before .before .if3 .left),
+      ne-eqb _ _ (c .before .before .before .if2 .left),
+      le-leb 0xf8 (a .b) (c .before .before .before .before .if1 .left),
+    )
+    (keeps-goes t (p .0) (BadByte (a .length)) (a .message) (p .1 .0) (p .1 .1) ∙ ap (λ (r : Stepped). gives r t) (sym (c .goes3 .ensures)))
 
 pub inside-spec : {M : Type 1} → statement M
 inside-spec =

@@ -21,13 +21,15 @@ use Rattle.framing_steps.proofs.takes.Statement.{statement}
 use Rattle.framing_steps.proofs.takes.Tie as tie
 
 -- the step where the session's frame is known
-at-frame : (s : Session) (f : Frame) (b : ℕ) (t : List ℕ) → s .frame ≡ f → keeps (step (stateOf s t) b) t ≡ keeps (inPlace (placeOf f t) (messageOf (s .message) t) b) t
+at-frame : (s : Session) (f : Frame) (b : ℕ) (t : List ℕ) → s .frame ≡ f → keeps (step (stateOf s t) b) t
+    ≡ keeps (inPlace (placeOf f t) (messageOf (s .message) t) b) t
 unfolding step
 at-frame s f b t e = ap (λ (f : Frame). keeps (inPlace (placeOf f t) (messageOf (s .message) t) b) t) e
 
 -- .. and has a fault
 at-fault : (s : Session) (x : Fault) (f : Frame) (b : ℕ) (t : List ℕ) (r : Stepped) → length t ≡ storeLength → frameLength (s .frame) ≤ contentLimit
-    → messageLength (s .message) ≤ messageLimit → s .frame ≡ f → inPlace (placeOf f t) (messageOf (s .message) t) b ≡ faulted x (placeOf f t) (messageOf (s .message) t) b
+    → messageLength (s .message) ≤ messageLimit → s .frame ≡ f → inPlace (placeOf f t) (messageOf (s .message) t) b
+    ≡ faulted x (placeOf f t) (messageOf (s .message) t) b
     → r ≡ pastFault x (s .frame) b (s .message) → keeps (step (stateOf s t) b) t ≡ gives r t
 at-fault s x f b t r room hf hm e i k =
     at-frame s f b t e
@@ -111,7 +113,8 @@ returns-3 c =
     let t = a .store .now in
     let m = a .session .message in
     at-frame (a .session) Outside (a .b) t (c .before .before .enum-told .given .1)
-    ∙ simp (ne-eqb (a .b) 0xfe (c .before .if1 .left)) (keeps-refuses t (p .0) Frame.Stray m (omega arith) (p .1 .1) Fault.Stray ∙ gives-same (sym (c .refuses .ensures)) refl)
+    ∙ simp (ne-eqb (a .b) 0xfe (c .before .if1 .left))
+    (keeps-refuses t (p .0) Frame.Stray m (omega arith) (p .1 .1) Fault.Stray ∙ gives-same (sym (c .refuses .ensures)) refl)
 
 returns-4 : tie.Need-returns-4
 unfolding inPlace
@@ -121,33 +124,41 @@ returns-4 c =
     let t = a .store .now in
     let m = a .session .message in
     at-frame (a .session) Frame.Stray (a .b) t (c .before .before .enum-told2 .given .1)
-    ∙ simp (ne-eqb (a .b) 0xfe (c .before .if2 .left)) (keeps-goes t (p .0) Frame.Stray m (omega arith) (p .1 .1) ∙ gives-same (sym (c .goes3 .ensures ∙ ap (λ (f : Frame). going f m) (c .before .before .enum-told2 .given .1))) refl)
+    ∙ simp (ne-eqb (a .b) 0xfe (c .before .if2 .left))
+    (keeps-goes t (p .0) Frame.Stray m (omega arith) (p .1 .1)
+    ∙ gives-same (sym (c .goes3 .ensures ∙ ap (λ (f : Frame). going f m) (c .before .before .enum-told2 .given .1))) refl)
 
 same-length : tie.Need-same-length
 same-length c = search needs
 
 returns-5 : tie.Need-returns-5
-returns-5 c = let a = c .before .before .before .before .before .before .before .before .args in at-frame (a .session) (Inside (c .before .before .before .before .before .frame .given .0 .0)) (a .b) (a .store .now) (c .before .before .before .before .before .frame .given .1) ∙ c .before .before .inside .ensures
+returns-5 c = let a = c .before .before .before .before .before .before .before .before .args in
+    at-frame (a .session) (Inside (c .before .before .before .before .before .frame .given .0 .0)) (a .b) (a .store .now)
+    (c .before .before .before .before .before .frame .given .1) ∙ c .before .before .inside .ensures
 
 same-length-2 : tie.Need-same-length-2
 same-length-2 c = search needs
 
 returns-6 : tie.Need-returns-6
-returns-6 c = let a = c .before .before .before .before .before .before .before .before .args in at-frame (a .session) (Escaped (c .before .before .before .before .before .frame2 .given .0 .0)) (a .b) (a .store .now) (c .before .before .before .before .before .frame2 .given .1) ∙ c .before .before .escaped .ensures
+returns-6 c = let a = c .before .before .before .before .before .before .before .before .args in
+    at-frame (a .session) (Escaped (c .before .before .before .before .before .frame2 .given .0 .0)) (a .b) (a .store .now)
+    (c .before .before .before .before .before .frame2 .given .1) ∙ c .before .before .escaped .ensures
 
 returns-7 : tie.Need-returns-7
 unfolding inPlace
 returns-7 c =
     let a = c .before .before .before .before .args in
     let p = c .before .before .before .before .pre in
-    at-fault (a .session) Byte (BadByte (c .before .enum-told3 .given .0 .0)) (a .b) (a .store .now) (c .faulted .result) (p .0) (p .1 .0) (p .1 .1) (c .before .enum-told3 .given .1) refl (c .faulted .ensures)
+    at-fault (a .session) Byte (BadByte (c .before .enum-told3 .given .0 .0)) (a .b) (a .store .now) (c .faulted .result) (p .0) (p .1 .0) (p .1 .1)
+    (c .before .enum-told3 .given .1) refl (c .faulted .ensures)
 
 returns-8 : tie.Need-returns-8
 unfolding inPlace
 returns-8 c =
     let a = c .before .before .before .before .args in
     let p = c .before .before .before .before .pre in
-    at-fault (a .session) Long (TooLong (c .before .enum-told4 .given .0 .0)) (a .b) (a .store .now) (c .faulted2 .result) (p .0) (p .1 .0) (p .1 .1) (c .before .enum-told4 .given .1) refl (c .faulted2 .ensures)
+    at-fault (a .session) Long (TooLong (c .before .enum-told4 .given .0 .0)) (a .b) (a .store .now) (c .faulted2 .result) (p .0) (p .1 .0) (p .1 .1)
+    (c .before .enum-told4 .given .1) refl (c .faulted2 .ensures)
 
 pub takes-spec : {M : Type 1} → statement M
 takes-spec =

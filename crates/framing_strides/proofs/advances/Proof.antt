@@ -15,8 +15,11 @@ enum-known-frame c = search needs
 
 fills-requires : tie.Need-fills-requires
 fills-requires c κs =
-    let a = c .before .before .before .before .before .before .args in
-    (subst (λ (f : Frame). Legal (record { frame = f; message = a .session .message }) (a .store .now)) (c .before .before .frame .given .1) (c .before .before .before .before .before .before .pre .0), c .before .before .before .before .before .before .pre .1)
+    let a = c .before .before .before .before .before .before .args in (
+      subst (λ (f : Frame). Legal (record { frame = f; message = a .session .message }) (a .store .now)) (c .before .before .frame .given .1)
+          (c .before .before .before .before .before .before .pre .0),
+      c .before .before .before .before .before .before .pre .1,
+    )
 
 enum-told : tie.Need-enum-told
 enum-told c = search needs
@@ -29,14 +32,22 @@ enum-told-2 c = search needs
 
 skips-requires-2 : tie.Need-skips-requires-2
 unfolding inPlace
-skips-requires-2 c κs = (stays-fault (c .before .before .before .before .args .session) Byte (BadByte (c .enum-told2 .given .0 .0)) (c .enum-told2 .given .1) (λ t b. refl), c .before .before .before .before .pre .1)
+skips-requires-2 c κs = (
+  stays-fault (c .before .before .before .before .args .session) Byte (BadByte (c .enum-told2 .given .0 .0))
+      (c .enum-told2 .given .1) (λ t b. refl),
+  c .before .before .before .before .pre .1,
+)
 
 enum-told-3 : tie.Need-enum-told-3
 enum-told-3 c = search needs
 
 skips-requires-3 : tie.Need-skips-requires-3
 unfolding inPlace
-skips-requires-3 c κs = (stays-fault (c .before .before .before .before .args .session) Long (TooLong (c .enum-told3 .given .0 .0)) (c .enum-told3 .given .1) (λ t b. refl), c .before .before .before .before .pre .1)
+skips-requires-3 c κs = (
+  stays-fault (c .before .before .before .before .args .session) Long (TooLong (c .enum-told3 .given .0 .0))
+      (c .enum-told3 .given .1) (λ t b. refl),
+  c .before .before .before .before .pre .1,
+)
 
 enum-told-4 : tie.Need-enum-told-4
 enum-told-4 c = search needs
@@ -50,7 +61,8 @@ same-length c = search needs
 returns : tie.Need-returns
 returns c =
     let a = c .before .before .before .before .before .before .before .before .before .args in
-    subst (λ (f : Frame). Reaches (a .chunk .now) (a .from) (record { frame = f; message = a .session .message }) (a .store .now) (c .before .before .fills .result .at) (c .before .before .fills .result .session) (c .before .before .fills .last .1 .1 .1 .0))
+    subst (λ (f : Frame). Reaches (a .chunk .now) (a .from) (record { frame = f; message = a .session .message }) (a .store .now)
+    (c .before .before .fills .result .at) (c .before .before .fills .result .session) (c .before .before .fills .last .1 .1 .1 .0))
     (sym (c .before .before .before .before .before .frame .given .1)) (c .before .before .fills .ensures)
 
 returns-2 : tie.Need-returns-2

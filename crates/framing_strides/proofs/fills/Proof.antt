@@ -19,7 +19,8 @@ abbrev μ-loop : tie.MeasureT-loop
 μ-loop length message from store₀ chunk n₀ i₀ store n i = lib.ListN.length chunk - i
 
 loop-holds : tie.Need-loop-holds Inv-loop μ-loop
-loop-holds c = let a = c .before .before .args in reaches-here (a .chunk .now) (a .from) (arriving (a .length) (a .message) (a .from) .session) (a .store .now) (c .before .before .pre .0) (c .before .before .pre .1)
+loop-holds c = let a = c .before .before .args in reaches-here (a .chunk .now) (a .from) (arriving (a .length) (a .message) (a .from) .session)
+    (a .store .now) (c .before .before .pre .0) (c .before .before .pre .1)
 
 shared-slice-read-b : tie.Need-shared-slice-read-b Inv-loop μ-loop
 shared-slice-read-b c = omega arith
@@ -52,13 +53,15 @@ loop-again : tie.Need-loop-again Inv-loop μ-loop
 loop-again c =
     let l = c .before .before .before .before .loop in
     let a = c .before .before .before .before .before .before .before .args in
-    reaches-on (l .inv) (reaches-ordinary (a .chunk .now) (l .i) (l .n) (a .message) (l .store) (l .inv .legal) (c .before .before .before .loop-test .taken) (c .before .if1 .left) (c .if2 .taken))
+    reaches-on (l .inv) (reaches-ordinary (a .chunk .now) (l .i) (l .n) (a .message) (l .store) (l .inv .legal)
+    (c .before .before .before .loop-test .taken) (c .before .if1 .left) (c .if2 .taken))
 
 arrives-requires-2 : tie.Need-arrives-requires-2 Inv-loop μ-loop
 arrives-requires-2 c κs = search needs
 
 same-length-2 : tie.Need-same-length-2 Inv-loop μ-loop
-same-length-2 c = c .before .before .before .before .before .before .loop .inv .legal .room ∙ sym (c .before .before .before .before .before .before .before .before .before .pre .0 .room)
+same-length-2 c = c .before .before .before .before .before .before .loop .inv .legal .room
+    ∙ sym (c .before .before .before .before .before .before .before .before .before .pre .0 .room)
 
 returns-2 : tie.Need-returns-2 Inv-loop μ-loop
 returns-2 c = reaches-as (c .arrives2 .ensures) (c .before .before .before .before .before .before .loop .inv)
@@ -70,7 +73,8 @@ arrives-requires-3 : tie.Need-arrives-requires-3 Inv-loop μ-loop
 arrives-requires-3 c κs = search needs
 
 same-length-3 : tie.Need-same-length-3 Inv-loop μ-loop
-same-length-3 c = c .before .before .before .before .before .before .before .loop .inv .legal .room ∙ sym (c .before .before .before .before .before .before .before .before .before .before .pre .0 .room)
+same-length-3 c = c .before .before .before .before .before .before .before .loop .inv .legal .room
+    ∙ sym (c .before .before .before .before .before .before .before .before .before .before .pre .0 .room)
 
 returns-3 : tie.Need-returns-3 Inv-loop μ-loop
 returns-3 c = reaches-as (c .arrives3 .ensures) (c .before .before .before .before .before .before .before .loop .inv)
@@ -82,7 +86,8 @@ arrives-requires-4 : tie.Need-arrives-requires-4 Inv-loop μ-loop
 arrives-requires-4 c κs = search needs
 
 same-length-4 : tie.Need-same-length-4 Inv-loop μ-loop
-same-length-4 c = c .before .before .before .before .before .before .before .before .before .loop .inv .legal .room ∙ sym (c .before .before .before .before .before .before .before .before .before .before .before .before .pre .0 .room)
+same-length-4 c = c .before .before .before .before .before .before .before .before .before .loop .inv .legal .room
+    ∙ sym (c .before .before .before .before .before .before .before .before .before .before .before .before .pre .0 .room)
 
 returns-4 : tie.Need-returns-4 Inv-loop μ-loop
 returns-4 c = reaches-as (c .arrives4 .ensures) (c .before .before .before .before .before .before .before .before .before .loop .inv)
@@ -91,7 +96,8 @@ arrives-requires-5 : tie.Need-arrives-requires-5 Inv-loop μ-loop
 arrives-requires-5 c κs = search needs
 
 same-length-5 : tie.Need-same-length-5 Inv-loop μ-loop
-same-length-5 c = c .before .before .before .before .before .before .before .before .before .before .loop .inv .legal .room ∙ sym (c .before .before .before .before .before .before .before .before .before .before .before .before .before .pre .0 .room)
+same-length-5 c = c .before .before .before .before .before .before .before .before .before .before .loop .inv .legal .room
+    ∙ sym (c .before .before .before .before .before .before .before .before .before .before .before .before .before .pre .0 .room)
 
 returns-5 : tie.Need-returns-5 Inv-loop μ-loop
 returns-5 c = reaches-as (c .arrives5 .ensures) (c .before .before .before .before .before .before .before .before .before .before .loop .inv)
@@ -112,7 +118,8 @@ loop-again-2 : tie.Need-loop-again-2 Inv-loop μ-loop
 loop-again-2 c =
     let l = c .before .before .before .before .before .before .before .before .before .loop in
     let a = c .before .before .before .before .before .before .before .before .before .before .before .before .args in
-    reaches-on (l .inv) (reaches-escape (a .chunk .now) (l .i) (l .n) (a .message) (l .store) (l .inv .legal) (c .before .before .before .if4 .left) (c .before .before .before .before .before .before .if1 .left) (c .before .before .before .before .if3 .left) (c .before .if5 .left) (c .if6 .left))
+    reaches-on (l .inv) (reaches-escape (a .chunk .now) (l .i) (l .n) (a .message) (l .store) (l .inv .legal) (c .before .before .before .if4 .left)
+    (c .before .before .before .before .before .before .if1 .left) (c .before .before .before .before .if3 .left) (c .before .if5 .left) (c .if6 .left))
 
 arrives-requires-6 : tie.Need-arrives-requires-6 Inv-loop μ-loop
 arrives-requires-6 c κs = search needs

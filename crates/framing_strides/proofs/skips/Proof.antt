@@ -27,7 +27,8 @@ returns : tie.Need-returns Inv-loop μ-loop
 returns c = λ t l. c .before .before .before .loop .inv .1 .1 (c .before .before .before .before .args .session) t (c .before .before .before .before .pre .0) l
 
 returns-2 : tie.Need-returns-2 Inv-loop μ-loop
-returns-2 c = λ t l. c .before .before .before .before .loop .inv .1 .1 (c .before .before .before .before .before .args .session) t (c .before .before .before .before .before .pre .0) l
+returns-2 c = λ t l. c .before .before .before .before .loop .inv .1 .1 (c .before .before .before .before .before .args .session) t
+    (c .before .before .before .before .before .pre .0) l
 
 add-at : tie.Need-add-at Inv-loop μ-loop
 add-at c = omega arith
@@ -38,8 +39,14 @@ loop-less c = omega arith
 loop-again : tie.Need-loop-again Inv-loop μ-loop
 loop-again c =
     let l = c .before .before .before .before .loop in
-    let a = c .before .before .before .before .before .args in
-    (omega arith, (omega arith, λ s t stays legal. reaches-on (l .inv .1 .1 s t stays legal) (reaches-past (a .chunk .now) (l .at) (a .other) s t stays legal (c .before .before .before .loop-test .taken) (c .before .if1 .left) (c .if2 .left))))
+    let a = c .before .before .before .before .before .args in (
+      omega arith,
+      (
+        omega arith,
+        λ s t stays legal. reaches-on (l .inv .1 .1 s t stays legal)
+            (reaches-past (a .chunk .now) (l .at) (a .other) s t stays legal (c .before .before .before .loop-test .taken) (c .before .if1 .left) (c .if2 .left)),
+      ),
+    )
 
 returns-3 : tie.Need-returns-3 Inv-loop μ-loop
 returns-3 c = λ t l. c .before .loop .inv .1 .1 (c .before .before .args .session) t (c .before .before .pre .0) l

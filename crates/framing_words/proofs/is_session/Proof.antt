@@ -29,7 +29,10 @@ is-pending-requires c κs = search needs
 
 returns-2 : tie.Need-returns-2
 unfolding isSession
-returns-2 c = simp (eq-eqb _ _ (c .before .before .before .before .before .before .before .if1 .left), sym (c .before .before .before .before .is-frame .ensures) ∙ c .before .before .before .if2 .taken) (c .is-pending .ensures)
+returns-2 c = simp (
+  eq-eqb _ _ (c .before .before .before .before .before .before .before .if1 .left),
+  sym (c .before .before .before .before .is-frame .ensures) ∙ c .before .before .before .if2 .taken,
+) (c .is-pending .ensures)
 
 returns-3 : tie.Need-returns-3
 unfolding isSession

@@ -36,7 +36,16 @@ returns c =
     let the-word-at4 = c .before .before .word-at4 in
     let the-index2 = c .before .index2 in
     let the-pending-at = c .pending-at in
-    rw (the-pending-at .ensures, the-index2 .ensures, the-word-at4 .ensures, the-word-at3 .ensures, the-frame-at .ensures, the-index .ensures, the-word-at2 .ensures, the-word-at .ensures)
+    rw (
+      the-pending-at .ensures,
+      the-index2 .ensures,
+      the-word-at4 .ensures,
+      the-word-at3 .ensures,
+      the-frame-at .ensures,
+      the-index .ensures,
+      the-word-at2 .ensures,
+      the-word-at .ensures,
+    )
 
 pub session-at-spec : {M : Type 1} → statement M
 session-at-spec =

@@ -20,8 +20,11 @@ same-length c = search needs
 
 returns : tie.Need-returns
 returns c =
-    let h = c .before .before .before .before .before .before .before .before .if1 .taken in
-    (rw (escape-high _ h) (wrote-then _ _ _ _ (c .before .before .before .before .before .before .put .ensures .0 (omega arith)) ∙ c .before .before .put2 .ensures .0 (omega arith)), omega arith)
+    let h = c .before .before .before .before .before .before .before .before .if1 .taken in (
+      rw (escape-high _ h) (wrote-then _ _ _ _ (c .before .before .before .before .before .before .put .ensures .0 (omega arith))
+          ∙ c .before .before .put2 .ensures .0 (omega arith)),
+      omega arith,
+    )
 
 same-length-2 : tie.Need-same-length-2
 same-length-2 c = search needs

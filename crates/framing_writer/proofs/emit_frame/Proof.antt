@@ -62,8 +62,25 @@ returns c =
           ∙ wrote-then _ _ _ _ (x .emit-escaped .ensures .0)
           ∙ wrote-then _ _ _ _ (y .emit-escaped2 .ensures .0)
           ∙ z .put2 .ensures .0
-          (omega (arith, start .pre, u .put .ensures .1, v .emit-slice .ensures .1, w .emit-slice2 .ensures .1, x .emit-escaped .ensures .1, y .emit-escaped2 .ensures .1))),
-      omega (arith, start .pre, u .put .ensures .1, v .emit-slice .ensures .1, w .emit-slice2 .ensures .1, x .emit-escaped .ensures .1, y .emit-escaped2 .ensures .1, z .put2 .ensures .1),
+          (omega (
+            arith,
+            start .pre,
+            u .put .ensures .1,
+            v .emit-slice .ensures .1,
+            w .emit-slice2 .ensures .1,
+            x .emit-escaped .ensures .1,
+            y .emit-escaped2 .ensures .1,
+          ))),
+      omega (
+        arith,
+        start .pre,
+        u .put .ensures .1,
+        v .emit-slice .ensures .1,
+        w .emit-slice2 .ensures .1,
+        x .emit-escaped .ensures .1,
+        y .emit-escaped2 .ensures .1,
+        z .put2 .ensures .1,
+      ),
     )
 
 pub emit-frame-spec : {M : Type 1} → statement M

@@ -14,7 +14,8 @@ use Rattle.framing_writer.proofs.emit_message.Tie as tie
 abbrev Inv-loop : tie.InvT-loop
 Inv-loop out₀ message at₀ from₀ first₀ out at from first =
     (from ≤ length message) × ((at ≤ 3 * from) × ((length out ≡ length out₀)
-    × (wrote out₀ 0 (packets (earlier (length message)) true message) ≡ wrote out at (packets (earlier (length (drop from message))) first (drop from message)))))
+    × (wrote out₀ 0 (packets (earlier (length message)) true message)
+    ≡ wrote out at (packets (earlier (length (drop from message))) first (drop from message)))))
 
 abbrev μ-loop : tie.MeasureT-loop
 μ-loop out₀ message at₀ from₀ first₀ out at from first = length message - from
@@ -47,8 +48,17 @@ loop-again : tie.Need-loop-again Inv-loop μ-loop
 loop-again c =
     let l = c .before .before .before .before .before .before .loop in
     let e = c .before .before .emit-packet in
-    let m = c .before .before .before .before .before .before .before .before .before .args .message .now in
-    (omega arith, (omega arith, (e .kept .0 ∙ l .inv .1 .1 .0, l .inv .1 .1 .1 ∙ rw (packets-next (l .first) m (l .from) (c .before .before .before .before .before .loop-test .taken)) (wrote-then _ _ _ _ (e .ensures .0)))))
+    let m = c .before .before .before .before .before .before .before .before .before .args .message .now in (
+      omega arith,
+      (
+        omega arith,
+        (
+          e .kept .0 ∙ l .inv .1 .1 .0,
+          l .inv .1 .1 .1
+              ∙ rw (packets-next (l .first) m (l .from) (c .before .before .before .before .before .loop-test .taken)) (wrote-then _ _ _ _ (e .ensures .0)),
+        ),
+      ),
+    )
 
 sub-emit-packet-2 : tie.Need-sub-emit-packet-2 Inv-loop μ-loop
 sub-emit-packet-2 c = omega arith
@@ -69,7 +79,8 @@ returns : tie.Need-returns Inv-loop μ-loop
 returns c =
     let l = c .before .before .before .before .before .before .loop in
     let m = c .before .before .before .before .before .before .before .before .before .args .message .now in
-    l .inv .1 .1 .1 ∙ rw (packets-rest (l .first) m (l .from) (c .before .before .before .before .before .loop-test .left)) (c .before .before .emit-packet2 .ensures .0)
+    l .inv .1 .1 .1 ∙ rw (packets-rest (l .first) m (l .from) (c .before .before .before .before .before .loop-test .left))
+    (c .before .before .emit-packet2 .ensures .0)
 
 pub emit-message-spec : {M : Type 1} → statement M
 emit-message-spec =

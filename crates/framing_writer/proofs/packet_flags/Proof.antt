@@ -25,7 +25,12 @@ bit-requires-3 c κs = search needs
 
 add-result-2 : tie.Need-add-result-2
 add-result-2 c =
-    omega (arith, at-most (c .before .before .before .args .first) 128, at-most (c .before .before .before .args .last) 64, at-most (eqb (c .before .before .before .args .length) 0) 32)
+    omega (
+      arith,
+      at-most (c .before .before .before .args .first) 128,
+      at-most (c .before .before .before .args .last) 64,
+      at-most (eqb (c .before .before .before .args .length) 0) 32,
+    )
 
 returns : tie.Need-returns
 returns c = search needs

@@ -24,7 +24,8 @@ same-length : tie.Need-same-length
 same-length c = search needs
 
 returns-2 : tie.Need-returns-2
-returns-2 c = limited-fits _ _ _ _ (c .before .before .before .before .before .before .if1 .left) ∙ into-short _ _ (c .before .before .before .emit-frame .ensures .0) (c .if2 .taken)
+returns-2 c = limited-fits _ _ _ _ (c .before .before .before .before .before .before .if1 .left)
+    ∙ into-short _ _ (c .before .before .before .emit-frame .ensures .0) (c .if2 .taken)
 
 slice-aggregate-emit-frame-3 : tie.Need-slice-aggregate-emit-frame-3
 slice-aggregate-emit-frame-3 c = search needs
@@ -37,7 +38,9 @@ same-length-2 c = search needs
 
 returns-3 : tie.Need-returns-3
 returns-3 c =
-    limited-fits _ _ _ _ (c .before .before .before .before .before .before .before .before .before .before .before .if1 .left) ∙ into-done _ _ (c .before .before .before .before .before .before .before .before .emit-frame .ensures .0) (c .before .before .before .before .before .if2 .left) (c .before .before .emit-frame2 .ensures .0)
+    limited-fits _ _ _ _ (c .before .before .before .before .before .before .before .before .before .before .before .if1 .left)
+    ∙ into-done _ _ (c .before .before .before .before .before .before .before .before .emit-frame .ensures .0)
+    (c .before .before .before .before .before .if2 .left) (c .before .before .emit-frame2 .ensures .0)
 
 pub write-frame-spec : {M : Type 1} → statement M
 write-frame-spec =

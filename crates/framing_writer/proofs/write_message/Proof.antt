@@ -21,7 +21,8 @@ same-length : tie.Need-same-length
 same-length c = search needs
 
 returns-2 : tie.Need-returns-2
-returns-2 c = limited-fits _ _ _ _ (c .before .before .before .before .before .if1 .left) ∙ into-short _ _ (c .before .before .before .emit-message .ensures) (c .if2 .taken)
+returns-2 c = limited-fits _ _ _ _ (c .before .before .before .before .before .if1 .left)
+    ∙ into-short _ _ (c .before .before .before .emit-message .ensures) (c .if2 .taken)
 
 emit-message-requires-2 : tie.Need-emit-message-requires-2
 emit-message-requires-2 c κs = omega arith
@@ -31,7 +32,9 @@ same-length-2 c = search needs
 
 returns-3 : tie.Need-returns-3
 returns-3 c =
-    limited-fits _ _ _ _ (c .before .before .before .before .before .before .before .before .before .if1 .left) ∙ into-done _ _ (c .before .before .before .before .before .before .before .emit-message .ensures) (c .before .before .before .before .if2 .left) (c .before .before .emit-message2 .ensures)
+    limited-fits _ _ _ _ (c .before .before .before .before .before .before .before .before .before .if1 .left)
+    ∙ into-done _ _ (c .before .before .before .before .before .before .before .emit-message .ensures)
+    (c .before .before .before .before .if2 .left) (c .before .before .emit-message2 .ensures)
 
 pub write-message-spec : {M : Type 1} → statement M
 write-message-spec =

@@ -30,14 +30,16 @@ is-same-requires c κs = search needs
 returns-2 : tie.Need-returns-2
 unfolding streamRead
 returns-2 c =
-    rw (ne-eqb _ _ (λ e. c .before .before .before .before .before .if1 .left (ap kindOf (c .before .before .before .before .before .before .before .cell-in .ensures) ∙ e)))
+    rw (ne-eqb _ _ (λ e. c .before .before .before .before .before .if1 .left
+    (ap kindOf (c .before .before .before .before .before .before .before .cell-in .ensures) ∙ e)))
     (told-is _ _ _ _ _ (c .before .before .before .before .stream-at .ensures) (c .before .before .before .stream-row .ensures)
     (c .before .is-same .ensures) (c .if2 .taken))
 
 returns-3 : tie.Need-returns-3
 unfolding streamRead
 returns-3 c =
-    rw (ne-eqb _ _ (λ e. c .before .before .before .before .before .if1 .left (ap kindOf (c .before .before .before .before .before .before .before .cell-in .ensures) ∙ e)))
+    rw (ne-eqb _ _ (λ e. c .before .before .before .before .before .if1 .left
+    (ap kindOf (c .before .before .before .before .before .before .before .cell-in .ensures) ∙ e)))
     (told-other _ _ _ _ _ (c .before .before .before .before .stream-at .ensures) (c .before .before .before .stream-row .ensures)
     (c .before .is-same .ensures) (c .if2 .left))
 

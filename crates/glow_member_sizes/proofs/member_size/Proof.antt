@@ -80,7 +80,8 @@ returns-7 c =
     let the-is-part = c .before .before .before .is-part in
     let the-if6 = c .before .before .if6 in
     let the-if7 = c .if7 in
-    word-long _ _ _ (the-Start .args .least) (the-if4 .left) (the-fits2 .ensures ∙ not-false _ (the-if5 .left)) (the-is-part .ensures ∙ the-if6 .left) (the-if7 .taken)
+    word-long _ _ _ (the-Start .args .least) (the-if4 .left) (the-fits2 .ensures ∙ not-false _ (the-if5 .left)) (the-is-part .ensures ∙ the-if6 .left)
+    (the-if7 .taken)
 
 word-suits-requires : tie.Need-word-suits-requires
 word-suits-requires c κs = search needs
@@ -96,7 +97,8 @@ returns-8 c =
     let the-if7 = c .before .before .if7 in
     let the-word-suits = c .before .word-suits in
     let the-if8 = c .if8 in
-    word-refused _ _ _ (the-Start .args .least) (the-if4 .left) (the-fits2 .ensures ∙ not-false _ (the-if5 .left)) (the-is-part .ensures ∙ the-if6 .left) (the-if7 .left)
+    word-refused _ _ _ (the-Start .args .least) (the-if4 .left) (the-fits2 .ensures ∙ not-false _ (the-if5 .left))
+    (the-is-part .ensures ∙ the-if6 .left) (the-if7 .left)
     (search needs) (the-word-suits .ensures ∙ not-true _ (the-if8 .taken))
 
 word-size-requires : tie.Need-word-size-requires
@@ -122,7 +124,8 @@ returns-9 c =
     let the-word-size = c .before .before .word-size in
     let the-around = c .before .around in
     let the-around2 = c .around2 in
-    word-sized _ _ _ (the-Start .args .least) (the-if4 .left) (the-fits2 .ensures ∙ not-false _ (the-if5 .left)) (the-is-part .ensures ∙ the-if6 .left) (the-if7 .left)
+    word-sized _ _ _ (the-Start .args .least) (the-if4 .left) (the-fits2 .ensures ∙ not-false _ (the-if5 .left)) (the-is-part .ensures ∙ the-if6 .left)
+    (the-if7 .left)
     (search needs) (the-word-suits .ensures ∙ not-false _ (the-if8 .left)) _ _ _ (the-word-size .ensures) (the-around .ensures) (the-around2 .ensures)
 
 pub member-size-spec : {M : Type 1} → statement M

@@ -13,7 +13,8 @@ use Rattle.glow_steps.proofs.Laws.{item-done}
 use Rattle.glow_steps.proofs.Quick.{quick-contents, quick-items, quick-element}
 use Rattle.glow_walk.specs.declared.Cursor.{Cursor}
 use Rattle.glow_walk.specs.Progress.{cursor, TurnOnward, WalkedOnward, Held, MembersLeft, ItemsLeft}
-use Rattle.glow_walk.proofs.Held.{members-begin, members-on, members-end, members-stop, members-ended, ended-onward, turn-done, turn-no, turn-over, turn-leaf}
+use Rattle.glow_walk.proofs.Held.{members-begin, members-on, members-end, members-stop, members-ended, ended-onward, turn-done, turn-no}
+use Rattle.glow_walk.proofs.Held.{turn-over, turn-leaf}
 use Rattle.glow_walk.proofs.Held.{turn-contents, turn-items, items-begin, items-on, items-end, items-stop, item-turn-done, item-turn-no}
 use Rattle.glow_walk.proofs.Held.{turn-element, contents-fill, list-fill, entry-fill}
 use borrow.Fn.Kinds.{In}
@@ -315,7 +316,8 @@ element-loop-again t c =
       enough = u .1 .1 .0;
       later = omega (arith, i .later, u .1 .1 .1);
       same = the-leaf .kept .1 .1 .1 .1 .1 .0 ∙ i .same;
-      held = λ es base e h. members-on _ _ _ _ _ _ (i .held es base e h) (the-leaf .ensures .0 .turned _ _ (the-rule-at .ensures (x .0)) (x .0) (x .1) (omega (arith, i .later, q .0))) (the-next .given .1);
+      held = λ es base e h. members-on _ _ _ _ _ _ (i .held es base e h)
+          (the-leaf .ensures .0 .turned _ _ (the-rule-at .ensures (x .0)) (x .0) (x .1) (omega (arith, i .later, q .0))) (the-next .given .1);
     }
 
 element-enum-known-next-2 : (t : ℕ) → element-lts.Need-enum-known-next-2 (element-calls t) (element-at t) element.Post element-Inv-loop element-μ-loop
@@ -340,7 +342,10 @@ element-returns-2 t c =
     let x = the-is-leaf .ensures .0 (the-if2 .taken) in
     let q = the-Start .pre .1 in
     let u = subst (TurnOnward _ _ _) (the-next2 .given .1) (the-leaf .ensures .1) in (
-      record { filled = λ es base e h. members-end _ _ _ _ _ _ (i .held es base e h) (the-leaf .ensures .0 .turned _ _ (the-rule-at .ensures (x .0)) (x .0) (x .1) (omega (arith, i .later, q .0))) (the-next2 .given .1) },
+      record {
+        filled = λ es base e h. members-end _ _ _ _ _ _ (i .held es base e h)
+            (the-leaf .ensures .0 .turned _ _ (the-rule-at .ensures (x .0)) (x .0) (x .1) (omega (arith, i .later, q .0))) (the-next2 .given .1);
+      },
       (omega (arith, i .onward, u .0), (u .1 .0, omega (arith, i .later, u .1 .1))),
     )
 
@@ -364,8 +369,13 @@ element-returns-3 t c =
     let the-e = c .before .e in
     let i = the-loop .inv in
     let x = the-is-leaf .ensures .0 (the-if2 .taken) in
-    let q = the-Start .pre .1 in
-    (record { filled = λ es base e h. members-stop _ _ _ _ _ _ (i .held es base e h) (the-leaf .ensures .0 .turned _ _ (the-rule-at .ensures (x .0)) (x .0) (x .1) (omega (arith, i .later, q .0))) (the-e .given .1) }, tt)
+    let q = the-Start .pre .1 in (
+      record {
+        filled = λ es base e h. members-stop _ _ _ _ _ _ (i .held es base e h)
+            (the-leaf .ensures .0 .turned _ _ (the-rule-at .ensures (x .0)) (x .0) (x .1) (omega (arith, i .later, q .0))) (the-e .given .1);
+      },
+      tt,
+    )
 
 element-nested-requires : (t : ℕ) → element-lts.Need-nested-requires (element-calls t) (element-at t) element.Post element-Inv-loop element-μ-loop
 element-nested-requires t c κs =
@@ -633,7 +643,8 @@ general-returns-5 t c =
     let the-contents = c .before .before .contents in
     let the-onward = c .onward in
     let w = subst (MemberOnward _ _) (the-before4 .given .1) (the-member-at .ensures .1) in
-    turn-contents _ _ _ _ _ _ (the-member-at .ensures .0 ∙ the-before4 .given .1) (w .0) (w .1) (the-contents .ensures .0) (the-contents .ensures .1) (the-onward .ensures)
+    turn-contents _ _ _ _ _ _ (the-member-at .ensures .0 ∙ the-before4 .given .1) (w .0) (w .1) (the-contents .ensures .0) (the-contents .ensures .1)
+    (the-onward .ensures)
 
 general-same-length-3 : (t : ℕ) → general-lts.Need-same-length-3 (general-calls t) (general-at t) general.Post
 general-same-length-3 t c =
@@ -647,7 +658,8 @@ general-returns-6 t c =
     let the-list = c .before .before .list in
     let the-onward2 = c .onward2 in
     let w = subst (MemberOnward _ _) (the-before5 .given .1) (the-member-at .ensures .1) in
-    turn-items _ _ _ _ _ _ (the-member-at .ensures .0 ∙ the-before5 .given .1) (w .0) (w .1) (the-list .ensures .0) (the-list .ensures .1) (the-onward2 .ensures)
+    turn-items _ _ _ _ _ _ (the-member-at .ensures .0 ∙ the-before5 .given .1) (w .0) (w .1) (the-list .ensures .0) (the-list .ensures .1)
+    (the-onward2 .ensures)
 
 abbrev item-turn-calls : ℕ → item-turn-lts.Claims
 item-turn-calls t = (
@@ -799,7 +811,8 @@ item-turn-returns-5 t c =
     let the-entry2 = c .before .before .entry2 in
     let the-onward2 = c .onward2 in
     let w = subst (ItemOnward _ _) (the-kind .given .1) (the-item-at .ensures .1) in
-    turn-element _ _ _ _ _ _ (the-item-at .ensures .0 ∙ the-kind .given .1) (w .0) (w .1) (the-entry2 .ensures .0) (the-entry2 .ensures .1) (the-onward2 .ensures)
+    turn-element _ _ _ _ _ _ (the-item-at .ensures .0 ∙ the-kind .given .1) (w .0) (w .1) (the-entry2 .ensures .0) (the-entry2 .ensures .1)
+    (the-onward2 .ensures)
 
 abbrev items-calls : ℕ → items-lts.Claims
 items-calls t = (
@@ -1084,7 +1097,8 @@ nested-returns-3 t c =
     let h = q .told (the-if1 .left) in
     let i = h .pair .inside in
     turn-contents _ _ _ _ _ _
-    (quick-contents _ _ _ _ _ _ _ _ h (the-if1 .left) (the-wide .ensures .0) (the-size .ensures) (the-after-listed .ensures .0) (the-opened .ensures) (the-if3 .taken))
+    (quick-contents _ _ _ _ _ _ _ _ h (the-if1 .left) (the-wide .ensures .0) (the-size .ensures) (the-after-listed .ensures .0) (the-opened .ensures)
+    (the-if3 .taken))
     (omega (arith, i)) (omega arith) (the-contents .ensures .0) (the-contents .ensures .1) (the-onward .ensures)
 
 nested-collection-of-requires : (t : ℕ) → nested-lts.Need-collection-of-requires (nested-calls t) (nested-at t) nested.Post

@@ -27,7 +27,8 @@ array-share-prefix-answers c =
     let the-if1 = c .before .before .before .before .before .if1 in
     let the-call = c .before .before .before .call in
     let q = the-Start .pre .0 .1 in
-    done-within _ _ _ _ (the-Start .pre .0 .0) _ _ (the-open .ensures) (the-if1 .left) _ _ _ _ (q .0) (q .1 .0) (q .1 .1) (the-Start .pre .1) (the-call .result) _
+    done-within _ _ _ _ (the-Start .pre .0 .0) _ _ (the-open .ensures) (the-if1 .left) _ _ _ _ (q .0) (q .1 .0) (q .1 .1) (the-Start .pre .1)
+    (the-call .result) _
     (the-call .ensures)
 
 slice-aggregate-first-refused : tie.Need-slice-aggregate-first-refused
@@ -37,7 +38,8 @@ slice-aggregate-first-refused c =
     let the-if1 = c .before .before .before .before .before .before .if1 in
     let the-call = c .before .before .before .before .call in
     let q = the-Start .pre .0 .1 in
-    sym (done-length _ _ _ _ (the-Start .pre .0 .0) _ _ (the-open .ensures) (the-if1 .left) _ _ _ _ (q .0) (q .1 .0) (q .1 .1) (the-Start .pre .1) (the-call .result) _
+    sym (done-length _ _ _ _ (the-Start .pre .0 .0) _ _ (the-open .ensures) (the-if1 .left) _ _ _ _ (q .0) (q .1 .0) (q .1 .1) (the-Start .pre .1)
+    (the-call .result) _
     (the-call .ensures))
 
 first-refused-requires : tie.Need-first-refused-requires
@@ -54,7 +56,8 @@ returns-2 c =
     let the-call = c .before .before .before .before .before .call in
     let the-first-refused = c .first-refused in
     let q = the-Start .pre .0 .1 in
-    opens-done _ _ _ _ (the-Start .pre .0 .0) _ _ (the-open .ensures) (the-if1 .left) _ _ _ _ (q .0) (q .1 .0) (q .1 .1) (the-Start .pre .1) (the-call .result) _
+    opens-done _ _ _ _ (the-Start .pre .0 .0) _ _ (the-open .ensures) (the-if1 .left) _ _ _ _ (q .0) (q .1 .0) (q .1 .1) (the-Start .pre .1)
+    (the-call .result) _
     (the-call .ensures) _ (the-first-refused .ensures)
 
 pub apply-spec : {M : Type 1} → statement M

@@ -42,8 +42,11 @@ loop-again : tie.Need-loop-again Inv-loop μ-loop
 loop-again c =
     let the-Start = c .before .before .before in
     let the-loop = c .before .before .loop in
-    let the-loop-test = c .before .loop-test in
-    (omega arith, ap (λ l. set l (the-loop .i) (getD (the-Start .args .from .now) (the-loop .i) 0)) (the-loop .inv .1) ∙ copy-more _ _ _ (the-loop-test .taken) (the-Start .pre))
+    let the-loop-test = c .before .loop-test in (
+      omega arith,
+      ap (λ l. set l (the-loop .i) (getD (the-Start .args .from .now) (the-loop .i) 0)) (the-loop .inv .1)
+          ∙ copy-more _ _ _ (the-loop-test .taken) (the-Start .pre),
+    )
 
 same-length : tie.Need-same-length Inv-loop μ-loop
 same-length c =

@@ -8,7 +8,8 @@ returns : tie.Need-returns
 returns c =
     let the-Start = c .before .before .before .before .before in
     let the-if1 = c .if1 in
-    hands-refused (the-Start .args .number) (the-Start .args .f) (the-Start .args .numbers .now) (the-Start .args .cells .now) _ _ (λ e. omega (arith, e, the-if1 .taken))
+    hands-refused (the-Start .args .number) (the-Start .args .f) (the-Start .args .numbers .now) (the-Start .args .cells .now) _ _
+    (λ e. omega (arith, e, the-if1 .taken))
 
 copy-words-requires : tie.Need-copy-words-requires
 copy-words-requires c κs =
@@ -32,7 +33,8 @@ returns-2 c =
     let the-if1 = c .before .before .before .before .before .before .before .before .if1 in
     let the-copy-words = c .before .before .before .before .before .before .copy-words in
     let the-copy-bytes = c .before .before .copy-bytes in
-    hands-desk (the-Start .args .number) (the-Start .args .f) (the-Start .args .numbers .now) (the-Start .args .cells .now) _ _ (omega (arith, the-if1 .left)) _ _
+    hands-desk (the-Start .args .number) (the-Start .args .f) (the-Start .args .numbers .now) (the-Start .args .cells .now) _ _
+    (omega (arith, the-if1 .left)) _ _
     (the-copy-words .ensures) (the-copy-bytes .ensures)
 
 pub hand-over-spec : {M : Type 1} → statement M

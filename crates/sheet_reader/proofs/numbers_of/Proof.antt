@@ -11,7 +11,8 @@ use Rattle.sheet_reader.proofs.numbers_of.Statement.{statement}
 use Rattle.sheet_reader.proofs.numbers_of.Tie as tie
 
 abbrev Inv-loop : tie.InvT-loop
-Inv-loop octets list₀ end p₀ k₀ list p k = (xs : List ℕ) × (Left octets p end xs × ((take k list ++ xs ≡ numbersIn octets) × ((length list ≡ length list₀) × (k ≤ 16))))
+Inv-loop octets list₀ end p₀ k₀ list p k = (xs : List ℕ)
+    × (Left octets p end xs × ((take k list ++ xs ≡ numbersIn octets) × ((length list ≡ length list₀) × (k ≤ 16))))
 
 abbrev μ-loop : tie.MeasureT-loop
 μ-loop octets list₀ end p₀ k₀ list p k = end - p
@@ -38,7 +39,8 @@ returns c =
     let the-loop = c .before .before .before .loop in
     let the-loop-test = c .before .before .loop-test in
     let the-next-number = c .before .next-number in
-    let i = the-loop .inv in let l = i .1 .1 .1 .1 in let g = the-next-number .ensures .1 .0 (the-loop-test .taken) (i .0) (i .1 .0) in taken-over _ _ (i .0) (the-loop .k) (i .1 .1 .1 .0 ∙ the-Start .pre) (i .1 .1 .0) _ (g .0) (g .1 .0) (omega arith)
+    let i = the-loop .inv in let l = i .1 .1 .1 .1 in let g = the-next-number .ensures .1 .0 (the-loop-test .taken) (i .0) (i .1 .0) in
+    taken-over _ _ (i .0) (the-loop .k) (i .1 .1 .1 .0 ∙ the-Start .pre) (i .1 .1 .0) _ (g .0) (g .1 .0) (omega arith)
 
 mul-list : tie.Need-mul-list Inv-loop μ-loop
 mul-list c = search needs
@@ -65,8 +67,16 @@ loop-again c =
     let the-loop-test = c .before .before .loop-test in
     let the-next-number = c .before .next-number in
     let i = the-loop .inv in
-    let g = the-next-number .ensures .1 .0 (the-loop-test .taken) (i .0) (i .1 .0) in
-    (g .0, (g .1 .1, (taken-more _ _ (i .0) (the-loop .k) (i .1 .1 .1 .0 ∙ the-Start .pre) (i .1 .1 .0) _ (g .0) (g .1 .0) (omega arith), (length-set (the-loop .list) (the-loop .k) (the-next-number .result .number) ∙ i .1 .1 .1 .0, omega arith))))
+    let g = the-next-number .ensures .1 .0 (the-loop-test .taken) (i .0) (i .1 .0) in (
+      g .0,
+      (
+        g .1 .1,
+        (
+          taken-more _ _ (i .0) (the-loop .k) (i .1 .1 .1 .0 ∙ the-Start .pre) (i .1 .1 .0) _ (g .0) (g .1 .0) (omega arith),
+          (length-set (the-loop .list) (the-loop .k) (the-next-number .result .number) ∙ i .1 .1 .1 .0, omega arith),
+        ),
+      ),
+    )
 
 same-length-2 : tie.Need-same-length-2 Inv-loop μ-loop
 same-length-2 c =
@@ -78,7 +88,8 @@ returns-2 c =
     let the-Start = c .before .before .before .before .before in
     let the-loop = c .before .loop in
     let the-loop-test = c .loop-test in
-    let i = the-loop .inv in taken-end _ _ (i .0) _ (i .1 .1 .1 .0 ∙ the-Start .pre) (i .1 .1 .0) (left-none _ _ _ (i .0) (the-loop-test .left) (i .1 .0)) (i .1 .1 .1 .1)
+    let i = the-loop .inv in taken-end _ _ (i .0) _ (i .1 .1 .1 .0 ∙ the-Start .pre) (i .1 .1 .0)
+    (left-none _ _ _ (i .0) (the-loop-test .left) (i .1 .0)) (i .1 .1 .1 .1)
 
 pub numbers-of-spec : {M : Type 1} → statement M
 numbers-of-spec =

@@ -49,7 +49,8 @@ returns-2 c =
     let the-path-of = c .before .before .path-of in
     let the-if2 = c .if2 in
     let w = the-Start .pre .0 .1 .1 .1 .1 in
-    tells-long _ _ _ w (the-is-sheet .ensures (the-Start .args .s .now) ∙ not-false _ (the-if1 .left)) _ (the-cell-at .ensures) _ _ (the-path-of .ensures) (the-if2 .taken) _ _
+    tells-long _ _ _ w (the-is-sheet .ensures (the-Start .args .s .now) ∙ not-false _ (the-if1 .left)) _ (the-cell-at .ensures) _ _
+    (the-path-of .ensures) (the-if2 .taken) _ _
 
 figures-of-requires : tie.Need-figures-of-requires
 figures-of-requires c κs =
@@ -129,7 +130,8 @@ returns-3 c =
     let mode-fits : the-number-of .result < 2 ^ 64 = search needs in
     let the-of-desk = c .before .before .before .before .before .of-desk in
     let w = the-Start .pre .0 .1 .1 .1 .1 in
-    tells-opened _ _ _ w (the-is-sheet .ensures (the-Start .args .s .now) ∙ not-false _ (the-if1 .left)) _ (the-cell-at .ensures) _ _ (the-path-of .ensures) (the-if2 .left)
+    tells-opened _ _ _ w (the-is-sheet .ensures (the-Start .args .s .now) ∙ not-false _ (the-if1 .left)) _ (the-cell-at .ensures) _ _
+    (the-path-of .ensures) (the-if2 .left)
     _ _ (the-figures-of .ensures) (mode-is (the-Start .args .rows .now) _ _ (the-cell-at2 .ensures) (the-number-of .ensures) mode-fits) _ _
     (the-of-desk .result) (the-of-desk .last .1 .1 .1 .1 .1 .1 .1 .1 .0) (the-of-desk .last .1 .1 .1 .1 .1 .1 .1 .1 .1 .0) (the-of-desk .ensures)
 

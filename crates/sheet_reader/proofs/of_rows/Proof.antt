@@ -31,7 +31,8 @@ of-entries-requires c κs =
     let sized = the-Start .pre .1 .0 in
     let f = rows-few (a .m .now) (a .table .now) few sized _ _ (the-read .ensures) (a .path .now) (a .crosspoints .now) _ _ (the-root .given .1) octets in
     let k = entries-few (a .m .now) (a .table .now) few sized _ _ (the-read .ensures) (a .path .now) (a .crosspoints .now) _ _ (the-root .given .1) octets in
-    let g = entries-accepted (a .m .now) (a .table .now) few sized _ _ (the-read .ensures) (a .path .now) (a .crosspoints .now) _ _ (the-root .given .1) octets in
+    let g = entries-accepted (a .m .now) (a .table .now) few sized _ _ (the-read .ensures) (a .path .now) (a .crosspoints .now) _ _
+    (the-root .given .1) octets in
     ((the-Start .pre .1 .1 .0, (the-Start .pre .1 .1 .1, (f, (few, k)))), g)
 
 same-length : tie.Need-same-length

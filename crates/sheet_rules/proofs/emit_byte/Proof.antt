@@ -32,7 +32,8 @@ returns c =
     let the-put2 = c .before .before .before .before .before .before .before .put2 in
     let the-if1 = c .before .before .before .before .if1 in
     let the-put3 = c .before .before .put3 in
-    let e = wrote-then _ _ _ _ (the-put .ensures .0 (omega arith)) ∙ wrote-then _ _ _ _ (the-put2 .ensures .0 (omega arith)) ∙ the-put3 .ensures .0 (omega arith) in
+    let e = wrote-then _ _ _ _ (the-put .ensures .0 (omega arith)) ∙ wrote-then _ _ _ _ (the-put2 .ensures .0 (omega arith))
+    ∙ the-put3 .ensures .0 (omega arith) in
     (rw (broken-last _ (the-if1 .taken), sym (the-high .ensures), sym (the-low .ensures)) e, omega arith)
 
 same-length-2 : tie.Need-same-length-2

@@ -35,7 +35,8 @@ returns-3 c =
     let the-if2 = c .before .before .before .before .before .if2 in
     let the-take-text = c .before .before .before .take-text in
     let the-end = c .end in
-    finds-end _ _ (the-if1 .left) (the-has-bad-line .ensures ∙ the-if2 .left) _ _ (the-take-text .ensures .0) (the-take-text .ensures .1) (the-end .result) (the-end .ensures _)
+    finds-end _ _ (the-if1 .left) (the-has-bad-line .ensures ∙ the-if2 .left) _ _ (the-take-text .ensures .0) (the-take-text .ensures .1)
+    (the-end .result) (the-end .ensures _)
 
 pub find-message-spec : {M : Type 1} → statement M
 find-message-spec =

@@ -35,7 +35,8 @@ returns-2 c =
     let the-Start = c .before .before .before .before .before .before .before .before .before .before .before in
     let the-feed = c .before .before .before .before .before .before .feed in
     let the-match = c .match in
-    taken-on (the-Start .args .tally) _ _ (search needs) (search needs) (the-feed .result) _ (the-feed .ensures) (omega arith) (no-message (the-feed .result .event) (the-match .keys2) (omega arith))
+    taken-on (the-Start .args .tally) _ _ (search needs) (search needs) (the-feed .result) _ (the-feed .ensures) (omega arith)
+    (no-message (the-feed .result .event) (the-match .keys2) (omega arith))
 
 another-requires : tie.Need-another-requires
 another-requires c κs = search needs
@@ -49,7 +50,8 @@ returns-3 c =
     let the-feed = c .before .before .before .before .before .before .before .before .before .feed in
     let the-event = c .before .before .event in
     let the-another = c .another in
-    taken-message (the-Start .args .tally) _ _ (search needs) (search needs) (the-feed .result) _ (the-feed .ensures) _ _ (the-event .given .1) _ (the-another .ensures)
+    taken-message (the-Start .args .tally) _ _ (search needs) (search needs) (the-feed .result) _ (the-feed .ensures) _ _ (the-event .given .1) _
+    (the-another .ensures)
 
 pub take-byte-spec : {M : Type 1} → statement M
 take-byte-spec =

@@ -42,8 +42,22 @@ loop-again c =
     let the-loop = c .before .before .before .before .loop in
     let the-loop-test = c .before .before .before .loop-test in
     let the-digit = c .before .digit in
-    let the-if1 = c .if1 in
-    (omega arith, (the-loop .inv .1 .0, (the-loop .inv .1 .1 .0, (the-loop .inv .1 .1 .1 .0, (the-loop .inv .1 .1 .1 .1 .0, goes-as (the-loop .inv .1 .1 .1 .1 .1) (bytes-over _ _ _ _ (the-loop-test .taken) (the-digit .ensures .0) (the-if1 .taken)))))))
+    let the-if1 = c .if1 in (
+      omega arith,
+      (
+        the-loop .inv .1 .0,
+        (
+          the-loop .inv .1 .1 .0,
+          (
+            the-loop .inv .1 .1 .1 .0,
+            (
+              the-loop .inv .1 .1 .1 .1 .0,
+              goes-as (the-loop .inv .1 .1 .1 .1 .1) (bytes-over _ _ _ _ (the-loop-test .taken) (the-digit .ensures .0) (the-if1 .taken)),
+            ),
+          ),
+        ),
+      ),
+    )
 
 loop-less-2 : tie.Need-loop-less-2 Inv-loop μ-loop
 loop-less-2 c = omega arith
@@ -54,8 +68,22 @@ loop-again-2 c =
     let the-loop-test = c .before .before .before .before .loop-test in
     let the-digit = c .before .before .digit in
     let the-if1 = c .before .if1 in
-    let the-if2 = c .if2 in
-    (omega arith, (the-digit .ensures .1, (the-loop .inv .1 .1 .0, (the-loop .inv .1 .1 .1 .0, (the-loop .inv .1 .1 .1 .1 .0, goes-as (the-loop .inv .1 .1 .1 .1 .1) (bytes-first _ _ _ _ (the-loop-test .taken) (the-digit .ensures .0) (the-if1 .left) (the-if2 .taken)))))))
+    let the-if2 = c .if2 in (
+      omega arith,
+      (
+        the-digit .ensures .1,
+        (
+          the-loop .inv .1 .1 .0,
+          (
+            the-loop .inv .1 .1 .1 .0,
+            (
+              the-loop .inv .1 .1 .1 .1 .0,
+              goes-as (the-loop .inv .1 .1 .1 .1 .1) (bytes-first _ _ _ _ (the-loop-test .taken) (the-digit .ensures .0) (the-if1 .left) (the-if2 .taken)),
+            ),
+          ),
+        ),
+      ),
+    )
 
 mul-take-byte : tie.Need-mul-take-byte Inv-loop μ-loop
 mul-take-byte c = search needs
@@ -80,7 +108,8 @@ returns c =
     let the-if2 = c .before .before .before .before .before .before .if2 in
     let the-take-byte = c .before .before .before .before .take-byte in
     let the-if3 = c .if3 in
-    goes-refused (goes-byte (goes-as (the-loop .inv .1 .1 .1 .1 .1) (bytes-pair _ _ _ _ (the-loop-test .taken) (the-digit .ensures .0) (the-if1 .left) (the-if2 .left)))
+    goes-refused (goes-byte (goes-as (the-loop .inv .1 .1 .1 .1 .1)
+    (bytes-pair _ _ _ _ (the-loop-test .taken) (the-digit .ensures .0) (the-if1 .left) (the-if2 .left)))
     (the-take-byte .ensures)) (the-if3 .taken)
 
 loop-less-3 : tie.Need-loop-less-3 Inv-loop μ-loop
@@ -104,7 +133,8 @@ loop-again-3 c =
             the-take-byte .ensures .sound,
             (
               the-if3 .left,
-              goes-byte (goes-as (the-loop .inv .1 .1 .1 .1 .1) (bytes-pair _ _ _ _ (the-loop-test .taken) (the-digit .ensures .0) (the-if1 .left) (the-if2 .left)))
+              goes-byte (goes-as (the-loop .inv .1 .1 .1 .1 .1)
+                  (bytes-pair _ _ _ _ (the-loop-test .taken) (the-digit .ensures .0) (the-if1 .left) (the-if2 .left)))
                   (the-take-byte .ensures),
             ),
           ),

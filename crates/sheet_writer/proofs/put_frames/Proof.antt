@@ -20,7 +20,8 @@ returns c =
     let the-Start = c .before .before .before .before .before .before .before .before .before in
     let the-write-message = c .before .before .before .before .before .write-message in
     let the-length = c .before .length in
-    frames-put (the-Start .args .message .now) (the-Start .args .frames .now) (the-Start .pre .0) (the-Start .pre .1) _ _ (the-write-message .ensures) _ (the-length .given .1)
+    frames-put (the-Start .args .message .now) (the-Start .args .frames .now) (the-Start .pre .0) (the-Start .pre .1) _ _ (the-write-message .ensures)
+    _ (the-length .given .1)
 
 same-length-2 : tie.Need-same-length-2
 same-length-2 c = search needs
@@ -30,7 +31,8 @@ returns-2 c =
     let the-Start = c .before .before .before .before .before .before .before .before in
     let the-write-message = c .before .before .before .before .write-message in
     let the-enum-told = c .enum-told in
-    absurd (frames-out (the-Start .args .message .now) (the-Start .args .frames .now) (the-Start .pre .0) (the-Start .pre .1) _ _ (the-write-message .ensures) (the-enum-told .given .1))
+    absurd (frames-out (the-Start .args .message .now) (the-Start .args .frames .now) (the-Start .pre .0) (the-Start .pre .1) _ _
+    (the-write-message .ensures) (the-enum-told .given .1))
 
 pub put-frames-spec : {M : Type 1} → statement M
 put-frames-spec =

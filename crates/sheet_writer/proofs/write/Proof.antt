@@ -67,7 +67,9 @@ returns-2 c =
     let the-put-message = c .before .before .before .before .before .before .before .before .before .before .before .put-message in
     let the-put-frames = c .before .before .before .before .before .before .before .put-frames in
     let the-write-lines = c .before .before .before .write-lines in
-    sheet-put _ _ (the-desk-is-legal .ensures ∙ not-false _ (c .before .before .before .before .before .before .before .before .before .before .before .before .before .if1 .left)) (the-put-message .ensures .0) (the-put-frames .ensures .0)
+    sheet-put _ _ (the-desk-is-legal .ensures ∙ not-false _
+    (c .before .before .before .before .before .before .before .before .before .before .before .before .before .if1 .left))
+    (the-put-message .ensures .0) (the-put-frames .ensures .0)
     (the-write-lines .result) (the-write-lines .last .1 .0) (the-write-lines .ensures) (c .tell .ensures)
 
 pub write-spec : {M : Type 1} → statement M

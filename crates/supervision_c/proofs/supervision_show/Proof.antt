@@ -40,7 +40,8 @@ returns c =
     let the-show = c .before .before .before .before .before .show in
     let the-put-link = c .before .before .before .put-link in
     let the-number-of = c .number-of in
-    calls-taken _ _ _ (sym (the-is-link .ensures) ∙ the-if1 .taken) (the-link-at .ensures) (the-happened .ensures) (the-show .ensures) (the-put-link .ensures) (the-number-of .ensures)
+    calls-taken _ _ _ (sym (the-is-link .ensures) ∙ the-if1 .taken) (the-link-at .ensures) (the-happened .ensures) (the-show .ensures)
+    (the-put-link .ensures) (the-number-of .ensures)
 
 same-length-2 : tie.Need-same-length-2
 same-length-2 c = search needs

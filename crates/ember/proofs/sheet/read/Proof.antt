@@ -55,7 +55,8 @@ returns-3 c =
     let the-x2 = c .before .before .before .before .before .before .x2 in
     let the-put-figures = c .before .before .before .put-figures in
     let the-word = c .word in
-    λ store path cells. read-desk (the-Start .args .figures .now) (the-Start .args .answer .now) store path cells (the-Start .pre .1) (the-x2 .given .1) (the-put-figures .ensures) (the-word .ensures)
+    λ store path cells. read-desk (the-Start .args .figures .now) (the-Start .args .answer .now) store path cells (the-Start .pre .1)
+    (the-x2 .given .1) (the-put-figures .ensures) (the-word .ensures)
 
 pub read-spec : {M : Type 1} → statement M
 read-spec =

@@ -44,7 +44,17 @@ returns c =
     let the-word-at6 = c .before .before .word-at6 in
     let the-word-at7 = c .before .word-at7 in
     let the-limit-at2 = c .limit-at2 in
-    rw (the-limit-at2 .ensures, the-word-at7 .ensures, the-word-at6 .ensures, the-limit-at .ensures, the-word-at5 .ensures, the-word-at4 .ensures, the-word-at3 .ensures, the-word-at2 .ensures, the-word-at .ensures)
+    rw (
+      the-limit-at2 .ensures,
+      the-word-at7 .ensures,
+      the-word-at6 .ensures,
+      the-limit-at .ensures,
+      the-word-at5 .ensures,
+      the-word-at4 .ensures,
+      the-word-at3 .ensures,
+      the-word-at2 .ensures,
+      the-word-at .ensures,
+    )
 
 pub figures-at-spec : {M : Type 1} → statement M
 figures-at-spec =

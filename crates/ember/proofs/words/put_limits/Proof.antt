@@ -41,7 +41,8 @@ returns c =
     let the-limit-word = c .before .before .limit-word in
     let the-given-word2 = c .before .given-word2 in
     let the-limit-word2 = c .limit-word2 in
-    put-limits (the-Start .args .words .now) (the-Start .args .total) (the-Start .args .each) (the-given-word .ensures) (the-limit-word .ensures) (the-given-word2 .ensures) (the-limit-word2 .ensures)
+    put-limits (the-Start .args .words .now) (the-Start .args .total) (the-Start .args .each) (the-given-word .ensures) (the-limit-word .ensures)
+    (the-given-word2 .ensures) (the-limit-word2 .ensures)
 
 pub put-limits-spec : {M : Type 1} → statement M
 put-limits-spec =

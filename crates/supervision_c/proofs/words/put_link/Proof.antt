@@ -24,7 +24,8 @@ returns c =
     let the-Start = c .before .before .before in
     let the-place-word = c .before .place-word in
     let the-tick-word = c .tick-word in
-    set-two (the-Start .args .words .now) (the-place-word .result) (the-tick-word .result) (the-Start .pre) ∙ rw (the-place-word .ensures, the-tick-word .ensures)
+    set-two (the-Start .args .words .now) (the-place-word .result) (the-tick-word .result) (the-Start .pre)
+    ∙ rw (the-place-word .ensures, the-tick-word .ensures)
 
 pub put-link-spec : {M : Type 1} → statement M
 put-link-spec =
