@@ -226,8 +226,8 @@ fn refused(number: u64) -> Judged
     }
 }
 
-// The checks of a request in their order, with the total that the caller keeps (`total_of`): 41 to 44, or 1 for lengths that are not the desk's, for a total over
-// its cells and for an operation that is none. Where the number is 0, `row`, else scratch, holds the target's cells after the request.
+// The checks of a request in their order, with the total that the caller keeps (`total_of`): 41 to 44, or 1 for lengths that are not the desk's, for a total
+// over its cells and for an operation that is none. Where the number is 0, `row`, else scratch, holds the target's cells after the request.
 pub fn judge(
     f: Figures,
     target: u64,

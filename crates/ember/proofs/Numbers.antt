@@ -26,7 +26,7 @@ use Rattle.sheet_writer.specs.Numbers.{sheetPutNumbers}
 use Rattle.sheet_writer.proofs.Numbers.{sheet-put-numbers}
 use Rattle.sheet_reader.specs.Calls.{sheetNumbers}
 use Rattle.sheet_reader.proofs.Numbered.{sheet-numbers}
-use Rattle.ember.specs.Words.{figuresAt, deskIn, isFigures}
+use Rattle.desk_words.specs.Words.{figuresAt, deskIn, isFigures}
 use Rattle.ember.specs.Calls.{opens, requests, DeskCall, deskCall, counted, deskCalls, lengthsFit, next, Turned, turn, turnOf, turnAfter, turned, turns}
 use Rattle.ember.specs.Calls.{SheetPut, measured, sheetWrites, SheetCall, given, sheetReads}
 

@@ -28,7 +28,7 @@ use Rattle.desk_calls.specs.Numbers.{callNumbers, answerNumbers, AllOneOf}
 use Rattle.turns.specs.Turns.{Later, none, read, desk}
 use Rattle.turns.specs.Whole.{Left, left, unasked, readTo}
 use Rattle.turns.proofs.Numbers.{treeNumbers, treeNumber, deskNumber, all-clear, later-tree, later-desk, later-answers}
-use Rattle.ember.specs.Words.{figuresAt, deskIn, isFigures}
+use Rattle.desk_words.specs.Words.{figuresAt, deskIn, isFigures}
 use Rattle.ember.specs.Calls.{legals, lengthsFit, laterWords, next, Turned, turn, turnOf, turnAfter, turned, turns}
 
 -- `ember_desk_is_legal`: no, or yes

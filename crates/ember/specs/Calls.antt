@@ -21,7 +21,7 @@ use Rattle.framing_packets.specs.Written.{Outcome as Wrote}
 use Rattle.sheet_writer.specs.Calls.{writesSheet}
 use Rattle.sheet_reader.specs.Calls as sheet
 use Rattle.sheet_reader.specs.Calls.{sheetRead}
-use Rattle.ember.specs.Words.{wordsOf, figuresAt, deskIn, isFigures}
+use Rattle.desk_words.specs.Words.{wordsOf, figuresAt, deskIn, isFigures}
 
 -- ---- the desk; words that are no figures are 1, with everything as it was
 

@@ -12,7 +12,7 @@ use Rattle.desk_crosspoints.specs.Crosspoints.{Cells}
 use Rattle.turns.specs.declared.After.{After}
 use Rattle.turns.specs.Turns as claim
 use Rattle.turns.specs.Whole.{laterOf}
-use Rattle.ember.specs.Words.{deskIn}
+use Rattle.desk_words.specs.Words.{deskIn}
 use Rattle.ember.specs.Calls.{laterWords, Turned, turns}
 
 -- A call: what was offered, and what it answered and left.

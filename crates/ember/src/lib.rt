@@ -1,7 +1,6 @@
 // The C library: session, writer of frames, tree reader, tree writer, desk, whole turns, route sheets; numbers and lent slices (include/ember.h).
 mod after;
 mod sheet;
-mod words;
 
 use after::Six;
 use desk_calls::Called;
@@ -124,8 +123,8 @@ pub extern "C" fn ember_accepts(rows: &[[u64; 50]], count: usize, root: u64, mes
 pub extern "C" fn ember_desk_size(figures: &[u64]) -> u64
     ensures { λ r. ⌜ sizes (now (figures .entry)) ≡ r ⌝ }
 {
-    if words::is_figures(figures) {
-        return base_casts::word(desk_crosspoints::size(words::figures_at(figures)));
+    if desk_words::is_figures(figures) {
+        return base_casts::word(desk_crosspoints::size(desk_words::figures_at(figures)));
     }
     0
 }
@@ -140,8 +139,8 @@ pub extern "C" fn ember_desk_open(
 ) -> u64
     ensures { λ r. ⌜ opens (now (figures .entry)) (now (path .entry)) mode (now (crosspoints .entry)) ≡ answered r (now (crosspoints .exit)) ⌝ }
 {
-    if words::is_figures(figures) {
-        return desk_crosspoints::open(words::figures_at(figures), mode, path, crosspoints);
+    if desk_words::is_figures(figures) {
+        return desk_crosspoints::open(desk_words::figures_at(figures), mode, path, crosspoints);
     }
     1
 }
@@ -151,8 +150,8 @@ pub extern "C" fn ember_desk_open(
 pub extern "C" fn ember_desk_is_legal(figures: &[u64], path: &[u64], crosspoints: &[u8]) -> u64
     ensures { λ r. ⌜ legals (now (figures .entry)) (now (path .entry)) (now (crosspoints .entry)) ≡ r ⌝ }
 {
-    if words::is_figures(figures) {
-        if desk_crosspoints::desk_is_legal(words::figures_at(figures), path, crosspoints) {
+    if desk_words::is_figures(figures) {
+        if desk_crosspoints::desk_is_legal(desk_words::figures_at(figures), path, crosspoints) {
             return 1;
         }
         return 0;
@@ -172,9 +171,9 @@ pub extern "C" fn ember_desk_request(
     ensures { λ r. ⌜ requests (now (figures .entry)) target (now (sources .entry)) operation (now (crosspoints .entry))
         ≡ answered r (now (crosspoints .exit)) ⌝ }
 {
-    if words::is_figures(figures) {
+    if desk_words::is_figures(figures) {
         return desk_calls::request(
-            words::figures_at(figures),
+            desk_words::figures_at(figures),
             target,
             sources,
             operation,
@@ -219,9 +218,9 @@ pub extern "C" fn ember_desk_call(
     if answer.len() != 1 {
         return 1;
     }
-    if words::is_figures(figures) {
+    if desk_words::is_figures(figures) {
         let called = desk_calls::call(
-            words::figures_at(figures),
+            desk_words::figures_at(figures),
             path,
             rows,
             count,
@@ -368,8 +367,8 @@ pub extern "C" fn ember_turn(
           answer = now (answer .exit);
         } ⌝ }
 {
-    if words::is_figures(figures) {
-        let f = words::figures_at(figures);
+    if desk_words::is_figures(figures) {
+        let f = desk_words::figures_at(figures);
         let size = desk_crosspoints::size(f);
         if lengths_fit(
             table.len(),
@@ -412,8 +411,8 @@ pub extern "C" fn ember_sheet_write(
     if answer.len() != 1 {
         return 1;
     }
-    if words::is_figures(figures) {
-        let a = sheet_writer::write(words::figures_at(figures), path, crosspoints, out);
+    if desk_words::is_figures(figures) {
+        let a = sheet_writer::write(desk_words::figures_at(figures), path, crosspoints, out);
         return sheet::wrote(a, answer);
     }
     1

@@ -42,7 +42,7 @@ pub(crate) fn read(x: Sheet, figures: &mut [u64], answer: &mut [u64]) -> u64
             number
         }
         Sheet::Read { figures: f, length } => {
-            crate::words::put_figures(figures, f);
+            desk_words::put_figures(figures, f);
             answer[0] = base_casts::word(length);
             0
         }

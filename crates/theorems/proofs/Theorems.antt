@@ -125,7 +125,7 @@ use Rattle.supervision_c.specs.Promise as supervision-c
 use Rattle.supervision_c.specs.Promise.{Seen, showings}
 use Rattle.supervision_c.proofs.Promise as supervision-c-promise
 use Rattle.framing_words.specs.Words.{wordsOf, sessionAt}
-use Rattle.ember.specs.Words.{deskIn, isFigures}
+use Rattle.desk_words.specs.Words.{deskIn, isFigures}
 use Rattle.ember.specs.Rounds.{Round, Rounds, Claimed}
 use Rattle.ember.proofs.Claim as ember
 use Rattle.ember.proofs.Some as ember-some

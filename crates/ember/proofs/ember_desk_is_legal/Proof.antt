@@ -5,8 +5,8 @@ use Rattle.ember.proofs.ember_desk_is_legal.Tie as tie
 use Rattle.ember.proofs.ember_desk_is_legal.Reads as reads
 use Rattle.ember.proofs.ember_desk_is_legal.Lts as lts
 use Rattle.desk_crosspoints.proofs.desk_is_legal.Reads as desk-is-legal-reads
-use Rattle.ember.proofs.words.figures_at.Reads as figures-at-reads
-use Rattle.ember.proofs.words.is_figures.Reads as is-figures-reads
+use Rattle.desk_words.proofs.figures_at.Reads as figures-at-reads
+use Rattle.desk_words.proofs.is_figures.Reads as is-figures-reads
 
 is-figures-requires : tie.Need-is-figures-requires
 is-figures-requires c κs = search needs

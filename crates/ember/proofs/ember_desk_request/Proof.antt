@@ -6,8 +6,8 @@ use Rattle.ember.proofs.ember_desk_request.Tie as tie
 use Rattle.ember.proofs.ember_desk_request.Reads as reads
 use Rattle.ember.proofs.ember_desk_request.Lts as lts
 use Rattle.desk_calls.proofs.request.Reads as request-reads
-use Rattle.ember.proofs.words.figures_at.Reads as figures-at-reads
-use Rattle.ember.proofs.words.is_figures.Reads as is-figures-reads
+use Rattle.desk_words.proofs.figures_at.Reads as figures-at-reads
+use Rattle.desk_words.proofs.is_figures.Reads as is-figures-reads
 
 is-figures-requires : tie.Need-is-figures-requires
 is-figures-requires c κs = search needs

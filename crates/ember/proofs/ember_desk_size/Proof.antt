@@ -5,8 +5,8 @@ use Rattle.ember.proofs.ember_desk_size.Tie as tie
 use Rattle.ember.proofs.ember_desk_size.Reads as reads
 use Rattle.ember.proofs.ember_desk_size.Lts as lts
 use Rattle.desk_crosspoints.proofs.size.Reads as size-reads
-use Rattle.ember.proofs.words.figures_at.Reads as figures-at-reads
-use Rattle.ember.proofs.words.is_figures.Reads as is-figures-reads
+use Rattle.desk_words.proofs.figures_at.Reads as figures-at-reads
+use Rattle.desk_words.proofs.is_figures.Reads as is-figures-reads
 use Rattle.base_casts.proofs.word.Reads as word-reads
 
 is-figures-requires : tie.Need-is-figures-requires

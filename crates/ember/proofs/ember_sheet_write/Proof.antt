@@ -5,8 +5,8 @@ use Rattle.ember.proofs.ember_sheet_write.Tie as tie
 use Rattle.ember.proofs.ember_sheet_write.Reads as reads
 use Rattle.ember.proofs.ember_sheet_write.Lts as lts
 use Rattle.ember.proofs.sheet.wrote.Reads as wrote-reads
-use Rattle.ember.proofs.words.figures_at.Reads as figures-at-reads
-use Rattle.ember.proofs.words.is_figures.Reads as is-figures-reads
+use Rattle.desk_words.proofs.figures_at.Reads as figures-at-reads
+use Rattle.desk_words.proofs.is_figures.Reads as is-figures-reads
 use Rattle.sheet_writer.proofs.write.Reads as write-reads
 
 returns : tie.Need-returns

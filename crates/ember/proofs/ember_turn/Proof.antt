@@ -8,8 +8,8 @@ use Rattle.ember.proofs.ember_turn.Lts as lts
 use Rattle.desk_crosspoints.proofs.size.Reads as size-reads
 use Rattle.ember.proofs.go.Reads as go-reads
 use Rattle.ember.proofs.lengths_fit.Reads as lengths-fit-reads
-use Rattle.ember.proofs.words.figures_at.Reads as figures-at-reads
-use Rattle.ember.proofs.words.is_figures.Reads as is-figures-reads
+use Rattle.desk_words.proofs.figures_at.Reads as figures-at-reads
+use Rattle.desk_words.proofs.is_figures.Reads as is-figures-reads
 
 is-figures-requires : tie.Need-is-figures-requires
 is-figures-requires c κs = search needs

@@ -1,11 +1,13 @@
 use Rattle.ember.proofs.Laws.{read-setup, read-refused, read-desk}
+use mathlib.Core.Path.{sym, _∙_}
 use borrow.Author.Needs.{needs}
+use Rattle.desk_words.proofs.Laws.{words-seven}
 use Rattle.ember.proofs.sheet.read.Statement.{statement}
 use Rattle.ember.proofs.sheet.read.Tie as tie
 use Rattle.ember.proofs.sheet.read.Reads as reads
 use Rattle.ember.proofs.sheet.read.Lts as lts
 use Rattle.base_casts.proofs.word.Reads as word-reads
-use Rattle.ember.proofs.words.put_figures.Reads as put-figures-reads
+use Rattle.desk_words.proofs.put_figures.Reads as put-figures-reads
 
 enum-told : tie.Need-enum-told
 enum-told c = search needs
@@ -56,7 +58,7 @@ returns-3 c =
     let the-put-figures = c .before .before .before .put-figures in
     let the-word = c .word in
     λ store path cells. read-desk (the-Start .args .figures .now) (the-Start .args .answer .now) store path cells (the-Start .pre .1)
-    (the-x2 .given .1) (the-put-figures .ensures) (the-word .ensures)
+    (the-x2 .given .1) (sym (the-put-figures .ensures) ∙ words-seven _ _ (the-Start .pre .0)) (the-word .ensures)
 
 pub read-spec : {M : Type 1} → statement M
 read-spec =

@@ -1,8 +1,8 @@
-use Rattle.ember.proofs.Laws.{limit-none, limit-given}
-use Rattle.ember.proofs.words.is_limit.Statement.{statement}
-use Rattle.ember.proofs.words.is_limit.Tie as tie
-use Rattle.ember.proofs.words.is_limit.Reads as reads
-use Rattle.ember.proofs.words.is_limit.Lts as lts
+use Rattle.desk_words.proofs.Laws.{limit-none, limit-given}
+use Rattle.desk_words.proofs.is_limit.Statement.{statement}
+use Rattle.desk_words.proofs.is_limit.Tie as tie
+use Rattle.desk_words.proofs.is_limit.Reads as reads
+use Rattle.desk_words.proofs.is_limit.Lts as lts
 
 returns : tie.Need-returns
 returns c =

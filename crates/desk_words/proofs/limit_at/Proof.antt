@@ -1,8 +1,8 @@
-use Rattle.ember.proofs.Laws.{limit-absent, limit-most}
-use Rattle.ember.proofs.words.limit_at.Statement.{statement}
-use Rattle.ember.proofs.words.limit_at.Tie as tie
-use Rattle.ember.proofs.words.limit_at.Reads as reads
-use Rattle.ember.proofs.words.limit_at.Lts as lts
+use Rattle.desk_words.proofs.Laws.{limit-absent, limit-most}
+use Rattle.desk_words.proofs.limit_at.Statement.{statement}
+use Rattle.desk_words.proofs.limit_at.Tie as tie
+use Rattle.desk_words.proofs.limit_at.Reads as reads
+use Rattle.desk_words.proofs.limit_at.Lts as lts
 
 returns : tie.Need-returns
 returns c =

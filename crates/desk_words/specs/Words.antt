@@ -50,3 +50,7 @@ unfoldable pub isFigures : List ℕ → Bool
 isFigures ws =
     both (eqb (length ws) 7)
     (both (isLimit (getD ws 3 0) (getD ws 4 0)) (isLimit (getD ws 5 0) (getD ws 6 0)))
+
+-- what words that were lent become: the figures', if there are seven
+unfoldable pub wordsIn : List ℕ → Figures → List ℕ
+wordsIn ws f = pick (eqb (length ws) 7) (wordsOf f) ws

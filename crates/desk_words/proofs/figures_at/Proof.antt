@@ -1,9 +1,9 @@
 use borrow.Author.Needs.{needs}
-use Rattle.ember.proofs.words.figures_at.Statement.{statement}
-use Rattle.ember.proofs.words.figures_at.Tie as tie
-use Rattle.ember.proofs.words.figures_at.Reads as reads
-use Rattle.ember.proofs.words.figures_at.Lts as lts
-use Rattle.ember.proofs.words.limit_at.Reads as limit-at-reads
+use Rattle.desk_words.proofs.figures_at.Statement.{statement}
+use Rattle.desk_words.proofs.figures_at.Tie as tie
+use Rattle.desk_words.proofs.figures_at.Reads as reads
+use Rattle.desk_words.proofs.figures_at.Lts as lts
+use Rattle.desk_words.proofs.limit_at.Reads as limit-at-reads
 use Rattle.framing_words.proofs.word_at.Reads as word-at-reads
 
 word-at-requires : tie.Need-word-at-requires

@@ -1,10 +1,10 @@
-use Rattle.ember.proofs.Laws.{figures-length, figures-second, figures-first}
+use Rattle.desk_words.proofs.Laws.{figures-length, figures-second, figures-first}
 use borrow.Author.Needs.{needs}
-use Rattle.ember.proofs.words.is_figures.Statement.{statement}
-use Rattle.ember.proofs.words.is_figures.Tie as tie
-use Rattle.ember.proofs.words.is_figures.Reads as reads
-use Rattle.ember.proofs.words.is_figures.Lts as lts
-use Rattle.ember.proofs.words.is_limit.Reads as is-limit-reads
+use Rattle.desk_words.proofs.is_figures.Statement.{statement}
+use Rattle.desk_words.proofs.is_figures.Tie as tie
+use Rattle.desk_words.proofs.is_figures.Reads as reads
+use Rattle.desk_words.proofs.is_figures.Lts as lts
+use Rattle.desk_words.proofs.is_limit.Reads as is-limit-reads
 
 returns : tie.Need-returns
 returns c =

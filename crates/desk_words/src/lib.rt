@@ -3,7 +3,7 @@ use desk_crosspoints::Figures;
 use desk_crosspoints::Limit;
 ghost use mathlib.Core.Path.{_≡_};
 ghost use lib.ListN.{length, set};
-ghost use Rattle.ember.specs.Words.{givenWord, limitWord, wordsOf, limitAt, figuresAt, isLimit, isFigures};
+ghost use Rattle.desk_words.specs.Words.{givenWord, limitWord, wordsOf, limitAt, figuresAt, isLimit, isFigures, wordsIn};
 
 fn limit_at(given: u64, n: u64) -> Limit
     ensures { λ r. ⌜ r ≡ limitAt given n ⌝ }
@@ -24,7 +24,7 @@ fn is_limit(given: u64, n: u64) -> bool
 }
 
 // Whether the words are a desk's figures.
-pub(crate) fn is_figures(words: &[u64]) -> bool
+pub fn is_figures(words: &[u64]) -> bool
     ensures { λ r. ⌜ r ≡ isFigures (now (words .entry)) ⌝ }
 {
     if words.len() != 7 {
@@ -36,7 +36,8 @@ pub(crate) fn is_figures(words: &[u64]) -> bool
     false
 }
 
-pub(crate) fn figures_at(words: &[u64]) -> Figures
+// The figures that the words are.
+pub fn figures_at(words: &[u64]) -> Figures
     ensures { λ r. ⌜ r ≡ figuresAt (now (words .entry)) ⌝ }
 {
     Figures {
@@ -92,10 +93,13 @@ fn put_limits(words: &mut [u64], total: Limit, each: Limit)
     words[6] = limit_word(each);
 }
 
-pub(crate) fn put_figures(words: &mut [u64], f: Figures)
-    requires { ⌜ length (now words) ≡ 7 ⌝ }
-    ensures { λ _. ⌜ now (words .exit) ≡ wordsOf f ⌝ }
+// The figures into seven words that are lent; another count stays as it was.
+pub fn put_figures(words: &mut [u64], f: Figures)
+    ensures { λ _. ⌜ wordsIn (now (words .entry)) f ≡ now (words .exit) ⌝ }
 {
+    if words.len() != 7 {
+        return;
+    }
     put_words(words, f.kind, f.targets, f.sources);
     let total = f.total;
     let each = f.each;

@@ -1,11 +1,11 @@
-use Rattle.ember.proofs.Laws.{put-limits}
+use Rattle.desk_words.proofs.Laws.{put-limits}
 use borrow.Author.Needs.{needs}
-use Rattle.ember.proofs.words.put_limits.Statement.{statement}
-use Rattle.ember.proofs.words.put_limits.Tie as tie
-use Rattle.ember.proofs.words.put_limits.Reads as reads
-use Rattle.ember.proofs.words.put_limits.Lts as lts
-use Rattle.ember.proofs.words.given_word.Reads as given-word-reads
-use Rattle.ember.proofs.words.limit_word.Reads as limit-word-reads
+use Rattle.desk_words.proofs.put_limits.Statement.{statement}
+use Rattle.desk_words.proofs.put_limits.Tie as tie
+use Rattle.desk_words.proofs.put_limits.Reads as reads
+use Rattle.desk_words.proofs.put_limits.Lts as lts
+use Rattle.desk_words.proofs.given_word.Reads as given-word-reads
+use Rattle.desk_words.proofs.limit_word.Reads as limit-word-reads
 
 given-word-requires : tie.Need-given-word-requires
 given-word-requires c κs = search needs
