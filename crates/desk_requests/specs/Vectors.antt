@@ -11,6 +11,7 @@ use Rattle.desk_crosspoints.specs.Desk.{deskAt, Answer, answer}
 use Rattle.desk_crosspoints.specs.Vectors.{figures, desk, cells6, cells9}
 use Rattle.desk_requests.specs.Request.{request, marked, named, allBelow, replaces, becomes, takes, others, rowAfter, result}
 use Rattle.desk_requests.specs.Request.{firstOf, many, overTotal, checks, judged, asked, requested}
+use Rattle.desk_requests.specs.Steps.{fits, heeded, totalAfter, judgedWith, toldWith}
 
 abbrev asking : Figures → Cells → ℕ → List ℕ → ℕ → Answer
 asking f cells target sources operation = requested (deskAt f (1 ∷ []) cells) (request target sources operation)
@@ -85,3 +86,23 @@ unfolding isCount figuresFit mostEach mostTotal
     bit count allBits clear rowAt withRow holders takenFrom rowsFit sourcesFit kindFits cellsFit legal
     marked named allBelow replaces becomes takes others rowAfter result firstOf many overTotal checks judged asked requested
 v-taken = (refl, refl, refl, refl)
+
+abbrev telling : ℕ → Figures → Cells → ℕ → List ℕ → ℕ → ℕ
+telling total f cells target sources operation =
+    toldWith total (deskAt f (1 ∷ []) cells) (request target sources operation) (clear 3)
+
+-- a total that the caller keeps: 44 by that total, with the target's cells before the request not counted; 43 before it; disconnect never
+pub v-total :
+    (telling 3 (figures 2 3 3 (Most 3) (Most 2)) (cells9 1 1 0 0 0 0 1 0 0) 2 (0 ∷ 1 ∷ []) 0 ≡ 44) ×
+    (telling 2 (figures 2 3 3 (Most 3) (Most 2)) (cells9 1 1 0 0 0 0 1 0 0) 2 (0 ∷ 1 ∷ []) 0 ≡ 0) ×
+    (telling 3 (figures 2 3 3 (Most 3) (Most 2)) (cells9 1 1 0 0 0 0 1 0 0) 2 (1 ∷ []) 0 ≡ 0) ×
+    (telling 3 (figures 2 3 3 (Most 3) (Most 2)) (cells9 1 1 0 0 0 0 1 0 0) 2 (0 ∷ 1 ∷ 2 ∷ []) 0 ≡ 43) ×
+    (telling 9 (figures 2 3 3 (Most 3) (Most 2)) (cells9 1 1 0 0 0 0 1 0 0) 2 (0 ∷ 1 ∷ 2 ∷ []) 2 ≡ 0) ×
+    -- a total over the cells is 1; 1:N does not heed it
+    (telling 10 (figures 2 3 3 (Most 3) (Most 2)) (cells9 1 1 0 0 0 0 1 0 0) 2 (1 ∷ []) 0 ≡ 1) ×
+    (telling 9 (figures 0 3 3 (Most 1) (Most 1)) (cells9 0 0 1 0 0 0 0 0 0) 1 (2 ∷ []) 1 ≡ 0)
+unfolding isCount figuresFit mostEach mostTotal
+    bit count allBits clear rowAt withRow holders takenFrom rowsFit sourcesFit kindFits cellsFit legal
+    marked named allBelow replaces becomes takes others rowAfter result firstOf many overTotal checks judged asked requested
+    fits heeded totalAfter judgedWith toldWith
+v-total = (refl, refl, refl, refl, refl, refl, refl)
