@@ -1,6 +1,6 @@
 -- One law for each answer of the definitions, at plain variables.
-use Prim.Native.Nat.{ℕ, suc, _+_, _-_, _≤_, _<_}
-use mathlib.Core.Path.{_≡_, refl, sym, ap, _∙_}
+use Prim.Native.Nat.{ℕ, _+_, _-_, _≤_, _<_}
+use mathlib.Core.Path.{_≡_, refl, sym, _∙_}
 use mathlib.Core.List.{List, [], _∷_}
 use mathlib.Core.Bool.{Bool, true, false, not}
 use mathlib.Core.Logic.{_⊎_, ⊎-elim}
@@ -20,10 +20,8 @@ use Rattle.ber_values.specs.declared.Flag.{Flag}
 use Rattle.ber_values.specs.declared.Flag.the-variants.{Is, Refused as NoFlag}
 use Rattle.ber_values.specs.declared.Answer.{Answer}
 use Rattle.ber_values.specs.declared.Answer.the-variants.{Found, Other, Refused}
-use Rattle.ber_integers.specs.Digits.{put, unchanged}
 use Rattle.ber_reals.specs.Write.{unwritten, octets}
-use Rattle.ber_values.specs.Write.{part, putPart}
-use lib.Seq.{drop-cons, getD-take, getD-drop, drop-length}
+use Rattle.ber_values.specs.Write.{part}
 use Rattle.ber_values.specs.Value.{boolean, boolAt, onFlag, onNumber, onReal, isListed, kindAt, contentAt, onLength, onHead, valueAt, flagSays}
 use Rattle.ber_values.specs.Value.{flagOr, answerSays, answerOr}
 
@@ -131,31 +129,6 @@ module _ (s : List ℕ) (at bound : ℕ) where
 
     pub value-primitive : class ≡ 0 → c ≡ false → onLength s at number next l ≡ valueAt s at bound
     value-primitive h k = simp (eq-eqb _ _ h, k) at (value-by e)
-
--- octets of one slice put into another
-module _ (src : List ℕ) (start len : ℕ) (out : List ℕ) (at : ℕ) where
-  pub part-out : length src < start + len → putPart src start len out at ≡ unchanged out
-  unfolding putPart
-  part-out h = simp (lt-leb _ _ h)
-
-  pub part-in : start + len ≤ length src → putPart src start len out at ≡ put out at (take len (drop start src))
-  unfolding putPart
-  part-in h = simp (le-leb _ _ h)
-
--- the octets from i on, one earlier
-pub part-back : (src : List ℕ) (start len i : ℕ) → start + len ≤ length src → 0 < i → i ≤ len
-    → drop (i - 1) (take len (drop start src)) ≡ getD src (start + (i - 1)) 0 ∷ drop i (take len (drop start src))
-part-back src start len i w h k =
-    let e : suc (i - 1) ≡ i = omega arith in
-    let l = length-part src start len w in
-    let j : i - 1 < length (take len (drop start src)) = omega arith in
-    let m : i - 1 < len = omega arith in
-    drop-cons (take len (drop start src)) (i - 1) 0 j ∙ rw (e, getD-take len (drop start src) (i - 1) 0 m, getD-drop start src (i - 1) 0)
-
-pub part-last : (src : List ℕ) (start len : ℕ) → start + len ≤ length src → drop len (take len (drop start src)) ≡ []
-part-last src start len w =
-    let l = length-part src start len w in
-    ap (λ (i : ℕ). drop i (take len (drop start src))) (sym l) ∙ drop-length (take len (drop start src))
 
 -- what is written of a text
 module _ (src : List ℕ) (start len : ℕ) where

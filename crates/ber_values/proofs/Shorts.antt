@@ -1,4 +1,4 @@
--- The content octets of integers, reals and booleans are few.
+-- The content octets of integers and reals are few.
 use Prim.Native.Nat.{ℕ, _+_, _<_}
 use mathlib.Core.Path.{_≡_, refl, sym, ap}
 use mathlib.Core.List.{List, [], _∷_}
@@ -19,7 +19,7 @@ use Rattle.ber_integers.proofs.RoundTrip.{length-shortest}
 use Rattle.ber_reals.specs.declared.Read.the-variants.{Real, Refused}
 use Rattle.ber_reals.specs.Number.{number}
 use Rattle.ber_reals.specs.Real.{real, nonEmpty, binaryReal, wellFormed, binary, base, exponentOctets, negative, mantissa, power}
-use Rattle.ber_reals.specs.Write.{octets, form, putForm, writeAt}
+use Rattle.ber_reals.specs.Write.{octets, form}
 use Rattle.ber_reals.proofs.RoundTrip.{written-read}
 
 pub int-short : (z : ℤ) → SFits w64 z → (bs : List ℕ) → octets (shortest z) ≡ octets bs → length bs < 128
@@ -55,10 +55,3 @@ accepted-short (a ∷ (b ∷ bs)) x e = go (wellFormed a (b ∷ bs)) refl e
 
 pub real-short : (x : Float) → T (Ieee.fits binary64 x) → (bs : List ℕ) → form x ≡ octets bs → length bs < 128
 real-short x h bs e = accepted-short bs x (written-read x bs h e)
-
-pub write-form : (out : List ℕ) (at : ℕ) (x : Float) → writeAt out at x ≡ putForm out at (form x)
-unfolding writeAt
-write-form out at x = refl
-
-pub one-short : (b : ℕ) (bs : List ℕ) → octets (b ∷ []) ≡ octets bs → length bs < 128
-one-short b bs e = let f : b ∷ [] ≡ bs = cc in let m : length bs ≡ 1 = ap length (sym f) in omega arith

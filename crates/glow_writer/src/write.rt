@@ -115,7 +115,7 @@ fn put_member(s: &[u8], v: Cell, number: u8, out: &mut [u8], at: usize) -> usize
     let tag = low(v.kind);
     if is_part(v.kind) {
         let a = put_outer(number, tag, v.second, out, at);
-        return place(ber_values::write_part(s, index(v.first), index(v.second), out, a));
+        return place(ber_value_writer::write_part(s, index(v.first), index(v.second), out, a));
     }
     let a = put_outer(number, tag, word_size(v.kind, v.first, false), out, at);
     put_word(v.kind, v.first, out, a)

@@ -27,7 +27,7 @@ fn write(asked: Asked, src: &[u8], numbers: &[u64], out: &mut [u8]) -> Wrote {
     match asked {
         Asked::Int(x) => ber_integers::write_int(x, out, AT),
         Asked::Bits(bits) => ber_reals::write_bits(bits, out, AT),
-        Asked::Bool(b) => ber_integers::write_octet(ber_values::bool_octet(b), out, AT),
+        Asked::Bool(b) => ber_integers::write_octet(ber_value_writer::bool_octet(b), out, AT),
         Asked::Tag {
             class,
             constructed,
@@ -35,7 +35,7 @@ fn write(asked: Asked, src: &[u8], numbers: &[u64], out: &mut [u8]) -> Wrote {
         } => ber_tags::write_tag(class, constructed, number, out, AT),
         Asked::Length(n) => ber_tags::write_length(n, out, AT),
         Asked::Oid => ber_identifiers::write_oid(numbers, out, AT),
-        Asked::Whole(value) => ber_values::write_value(value, src, out, AT),
+        Asked::Whole(value) => ber_value_writer::write_value(value, src, out, AT),
     }
 }
 

@@ -13,7 +13,7 @@ use Rattle.glow_member_sizes.proofs.word_size.Reads as word-size-reads
 use Rattle.glow_writer.proofs.write.low.Reads as low-reads
 use Rattle.glow_writer.proofs.write.put_outer.Reads as put-outer-reads
 use Rattle.glow_writer.proofs.write.put_word.Reads as put-word-reads
-use Rattle.ber_values.proofs.write_part.Reads as write-part-reads
+use Rattle.ber_value_writer.proofs.write_part.Reads as write-part-reads
 
 returns : tie.Need-returns
 returns c =

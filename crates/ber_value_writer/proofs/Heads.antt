@@ -18,8 +18,9 @@ use Rattle.ber_tags.specs.Write.{bit, tagOctets, lengthOctets}
 use Rattle.ber_reals.specs.Write.{Form, unwritten, octets, putForm}
 use Rattle.ber_tags.specs.Write.{putLength}
 use Rattle.ber_tags.proofs.Laws.{put-length-is}
 use Rattle.ber_values.specs.Write.{primitive, part, putPart, putPrimitive, putHead, Sealable}
-use Rattle.ber_values.proofs.Laws.{part-out, part-in, text-out, text-in}
+use Rattle.ber_values.proofs.Laws.{text-out, text-in}
+use Rattle.ber_value_writer.proofs.Laws.{part-out, part-in}
 
 -- a kind below 31 is one octet, and so is a length below 128
 pub kind-octet : (kind : ℕ) → kind < 31 → tagOctets 0 false kind ≡ kind ∷ []

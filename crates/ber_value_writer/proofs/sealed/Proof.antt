@@ -2,10 +2,10 @@ use mathlib.Core.Path.{ap, subst, _∙_}
 use native.Mathlib.Omega.{arith}
 use lib.ListN.{length-set}
 use Rattle.ber_integers.specs.declared.Wrote.the-variants.{Next}
 use Rattle.ber_values.specs.Write.{putHead, Sealable}
 use borrow.Author.Needs.{needs}
-use Rattle.ber_values.proofs.sealed.Statement.{statement}
-use Rattle.ber_values.proofs.sealed.Tie as tie
+use Rattle.ber_value_writer.proofs.sealed.Statement.{statement}
+use Rattle.ber_value_writer.proofs.sealed.Tie as tie
 
 fits : (c : tie.After-w) → Sealable (c .before .before .before .args .out .now) (c .before .before .before .args .at) (Next (c .w .given .0 .0))
 fits c = subst (Sealable _ _) (c .w .given .1) (c .before .before .before .pre)

@@ -3,11 +3,11 @@ use native.Mathlib.Omega.{arith}
 use mir.Facts.{toZ-ofZ}
 use Rattle.ber_integers.specs.Integer.{shortest}
 use Rattle.ber_reals.specs.Write.{octets}
-use Rattle.ber_values.proofs.Heads.{form-none, form-fits, form-put}
+use Rattle.ber_value_writer.proofs.Heads.{form-none, form-fits, form-put}
 use Rattle.ber_values.proofs.Shorts.{int-short}
 use borrow.Author.Needs.{needs}
-use Rattle.ber_values.proofs.write_whole.Statement.{statement}
-use Rattle.ber_values.proofs.write_whole.Tie as tie
+use Rattle.ber_value_writer.proofs.write_whole.Statement.{statement}
+use Rattle.ber_value_writer.proofs.write_whole.Tie as tie
 
 returns : tie.Need-returns
 returns c = let a = c .before .before in form-none _ _ 2 (omega arith) (octets (shortest (a .args .x))) (int-short (a .args .x) (a .fits .x)) (omega arith)

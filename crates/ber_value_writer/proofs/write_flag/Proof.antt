@@ -2,12 +2,12 @@ use mathlib.Core.Path.{_∙_}
 use native.Mathlib.Omega.{arith}
 use mathlib.Core.List.{[], _∷_}
 use Rattle.ber_reals.specs.Write.{octets}
 use Rattle.ber_values.specs.Write.{boolOctet}
-use Rattle.ber_values.proofs.Heads.{form-none, form-fits, form-put}
-use Rattle.ber_values.proofs.Shorts.{one-short}
+use Rattle.ber_value_writer.proofs.Heads.{form-none, form-fits, form-put}
+use Rattle.ber_value_writer.proofs.Laws.{one-short}
 use borrow.Author.Needs.{needs}
-use Rattle.ber_values.proofs.write_flag.Statement.{statement}
-use Rattle.ber_values.proofs.write_flag.Tie as tie
+use Rattle.ber_value_writer.proofs.write_flag.Statement.{statement}
+use Rattle.ber_value_writer.proofs.write_flag.Tie as tie
 
 returns : tie.Need-returns
 returns c = let a = c .before .before in form-none _ _ 1 (omega arith) (octets (boolOctet (a .args .b) ∷ [])) (one-short (boolOctet (a .args .b))) (omega arith)

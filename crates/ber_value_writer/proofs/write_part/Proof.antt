@@ -4,9 +4,9 @@ use native.Mathlib.Omega.{arith}
 use mathlib.Core.List.{_++_}
 use lib.ListN.{length, take, drop, getD, length-set}
 use Rattle.ber_integers.proofs.Laws.{put-out, put-in, fill-start, fill-step, length-part}
-use Rattle.ber_values.proofs.Laws.{part-out, part-in, part-back, part-last}
-use Rattle.ber_values.proofs.write_part.Statement.{statement}
-use Rattle.ber_values.proofs.write_part.Tie as tie
+use Rattle.ber_value_writer.proofs.Laws.{part-out, part-in, part-back, part-last}
+use Rattle.ber_value_writer.proofs.write_part.Statement.{statement}
+use Rattle.ber_value_writer.proofs.write_part.Tie as tie
 
 abbrev Inv-loop : tie.InvT-loop
 Inv-loop src start len out₀ at i₀ out i =

@@ -1,10 +1,10 @@
 use mathlib.Core.Path.{_≡_, ap, _∙_}
 use mir.Syntax.{w64}
 use mir.Val.{toZ, ofZ}
 use Rattle.ber_values.specs.Write.{putValue}
 use borrow.Author.Needs.{needs}
-use Rattle.ber_values.proofs.write_value.Statement.{statement}
-use Rattle.ber_values.proofs.write_value.Tie as tie
+use Rattle.ber_value_writer.proofs.write_value.Statement.{statement}
+use Rattle.ber_value_writer.proofs.write_value.Tie as tie
 
 enum-told : tie.Need-enum-told
 enum-told c = search needs

@@ -4,11 +4,12 @@ use lib.Dec.{T}
 use lib.Ieee as Ieee
 use lib.Ieee.{binary64}
 use Rattle.ber_reals.specs.Write.{form}
-use Rattle.ber_values.proofs.Heads.{form-none, form-fits, form-put}
-use Rattle.ber_values.proofs.Shorts.{real-short, write-form}
+use Rattle.ber_value_writer.proofs.Heads.{form-none, form-fits, form-put}
+use Rattle.ber_values.proofs.Shorts.{real-short}
+use Rattle.ber_value_writer.proofs.Laws.{write-form}
 use borrow.Author.Needs.{needs}
-use Rattle.ber_values.proofs.write_double.Statement.{statement}
-use Rattle.ber_values.proofs.write_double.Tie as tie
+use Rattle.ber_value_writer.proofs.write_double.Statement.{statement}
+use Rattle.ber_value_writer.proofs.write_double.Tie as tie
 
 double : (c : tie.Start) → T (Ieee.fits binary64 (c .args .x))
 double c = subst T (sym (c .good .0 .1)) tt

@@ -3,12 +3,12 @@ use mathlib.Core.Path.{_≡_, ap, _∙_}
 use native.Mathlib.Omega.{arith}
 use lib.ListN.{length, length-set}
 use Rattle.ber_tags.specs.Write.{lengthOctets}
 use Rattle.ber_values.specs.Write.{putPrimitive}
 use Rattle.ber_values.proofs.Laws.{text-long}
-use Rattle.ber_values.proofs.Heads.{text-none, text-stop, text-done}
+use Rattle.ber_value_writer.proofs.Heads.{text-none, text-stop, text-done}
 use borrow.Author.Needs.{needs}
-use Rattle.ber_values.proofs.write_text.Statement.{statement}
-use Rattle.ber_values.proofs.write_text.Tie as tie
+use Rattle.ber_value_writer.proofs.write_text.Statement.{statement}
+use Rattle.ber_value_writer.proofs.write_text.Tie as tie
 
 few : (c : tie.Else1) → c .before .before .before .before .args .len ≤ 4294967295
 few c = rw (c .before .word .ensures) at (c .if1 .left)
