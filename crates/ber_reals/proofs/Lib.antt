@@ -1,5 +1,5 @@
 -- What the proofs share, and the theorems on reals: `exactly`, `unique`, `otherwise` (Exactly); `written-read`, `read-written`, `written-least`,
--- `written-plain`, `written-read-at` (RoundTrip); `round-trip`, `written-read-by-calls` (Calls); with which numbers each call answers (Numbers).
+-- `written-plain`, `written-read-at` (RoundTrip); with which numbers each call answers (Numbers).
 pub mod Powers
 pub mod Odd
 pub mod Doubles
@@ -9,8 +9,6 @@ pub mod RealLaws
 pub mod WriteLaws
 pub mod Naturals
 pub mod PowerOctets
-pub mod Puts
 pub mod Exactly
 pub mod RoundTrip
-pub mod Calls
 pub mod Numbers

@@ -54,7 +54,7 @@ fn write_double(x: f64, out: &mut [u8], at: usize) -> Wrote
     if out.len() - 2 < at {
         return Wrote::Out;
     }
-    let w = ber_reals::write_real(x, out, at + 2);
+    let w = ber_real_writer::write_real(x, out, at + 2);
     sealed(9, w, out, at)
 }
 

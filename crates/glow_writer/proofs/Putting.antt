@@ -23,7 +23,7 @@ use Rattle.ber_integers.proofs.Laws.{put-in}
 use Rattle.ber_integers.proofs.Radix.{lt-or-le}
 use Rattle.ber_integers.proofs.Output.{put-next, put-length}
 use Rattle.ber_reals.specs.Write.{Form, unwritten, octets, form, putForm, writeAt}
-use Rattle.ber_reals.proofs.Puts.{put-then}
+use Rattle.ber_real_writer.proofs.Puts.{put-then}
 use Rattle.ber_tags.specs.Write.{bit, tagOctets, lengthOctets, putLength}
 use Rattle.ber_values.specs.Write.{putPart}
 use Rattle.glow_rows.specs.declared.Cell.{Cell}

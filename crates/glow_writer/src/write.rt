@@ -101,7 +101,7 @@ fn put_word(kind: u64, w: u64, out: &mut [u8], at: usize) -> usize
     if kind == INTEGER {
         return place(ber_integers::write_int(int_of(w), out, at));
     }
-    place(ber_reals::write_bits(w, out, at))
+    place(ber_real_writer::write_bits(w, out, at))
 }
 
 // A member with both tags; nothing for an absent one.

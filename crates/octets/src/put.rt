@@ -26,7 +26,7 @@ const AT: usize = 3;
 fn write(asked: Asked, src: &[u8], numbers: &[u64], out: &mut [u8]) -> Wrote {
     match asked {
         Asked::Int(x) => ber_integers::write_int(x, out, AT),
-        Asked::Bits(bits) => ber_reals::write_bits(bits, out, AT),
+        Asked::Bits(bits) => ber_real_writer::write_bits(bits, out, AT),
         Asked::Bool(b) => ber_integers::write_octet(ber_value_writer::bool_octet(b), out, AT),
         Asked::Tag {
             class,

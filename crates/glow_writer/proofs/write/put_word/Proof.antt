@@ -12,7 +12,7 @@ use Rattle.glow_member_sizes.proofs.place.Reads as place-reads
 use Rattle.glow_writer.proofs.write.flag.Reads as flag-reads
 use Rattle.glow_writer.proofs.write.put_octet.Reads as put-octet-reads
 use Rattle.ber_integers.proofs.write_int.Reads as write-int-reads
-use Rattle.ber_reals.proofs.write_bits.Reads as write-bits-reads
+use Rattle.ber_real_writer.proofs.write_bits.Reads as write-bits-reads
 
 flag-requires : tie.Need-flag-requires
 flag-requires c κs = search needs

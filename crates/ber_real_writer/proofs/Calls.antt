@@ -13,19 +13,19 @@ use lib.Dec.{T}
 use lib.ListN.{length}
 use lib.Ieee as Ieee
 use lib.Ieee.{Float, binary64}
-use Rattle.ber_reals.proofs.write_real
-use Rattle.ber_reals.proofs.write_real.Kinds as write-kinds
-use Rattle.ber_reals.proofs.write_real.Reads as write-reads
+use Rattle.ber_real_writer.proofs.write_real
+use Rattle.ber_real_writer.proofs.write_real.Kinds as write-kinds
+use Rattle.ber_real_writer.proofs.write_real.Reads as write-reads
 use Rattle.ber_reals.proofs.read_real
 use Rattle.ber_reals.proofs.read_real.Kinds as read-kinds
 use Rattle.ber_reals.proofs.read_real.Reads as read-reads
 use Rattle.ber_integers.specs.declared.Wrote.{Wrote}
 use Rattle.ber_integers.specs.declared.Wrote.the-variants.{Next}
 use Rattle.ber_reals.specs.declared.Read.{Read}
 use Rattle.ber_reals.specs.declared.Read.the-variants.{Real}
 use Rattle.ber_reals.specs.Real.{realAt}
 use Rattle.ber_reals.specs.Write.{Form, octets, form, putForm, writeAt}
 use Rattle.ber_reals.proofs.RoundTrip.{written-read-at}
 use Rattle.ber_integers.specs.Digits.{outcome}
 use Rattle.ber_integers.proofs.Laws.{put-in}
 

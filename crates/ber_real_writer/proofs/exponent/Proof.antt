@@ -1,9 +1,9 @@
--- `ber_reals::exponent` meets its contract. Assumes nothing.
+-- `ber_real_writer::exponent` meets its contract. Assumes nothing.
 use native.Mathlib.Omega.{arith}
-use Rattle.ber_reals.proofs.WriteLaws.{exponent-up-one, exponent-up-two, exponent-down-one, exponent-down-two}
+use Rattle.ber_real_writer.proofs.WriteLaws.{exponent-up-one, exponent-up-two, exponent-down-one, exponent-down-two}
 use borrow.Author.Needs.{needs}
-use Rattle.ber_reals.proofs.exponent.Statement.{statement}
-use Rattle.ber_reals.proofs.exponent.Tie as tie
+use Rattle.ber_real_writer.proofs.exponent.Statement.{statement}
+use Rattle.ber_real_writer.proofs.exponent.Tie as tie
 
 returns : tie.Need-returns
 returns c = (exponent-up-one (c .before .before .args .units) (omega arith) (omega arith), (omega arith, omega arith))

@@ -1,18 +1,19 @@
--- `ber_reals::write_finite` meets its contract. Assumes nothing.
+-- `ber_real_writer::write_finite` meets its contract. Assumes nothing.
 use Prim.Native.Nat.{ℕ, _+_, _/_, _%_, _^_}
 use mathlib.Core.Path.{_≡_, sym, ap, _∙_}
 use native.Mathlib.Omega.{arith}
 use lib.Ieee.{minus}
 use lib.Count.{trailing-le}
 use Rattle.ber_reals.specs.Number.{oddPart, halvings}
 use Rattle.ber_reals.proofs.Odd.{halvings-lt}
 use Rattle.ber_reals.proofs.Doubles.{odd-is}
 use Rattle.ber_reals.specs.Write.{writeAt, numberOctets}
-use Rattle.ber_reals.proofs.WriteLaws.{write-number, odd-of}
+use Rattle.ber_reals.proofs.WriteLaws.{odd-of}
+use Rattle.ber_real_writer.proofs.WriteLaws.{write-number}
 use Rattle.ber_integers.specs.Digits.{put}
 use borrow.Author.Needs.{needs}
-use Rattle.ber_reals.proofs.write_finite.Statement.{statement}
-use Rattle.ber_reals.proofs.write_finite.Tie as tie
+use Rattle.ber_real_writer.proofs.write_finite.Statement.{statement}
+use Rattle.ber_real_writer.proofs.write_finite.Tie as tie
 
 halvings-requires : tie.Need-halvings-requires
 halvings-requires c κs = search needs

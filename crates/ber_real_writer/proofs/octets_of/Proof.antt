@@ -1,9 +1,9 @@
--- `ber_reals::octets_of` meets its contract. Assumes nothing.
+-- `ber_real_writer::octets_of` meets its contract. Assumes nothing.
 use native.Mathlib.Omega.{arith}
 use lib.Ieee.Digits.{size-le}
 use borrow.Author.Needs.{needs}
-use Rattle.ber_reals.proofs.octets_of.Statement.{statement}
-use Rattle.ber_reals.proofs.octets_of.Tie as tie
+use Rattle.ber_real_writer.proofs.octets_of.Statement.{statement}
+use Rattle.ber_real_writer.proofs.octets_of.Tie as tie
 
 bits-requires : tie.Need-bits-requires
 bits-requires c κs = search needs

@@ -1,11 +1,11 @@
--- `ber_reals::first_octet` meets its contract. Assumes nothing.
+-- `ber_real_writer::first_octet` meets its contract. Assumes nothing.
 use mathlib.Core.Path.{sym, ap}
 use mathlib.Core.Bool.{Bool}
 use native.Mathlib.Omega.{arith}
 use Rattle.ber_reals.specs.Write.{firstOctet}
 use borrow.Author.Needs.{needs}
-use Rattle.ber_reals.proofs.first_octet.Statement.{statement}
-use Rattle.ber_reals.proofs.first_octet.Tie as tie
+use Rattle.ber_real_writer.proofs.first_octet.Statement.{statement}
+use Rattle.ber_real_writer.proofs.first_octet.Tie as tie
 
 sub-result : tie.Need-sub-result
 sub-result c = search needs

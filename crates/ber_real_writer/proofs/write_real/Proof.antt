@@ -1,4 +1,4 @@
--- `ber_reals::write_real` meets its contract. Assumes nothing.
+-- `ber_real_writer::write_real` meets its contract. Assumes nothing.
 use mathlib.Core.Path.{_≡_, sym, ap, _∙_, subst}
 use mathlib.Core.Bool.{false, not}
 use lib.Dec.{T}
@@ -6,11 +6,11 @@ use lib.Ieee as Ieee
 use lib.Ieee.{Float, nan, inf, fin, binary64}
 use lib.Ieee.Bits.{ofBits-toBits}
 use lib.Ieee.Compare.{differs-from-itself}
 use Rattle.ber_reals.specs.Write.{writeAt}
-use Rattle.ber_reals.proofs.WriteLaws.{write-nan}
+use Rattle.ber_real_writer.proofs.WriteLaws.{write-nan}
 use borrow.Author.Needs.{needs}
-use Rattle.ber_reals.proofs.write_real.Statement.{statement}
-use Rattle.ber_reals.proofs.write_real.Tie as tie
+use Rattle.ber_real_writer.proofs.write_real.Statement.{statement}
+use Rattle.ber_real_writer.proofs.write_real.Tie as tie
 
 no-nan : (x : Float) → Ieee.ne x x ≡ false → T (not (Ieee.isNan x))
 unfolding Ieee.ne Ieee.isNan

@@ -1,4 +1,4 @@
--- `ber_reals::write_number` meets its contract. Assumes nothing.
+-- `ber_real_writer::write_number` meets its contract. Assumes nothing.
 use Prim.Native.Nat.{ℕ, _+_, _≤_, _<_}
 use mathlib.Core.Path.{_≡_, refl}
 use mathlib.Core.Bool.{Bool, true, false}
@@ -7,10 +7,10 @@ use lib.ListN.{length}
 use lib.Ieee.{minus}
 use borrow.Author.Needs.{needs}
 use Rattle.ber_integers.specs.Digits.{put, unchanged}
 use Rattle.ber_reals.specs.Write.{firstOctet, numberOctets}
-use Rattle.ber_reals.proofs.Puts.{number-short, number-puts}
-use Rattle.ber_reals.proofs.write_number.Statement.{statement}
-use Rattle.ber_reals.proofs.write_number.Tie as tie
+use Rattle.ber_real_writer.proofs.Puts.{number-short, number-puts}
+use Rattle.ber_real_writer.proofs.write_number.Statement.{statement}
+use Rattle.ber_real_writer.proofs.write_number.Tie as tie
 
 first-lt : (s : Bool) (k : ℕ) → k ≤ 2 → firstOctet s k < 256
 first-lt true k h = omega arith

@@ -1,16 +1,16 @@
--- `ber_reals::write_bits` meets its contract. Assumes nothing.
+-- `ber_real_writer::write_bits` meets its contract. Assumes nothing.
 use mathlib.Core.Path.{ap, _∙_}
 use mathlib.Core.Bool.{Bool}
 use native.Mathlib.Omega.{arith}
 use lib.IntN.{pos}
 use lib.Ieee.{inf, fin}
 use Rattle.ber_integers.specs.Digits.{digits}
 use Rattle.ber_reals.specs.Write.{writeAt}
-use Rattle.ber_reals.proofs.WriteLaws.{write-nan, write-plus, write-minus, write-zero, write-minus-zero, bits-nan, bits-inf, bits-zero}
-use Rattle.ber_reals.proofs.WriteLaws.{bits-small, bits-normal}
+use Rattle.ber_reals.proofs.WriteLaws.{bits-nan, bits-inf, bits-zero, bits-small, bits-normal}
+use Rattle.ber_real_writer.proofs.WriteLaws.{write-nan, write-plus, write-minus, write-zero, write-minus-zero}
 use borrow.Author.Needs.{needs}
-use Rattle.ber_reals.proofs.write_bits.Statement.{statement}
-use Rattle.ber_reals.proofs.write_bits.Tie as tie
+use Rattle.ber_real_writer.proofs.write_bits.Statement.{statement}
+use Rattle.ber_real_writer.proofs.write_bits.Tie as tie
 
 returns : tie.Need-returns
 returns c = let a = c .before .before .before .args in
