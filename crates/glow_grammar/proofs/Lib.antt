@@ -1,5 +1,3 @@
--- What the proofs share (Tables, Laws, Words), and what holds of a value that is kept: `leaf-bounded`, `kept-part`, `kept-path` (Bounds).
+-- What the proofs share: what the tables say (Tables), and numbers and names (Laws).
 pub mod Tables
 pub mod Laws
-pub mod Words
-pub mod Bounds

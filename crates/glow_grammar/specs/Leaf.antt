@@ -1,5 +1,5 @@
 -- One value, judged by what stands at its member. Its tag, at `at`, is a universal primitive one with this number; its len content octets stand at `start`.
--- `above` counts the numbers of the path so far. For other crates: `leafAt s at number start len what above` is what `read_leaf` answers.
+-- `above` counts the numbers of the path so far. For other crates: `leafAt s at number start len what above` is what `read_leaf` of glow_leaves answers.
 use Prim.Native.Nat.{ℕ, _+_, _≤_}
 use mathlib.Core.Path.{_≡_}
 use mathlib.Core.Logic.{_⊎_}
@@ -145,7 +145,7 @@ cellBy number first len = cell number first (pick (ltb number universal.text) 0 
 abbrev pub Counted : ℕ → Type 0
 Counted what = (expects what universal.integer ≡ true) × (what ≡ step → ⊥)
 
--- For `word_of` and its parts: any answer but this is the first word of the cell that is kept.
+-- For `word_of` of glow_leaves and its parts: any answer but this is the first word of the cell that is kept.
 abbrev pub noWord : ℕ
 noWord = 9223372036854775808
 

@@ -15,7 +15,7 @@ use Rattle.ber_tags.specs.Write.{tagOctets, lengthOctets}
 use Rattle.ber_values.specs.Value.{isListed}
 use Rattle.ber_values.proofs.Laws.{content-octets, content-text}
 use Rattle.glow_rows.specs.Cell.{cell, numbersCell}
-use Rattle.glow_grammar.proofs.Laws.{leaf-numbers, leaf-value}
+use Rattle.glow_leaves.proofs.Laws.{leaf-numbers, leaf-value}
 use Rattle.ber_identifiers.specs.Identifier.{Arcs, bad, over, numbers, arcs}
 use Rattle.glow_rows.specs.declared.Cell.{Cell}
 use Rattle.glow_grammar.specs.declared.Leaf.{Leaf}

@@ -3,8 +3,8 @@ use base_casts::index;
 use base_casts::word;
 use ber_integers::Wrote;
 use glow_grammar::Leaf;
-use glow_grammar::NO_WORD;
 use glow_grammar::rules;
+use glow_leaves::NO_WORD;
 use glow_rows::Cell;
 use glow_rows::MOST_BYTES;
 use glow_rows::tags;
@@ -154,10 +154,10 @@ pub fn is_part(kind: u64) -> bool
 fn part_fits(s: &[u8], kind: u64, start: usize, len: usize, what: u64) -> bool
     ensures { λ r. ⌜ isKept (leafAt (now (s .entry)) 0 kind start len what 0) ≡ r ⌝ }
 {
-    if glow_grammar::word_of(s, kind, start, len, what) != NO_WORD {
+    if glow_leaves::word_of(s, kind, start, len, what) != NO_WORD {
         return true;
     }
-    match glow_grammar::read_leaf(s, 0, kind, start, len, what, 0) {
+    match glow_leaves::read_leaf(s, 0, kind, start, len, what, 0) {
         Leaf::Refused(_, _) => false,
         Leaf::Kept(_, _) => true,
     }

@@ -54,7 +54,7 @@ use Rattle.glow_grammar.specs.declared.Leaf.{Leaf}
 use Rattle.glow_grammar.specs.declared.Leaf.the-variants.{Kept, Refused as Unfit}
 use Rattle.glow_grammar.specs.Grammar.{any, step, path, name, body, ruleOf, innerClass, innerNumber}
 use Rattle.glow_grammar.specs.Leaf.{expects, inRange, isName, isPath, numberLeaf, textLeaf, valueLeaf, judged, pathLeaf, listLeaf, numbersAt, leafAt}
-use Rattle.glow_grammar.proofs.Bounds.{isPart, kept-part}
+use Rattle.glow_leaves.proofs.Bounds.{isPart, kept-part}
 use Rattle.glow_steps.specs.declared.Member.{Member}
 use Rattle.glow_steps.specs.declared.Member.the-variants.{Done, Over, Leaf as Cell-of, Contents, Items, Refused as NoMember}
 use Rattle.glow_steps.specs.declared.Item.{Item}

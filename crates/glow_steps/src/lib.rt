@@ -154,7 +154,7 @@ fn plain(
     let start = g.start;
     let inner = g.inner;
     let end = inner.end;
-    match glow_grammar::read_leaf(s, at, g.number, start, end - start, what, above) {
+    match glow_leaves::read_leaf(s, at, g.number, start, end - start, what, above) {
         Leaf::Refused(number, place) => Member::Refused(No(number, place)),
         Leaf::Kept(v, path) => {
             let outer = t.inner;

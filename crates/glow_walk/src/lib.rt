@@ -169,12 +169,12 @@ fn leaf(s: &[u8], row: u64, me: usize, at: Cursor, what: u64, table: &mut [[u64;
     let kind = wide(s[p + 2]);
     let len = size(s[p + 3]);
     let start = p + 4;
-    let first = glow_grammar::word_of(s, kind, start, len, what);
-    if first != glow_grammar::NO_WORD {
+    let first = glow_leaves::word_of(s, kind, start, len, what);
+    if first != glow_leaves::NO_WORD {
         glow_rows::put_cell(table, me, c, worded(kind, first, len));
         return on(start + len, before, at.above, at.count);
     }
-    match glow_grammar::read_leaf(s, p + 2, kind, start, len, what, at.above) {
+    match glow_leaves::read_leaf(s, p + 2, kind, start, len, what, at.above) {
         Leaf::Refused(no, place) => Turn::Refused(No(no, place)),
         Leaf::Kept(value, above) => {
             glow_rows::put_cell(table, me, c, value);

@@ -26,7 +26,7 @@ use Rattle.glow_grammar.specs.declared.Leaf.{Leaf}
 use Rattle.glow_grammar.specs.declared.Leaf.the-variants.{Kept, Refused as Unfit}
 use Rattle.glow_grammar.specs.Grammar.{ruleOf, innerClass, innerNumber, collectionOf, kindIn}
 use Rattle.glow_grammar.specs.Leaf.{leafAt, LeafBounded}
-use Rattle.glow_grammar.proofs.Bounds.{leaf-bounded, bounded-16}
+use Rattle.glow_leaves.proofs.Bounds.{leaf-bounded, bounded-16}
 use Rattle.glow_steps.specs.declared.Member.{Member}
 use Rattle.glow_steps.specs.declared.Member.the-variants.{Done, Over, Leaf as Cell-of, Contents, Items, Refused as NoMember}
 use Rattle.glow_steps.specs.declared.Item.{Item}

@@ -36,7 +36,7 @@ use Rattle.glow_rows.specs.Cell.{cell, wordOf, bitOf, cellOf, numbersCell}
 use Rattle.glow_grammar.specs.declared.Leaf.the-variants.{Kept}
 use Rattle.glow_grammar.specs.Grammar.{path, any, name}
 use Rattle.glow_grammar.specs.Leaf.{expects, inRange, isName, judged, pathLeaf, listLeaf, numbersAt, leafAt}
-use Rattle.glow_grammar.proofs.Laws.{number-any, number-step, number-kept, text-free, text-name, leaf-value, leaf-numbers}
+use Rattle.glow_leaves.proofs.Laws.{number-any, number-step, number-kept, text-free, text-name, leaf-value, leaf-numbers}
 use Rattle.glow_grammar.proofs.Tables.{expects-step, expects-numbers}
 use Rattle.glow_trees.specs.Content.{Content, nothing, word, bytes, wrong, isPart, isWord, contentOf, intOf}
 use Rattle.glow_trees.specs.Legal.{isReal, wordSuits, pathSuits, listSuits, partSuits, suits, present, lengthOf, pathOf}

@@ -9,8 +9,8 @@ use Rattle.glow_walk.proofs.leaf.Statement.{statement}
 use Rattle.glow_walk.proofs.leaf.Tie as tie
 use Rattle.glow_walk.proofs.leaf.Reads as reads
 use Rattle.glow_walk.proofs.leaf.Lts as lts
-use Rattle.glow_grammar.proofs.read_leaf.Reads as read-leaf-reads
-use Rattle.glow_grammar.proofs.word_of.Reads as word-of-reads
+use Rattle.glow_leaves.proofs.read_leaf.Reads as read-leaf-reads
+use Rattle.glow_leaves.proofs.word_of.Reads as word-of-reads
 use Rattle.glow_rows.proofs.put_cell.Reads as put-cell-reads
 use Rattle.glow_steps.proofs.after_listed.Reads as after-listed-reads
 use Rattle.glow_steps.proofs.column_of.Reads as column-of-reads

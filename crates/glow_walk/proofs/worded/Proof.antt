@@ -1,4 +1,4 @@
-use Rattle.glow_grammar.proofs.Words.{cell-short, cell-long}
+use Rattle.glow_leaves.proofs.Words.{cell-short, cell-long}
 use mathlib.Core.Path.{refl, sym, _∙_}
 use borrow.Author.Needs.{needs}
 use Rattle.glow_walk.proofs.worded.Statement.{statement}
