@@ -20,10 +20,12 @@ use Rattle.trees_round_trip.proofs.Reading.{read-walk}
 use Rattle.trees_round_trip.proofs.Rewriting.{in-rows}
 use Rattle.desk_crosspoints.specs.Crosspoints.{clear}
 use Rattle.desk_crosspoints.specs.Desk.{Desk, deskLegal}
+use Rattle.desk_setup.specs.Ready.{isReady}
+use Rattle.desk_setup.proofs.Laws.{ready-from, setup-desk}
 use Rattle.desk_calls.specs.declared.Called.{Called}
-use Rattle.desk_calls.specs.Calls.{Outcome, isReady, called, outcomeOf, uncalled, calledAfter}
+use Rattle.desk_calls.specs.Calls.{Outcome, called, outcomeOf, uncalled, calledAfter}
 use Rattle.desk_calls.specs.Steps.{servedIn}
-use Rattle.desk_calls.proofs.Setup.{called-ready, ready-from, setup-desk, unready-told, laid-zeros}
+use Rattle.desk_calls.proofs.Setup.{called-not, called-ready, unready-told, laid-zeros}
 
 -- bytes are octets
 pub octets-all : (s : List ℕ) → ((i : ℕ) → getD s i 0 < 256) → Below 256 s
@@ -86,7 +88,7 @@ module _ (s : List ℕ) (table : Rows) (a : Answer) (rows : Rows) (q : readAt s 
 
     pub after-unready : deskLegal d ≡ false → (r : Called) → r ≡ record { number = 1; count = 0; answers = clear 256 }
         → Gives (outcomeOf r (d .crosspoints))
-    after-unready g r e = (read-is, setup-desk d root rows count s rows-few message-few g ∙ unready-told r (d .crosspoints) e)
+    after-unready g r e = (read-is, called-not d root rows count s (setup-desk d root rows count s rows-few message-few g) ∙ unready-told r (d .crosspoints) e)
 
     pub after-served : Below 256 s → deskLegal d ≡ true → (lent : List ℕ) (x : Outcome) → lent ≡ clear 256 → servedIn d rows count s lent ≡ x → Gives x
     after-served octets g lent x e k =

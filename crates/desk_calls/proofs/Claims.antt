@@ -18,7 +18,8 @@ use Rattle.desk_requests.proofs.Claims.{request-legal, refused-same, request-le
 use Rattle.glow_paths.specs.Paths.{same}
 use Rattle.desk_connections.specs.Connections.{Ask, askOf, asksIn, asksOf}
 use Rattle.desk_calls.specs.Calls.{requestOf, answered, Served, answers, served, handled, Outcome, filled, laid}
-use Rattle.desk_calls.specs.Calls.{unserved, isReady, called}
+use Rattle.desk_calls.specs.Calls.{unserved, called}
+use Rattle.desk_setup.specs.Ready.{isReady}
 use Rattle.desk_calls.proofs.Setup.{called-not, called-ready}
 
 -- Whatever of a desk a request keeps, a message's connections keep.

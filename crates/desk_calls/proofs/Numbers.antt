@@ -20,7 +20,8 @@ use Rattle.desk_requests.proofs.Claims.{request-legal, request-not-setup}
 use Rattle.glow_paths.specs.Paths.{same}
 use Rattle.desk_connections.specs.Connections.{Ask}
 use Rattle.desk_connections.proofs.Operations.{Operations}
-use Rattle.desk_calls.specs.Calls.{requestOf, answered, served, handled, laid, unserved, isReady, called}
+use Rattle.desk_calls.specs.Calls.{requestOf, answered, served, handled, laid, unserved, called}
+use Rattle.desk_setup.specs.Ready.{isReady}
 use Rattle.desk_calls.specs.Numbers.{openNumbers, requestNumbers, callNumbers, answerNumbers, AllOneOf}
 use Rattle.desk_calls.proofs.Claims.{Lawful, answered-keeps}
 

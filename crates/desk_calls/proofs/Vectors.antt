@@ -18,7 +18,8 @@ use Rattle.desk_requests.specs.Request.{marked, named, allBelow, replaces, beco
 use Rattle.desk_requests.specs.Request.{firstOf, many, overTotal, checks, judged, asked, requested}
 use Rattle.glow_paths.specs.Paths.{numbersIn, isQualified, pathUp, fullPath, same}
 use Rattle.desk_connections.specs.Connections.{ask, askOf, asksIn}
-use Rattle.desk_calls.specs.Calls.{answered, answers, served, handled, outcome, filled, laid, isReady, called}
+use Rattle.desk_calls.specs.Calls.{answered, answers, served, handled, outcome, filled, laid, called}
+use Rattle.desk_setup.specs.Ready.{isReady}
 
 abbrev desk : ℕ → Figures
 desk kind = record { kind = kind; targets = 3; sources = 3; total = Absent; each = Absent }

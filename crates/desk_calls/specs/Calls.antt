@@ -1,18 +1,16 @@
 -- The desk's call on a message's entries (document 01, "Desk" and "Numbers answered").
 use Prim.Native.Nat.{ℕ, _-_}
 use mathlib.Core.List.{List, [], _∷_, _++_}
-use mathlib.Core.Bool.{Bool}
 use lib.ListN.{length}
-use lib.Dec.{leb}
-use Rattle.base_choices.specs.Choices.{pick, both}
+use Rattle.base_choices.specs.Choices.{pick}
 use Rattle.glow_rows.specs.Entry.{Rows}
 use Rattle.glow_trees.specs.Content.{Item}
 use Rattle.glow_trees.specs.Rows.{itemsIn}
-use Rattle.glow_sizes.specs.Accepted.{accepted}
 use Rattle.glow_reader.specs.declared.Answer as reader
 use Rattle.glow_reader.specs.declared.Answer.the-variants.{Setup, Refused, Room, Read}
 use Rattle.desk_crosspoints.specs.Crosspoints.{Cells, clear}
-use Rattle.desk_crosspoints.specs.Desk.{Desk, withCells, deskLegal, Answer, answer}
+use Rattle.desk_crosspoints.specs.Desk.{Desk, withCells, Answer, answer}
+use Rattle.desk_setup.specs.Ready.{isReady}
 use Rattle.desk_requests.specs.Request.{Request, request, requested}
 use Rattle.desk_calls.specs.declared.Called.{Called}
 use Rattle.glow_paths.specs.Paths.{same}
@@ -68,14 +66,7 @@ laid z = outcome 0 (length (z .answers)) (filled (z .answers)) (z .cells)
 abbrev pub unserved : Cells → Outcome
 unserved cells = outcome 1 0 (clear 256) cells
 
--- "1 SETUP, first of all: .. table over 256 entries, message over 16,384 bytes, .. desk not legal, entries handed in .. that make no tree the reader accepts":
--- there are no more entries than rows
-unfoldable pub isReady : Desk → ℕ → Rows → ℕ → List ℕ → Bool
-isReady d root rows n s =
-    both (leb (length rows) 256) (both (leb (length s) 16384)
-    (both (deskLegal d) (both (leb n (length rows)) (accepted root (itemsIn s rows n)))))
-
--- the call on the first n rows, with the message beside them; "1 leaves everything as it was"
+-- the call on the first n rows, with the message beside them; "1 leaves everything as it was", for what `isReady` names
 unfoldable pub called : Desk → ℕ → Rows → ℕ → List ℕ → Outcome
 called d root rows n s = pick (isReady d root rows n s) (laid (handled d (itemsIn s rows n))) (unserved (d .crosspoints))
 

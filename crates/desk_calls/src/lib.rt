@@ -5,12 +5,9 @@ use desk_crosspoints::Figures;
 use desk_crosspoints::ONE_TO_ONE;
 use desk_crosspoints::SIDE;
 use desk_sources::sources_of;
-use glow_member_sizes::MESSAGE_LIMIT;
 use glow_paths::is_path;
 use glow_reader::Answer;
 use glow_rows::KIND;
-use glow_rows::MOST_BYTES;
-use glow_rows::MOST_ENTRIES;
 use glow_rows::PARENT;
 use glow_rows::kinds;
 use glow_rows::word_at;
@@ -340,16 +337,7 @@ pub fn call(
     ensures { λ r. ⌜ called (deskAt f (now (path .entry)) (now (crosspoints .entry))) root (now (rows .entry)) count (now (s .entry))
         ≡ outcomeOf r (now (crosspoints .exit)) ⌝ }
 {
-    if MOST_ENTRIES < rows.len() {
-        return unready();
-    }
-    if MOST_BYTES < s.len() {
-        return unready();
-    }
-    if !desk_crosspoints::desk_is_legal(f, path, crosspoints) {
-        return unready();
-    }
-    if MESSAGE_LIMIT < glow_sizes::measure(rows, count, root, s, true) {
+    if !desk_setup::is_ready(f, path, rows, count, root, s, crosspoints) {
         return unready();
     }
     let mut answers = [0u8; 256];

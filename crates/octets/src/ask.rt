@@ -311,52 +311,82 @@ fn write_oid(line: &[u8], from: usize, numbers: &mut [u64]) {
     put::put(Asked::Oid, line, &numbers[..n]);
 }
 
+// A real's 64 bits, as pairs of digits.
+fn write_bits(line: &[u8], from: usize, work: &mut [u8]) {
+    match text::octets(line, from, work) {
+        Hex::Octets(n) => write_real(n, work),
+        Hex::Bad => print::bad_line(),
+    }
+}
+
+// What a line asks to be written.
+enum Writing {
+    Value,
+    Int,
+    Real,
+    True,
+    False,
+    Tag,
+    Length,
+    Oid,
+    Bad,
+}
+
+fn is(line: &[u8], word: &[u8]) -> bool {
+    if line.len() != word.len() {
+        return false;
+    }
+    text::starts(line, word)
+}
+
+fn wanted(line: &[u8]) -> Writing {
+    if text::starts(line, b"write value ") {
+        return Writing::Value;
+    }
+    if text::starts(line, b"write int ") {
+        return Writing::Int;
+    }
+    if text::starts(line, b"write real ") {
+        return Writing::Real;
+    }
+    if is(line, b"write bool true") {
+        return Writing::True;
+    }
+    if is(line, b"write bool false") {
+        return Writing::False;
+    }
+    if text::starts(line, b"write tag ") {
+        return Writing::Tag;
+    }
+    if text::starts(line, b"write length ") {
+        return Writing::Length;
+    }
+    if text::starts(line, b"write oid ") {
+        return Writing::Oid;
+    }
+    Writing::Bad
+}
+
+fn answer_write(line: &[u8], work: &mut [u8], numbers: &mut [u64]) {
+    match wanted(line) {
+        Writing::Value => value::write(line, work),
+        Writing::Int => write_int(line, 10),
+        Writing::Real => write_bits(line, 11, work),
+        Writing::True => put::put_plain(Asked::Bool(true), line),
+        Writing::False => put::put_plain(Asked::Bool(false), line),
+        Writing::Tag => write_tag(line, 10),
+        Writing::Length => write_length(line, 13),
+        Writing::Oid => write_oid(line, 10, numbers),
+        Writing::Bad => print::bad_line(),
+    }
+}
+
 pub(crate) fn answer(line: &[u8], work: &mut [u8], numbers: &mut [u64]) {
     if text::starts(line, b"read ") {
         answer_read(line, work);
         return;
     }
-    if text::starts(line, b"write value ") {
-        value::write(line, work);
-        return;
-    }
-    if text::starts(line, b"write int ") {
-        write_int(line, 10);
-        return;
-    }
-    if text::starts(line, b"write real ") {
-        let Hex::Octets(n) = text::octets(line, 11, work) else {
-            print::bad_line();
-            return;
-        };
-        write_real(n, work);
-        return;
-    }
-    if text::starts(line, b"write bool true") {
-        if line.len() == 15 {
-            put::put_plain(Asked::Bool(true), line);
-            return;
-        }
-    }
-    if text::starts(line, b"write bool false") {
-        if line.len() == 16 {
-            put::put_plain(Asked::Bool(false), line);
-            return;
-        }
-    }
-    if text::starts(line, b"write tag ") {
-        write_tag(line, 10);
-        return;
-    }
-    if text::starts(line, b"write length ") {
-        write_length(line, 13);
-        return;
-    }
-    if text::starts(line, b"write oid ") {
-        write_oid(line, 10, numbers);
-        return;
-    }
-    print::bad_line();
+    answer_write(line, work, numbers);
 }
 
 // The octets of a line, read as a kind.
@@ -395,30 +425,47 @@ fn read_head(s: &[u8], end: usize) {
     }
 }
 
-fn answer_read(line: &[u8], work: &mut [u8]) {
+// What a line asks to be read.
+enum Reading {
+    Value,
+    Int,
+    Real,
+    Bool,
+    Tag,
+    Oid,
+    Bad,
+}
+
+fn asked(line: &[u8]) -> Reading {
     if text::starts(line, b"read value ") {
-        value::read(line, 11, work);
-        return;
+        return Reading::Value;
     }
     if text::starts(line, b"read int ") {
-        read_as(0, line, 9, work);
-        return;
+        return Reading::Int;
     }
     if text::starts(line, b"read real ") {
-        read_as(1, line, 10, work);
-        return;
+        return Reading::Real;
     }
     if text::starts(line, b"read bool ") {
-        read_as(2, line, 10, work);
-        return;
+        return Reading::Bool;
     }
     if text::starts(line, b"read tag ") {
-        read_as(3, line, 9, work);
-        return;
+        return Reading::Tag;
     }
     if text::starts(line, b"read oid ") {
-        read_as(4, line, 9, work);
-        return;
+        return Reading::Oid;
     }
-    print::bad_line();
+    Reading::Bad
+}
+
+fn answer_read(line: &[u8], work: &mut [u8]) {
+    match asked(line) {
+        Reading::Value => value::read(line, 11, work),
+        Reading::Int => read_as(0, line, 9, work),
+        Reading::Real => read_as(1, line, 10, work),
+        Reading::Bool => read_as(2, line, 10, work),
+        Reading::Tag => read_as(3, line, 9, work),
+        Reading::Oid => read_as(4, line, 9, work),
+        Reading::Bad => print::bad_line(),
+    }
 }

@@ -28,7 +28,8 @@ use Rattle.glow_rows.specs.Row.{rowCell}
 use Rattle.glow_paths.specs.Paths.{octetsOf, numbersIn, nobody}
 use Rattle.desk_calls.specs.Calls.{Served, handled, Outcome, filled, laid, called, outcomeOf as answered}
 use Rattle.glow_paths.proofs.Items.{in-at}
-use Rattle.desk_calls.proofs.Setup.{ready-from, called-ready}
+use Rattle.desk_setup.proofs.Laws.{ready-from}
+use Rattle.desk_calls.proofs.Setup.{called-ready}
 use Rattle.sheet_rules.specs.Reading as reading
 use Rattle.sheet_rules.specs.Reading.{refused, firstRefused, applied, begun, emptyDesk, opens, figuresIn, modeIn, pathIn, ofEntries}
 use Rattle.sheet_reader.specs.declared.Sheet.{Sheet}

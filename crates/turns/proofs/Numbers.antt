@@ -27,10 +27,12 @@ use Rattle.desk_crosspoints.specs.Desk.{Desk}
 use Rattle.desk_connections.specs.Connections.{Ask, asksOf}
 use Rattle.desk_connections.proofs.Paths.{right, asks-down}
 use Rattle.desk_connections.proofs.Operations.{Operations, legal-operations}
-use Rattle.desk_calls.specs.Calls.{Outcome, Served, handled, filled, laid, isReady, called}
+use Rattle.desk_calls.specs.Calls.{Outcome, Served, handled, filled, laid, called}
+use Rattle.desk_setup.specs.Ready.{isReady}
 use Rattle.desk_calls.specs.Numbers.{callNumbers, answerNumbers, AllOneOf}
 use Rattle.desk_crosspoints.proofs.Paths.{desk-legal}
-use Rattle.desk_calls.proofs.Setup.{called-not, called-ready, ready-tells}
+use Rattle.desk_calls.proofs.Setup.{called-not, called-ready}
+use Rattle.desk_setup.proofs.Laws.{ready-tells}
 use Rattle.desk_calls.proofs.Numbers.{served-numbers, call-numbers}
 use Rattle.turns.specs.Turns.{Later, none, read, desk, isRead, Comes, ends, reads, serves}
 use Rattle.turns.specs.Whole.{answerTo, readTo}
