@@ -36,7 +36,8 @@ use Rattle.framing.proofs.Sayable.{legal-answered}
 use Rattle.turns.proofs.Comes.{said-at, function-turn}
 use Rattle.turns.proofs.Claim.{claim as rules-claim}
 use Rattle.desk_words.specs.Words.{figuresAt, deskIn, isFigures}
-use Rattle.ember.specs.Calls.{lengthsFit, next, Turned, turn, turnOf, turnAfter, turned, turns}
+use Rattle.ember_answers.specs.Answers.{lengthsFit, next}
+use Rattle.ember.specs.Calls.{Turned, turn, turnOf, turnAfter, turned, turns}
 use Rattle.ember.specs.Rounds.{Round, Rounds, none, round, refused, Tells, AllTell, more, silent, Claimed}
 use Rattle.ember.specs.Rounds as rounds
 

@@ -27,7 +27,8 @@ use Rattle.sheet_writer.proofs.Numbers.{sheet-put-numbers}
 use Rattle.sheet_reader.specs.Calls.{sheetNumbers}
 use Rattle.sheet_reader.proofs.Numbered.{sheet-numbers}
 use Rattle.desk_words.specs.Words.{figuresAt, deskIn, isFigures}
-use Rattle.ember.specs.Calls.{opens, requests, DeskCall, deskCall, counted, deskCalls, lengthsFit, next, Turned, turn, turnOf, turnAfter, turned, turns}
+use Rattle.ember_answers.specs.Answers.{DeskCall, counted, lengthsFit, next}
+use Rattle.ember.specs.Calls.{opens, requests, deskCalls, Turned, turn, turnOf, turnAfter, turned, turns}
 use Rattle.ember.specs.Calls.{SheetPut, measured, sheetWrites, SheetCall, given, sheetReads}
 
 -- `ember_desk_open`: 0, 1, 45

@@ -36,7 +36,8 @@ use Rattle.turns.proofs.Follows.{comes-legal}
 use Rattle.turns.proofs.Comes.{comes-at, said-at, function-turn}
 use Rattle.turns.proofs.Claim.{claim as rules-claim}
 use Rattle.desk_words.specs.Words.{figuresAt, deskIn, isFigures}
-use Rattle.ember.specs.Calls.{lengthsFit, Turned, turnOf, turnAfter, turned, turns}
+use Rattle.ember_answers.specs.Answers.{lengthsFit}
+use Rattle.ember.specs.Calls.{Turned, turnOf, turnAfter, turned, turns}
 use Rattle.ember.specs.Rounds.{Round, Rounds, none, round, AllTell, more}
 use Rattle.ember.specs.Rounds as rounds
 use Rattle.ember.proofs.Claim.{next-later, comes, comes-after, tells-told}

@@ -29,7 +29,8 @@ use Rattle.turns.specs.Turns.{Later, none, read, desk}
 use Rattle.turns.specs.Whole.{Left, left, unasked, readTo}
 use Rattle.turns.proofs.Numbers.{treeNumbers, treeNumber, deskNumber, all-clear, later-tree, later-desk, later-answers}
 use Rattle.desk_words.specs.Words.{figuresAt, deskIn, isFigures}
-use Rattle.ember.specs.Calls.{legals, lengthsFit, laterWords, next, Turned, turn, turnOf, turnAfter, turned, turns}
+use Rattle.ember_answers.specs.Answers.{lengthsFit, laterWords, next}
+use Rattle.ember.specs.Calls.{legals, Turned, turn, turnOf, turnAfter, turned, turns}
 
 -- `ember_desk_is_legal`: no, or yes
 abbrev pub legalNumbers : List ℕ

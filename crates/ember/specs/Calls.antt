@@ -1,27 +1,25 @@
 -- What the C library answers and leaves, for all lent slices. Session, writer of frames, tree reader and tree writer: as framing_c and glow_c say. Here: the
--- desk, a whole turn and route sheets.
+-- desk, a whole turn and route sheets. Which lengths fit a turn, and the words of answers: as ember_answers says.
 use Prim.Native.Nat.{ℕ}
-use mathlib.Core.Bool.{Bool}
-use mathlib.Core.Path.{_≡_}
 use mathlib.Core.List.{List, [], _∷_, _++_}
-use lib.Dec.{leb, eqb}
+use lib.Dec.{eqb}
 use lib.ListN.{length, getD, take}
 use Rattle.base_choices.specs.Choices.{pick, both}
 use Rattle.glow_rows.specs.Entry.{Rows}
-use Rattle.glow_reader.specs.Message.{replyBy, Reply}
 use Rattle.framing_c.specs.Calls.{Called, calls}
 use Rattle.desk_crosspoints.specs.Figures.{sizeOf}
 use Rattle.desk_crosspoints.specs.Crosspoints.{Cells}
 use Rattle.desk_crosspoints.specs.Desk.{Desk, deskLegal, Answer, answer, deskOpened}
 use Rattle.desk_requests.specs.Request.{request, requested}
-use Rattle.desk_calls.specs.Calls.{Outcome, called}
-use Rattle.turns.specs.Turns.{Later, none, read, desk}
-use Rattle.turns.specs.Whole.{Left, left, unasked, readTo}
+use Rattle.desk_calls.specs.Calls.{called}
+use Rattle.turns.specs.Turns.{none}
+use Rattle.turns.specs.Whole.{Left, left}
 use Rattle.framing_packets.specs.Written.{Outcome as Wrote}
 use Rattle.sheet_writer.specs.Calls.{writesSheet}
 use Rattle.sheet_reader.specs.Calls as sheet
 use Rattle.sheet_reader.specs.Calls.{sheetRead}
 use Rattle.desk_words.specs.Words.{wordsOf, figuresAt, deskIn, isFigures}
+use Rattle.ember_answers.specs.Answers.{DeskCall, deskCall, counted, lengthsFit, next, laterWords}
 
 -- ---- the desk; words that are no figures are 1, with everything as it was
 
@@ -41,22 +39,7 @@ unfoldable pub requests : List ℕ → ℕ → List ℕ → ℕ → Cells → An
 requests fs target sources operation cells =
     pick (isFigures fs) (requested (deskIn fs [] cells) (request target sources operation)) (answer 1 cells)
 
--- The desk's call: a number, the 256 bytes lent for answers, the crosspoints, and one word for how many answers there are.
-pub record DeskCall : Type 0 where
-  pub number : ℕ
-  pub answers : List ℕ
-  pub cells : Cells
-  pub answer : List ℕ
-
-abbrev pub deskCall : ℕ → List ℕ → Cells → List ℕ → DeskCall
-deskCall number answers cells words = record { number = number; answers = answers; cells = cells; answer = words }
-
--- the answers in order, then zeros; "1 leaves everything as it was"
-unfoldable pub counted : Outcome → List ℕ → List ℕ → DeskCall
-counted o lent words =
-    pick (eqb (o .number) 0) (deskCall 0 (o .answers) (o .cells) (o .count ∷ [])) (deskCall (o .number) lent (o .cells) words)
-
--- an answer of other than one word is 1 too
+-- the desk's call; an answer of other than one word is 1 too
 unfoldable pub deskCalls : List ℕ → List ℕ → ℕ → Rows → ℕ → List ℕ → List ℕ → Cells → List ℕ → DeskCall
 deskCalls fs path root rows n s lent cells words =
     pick (both (isFigures fs) (eqb (length words) 1))
@@ -64,31 +47,6 @@ deskCalls fs path root rows n s lent cells words =
     (deskCall 1 lent cells words)
 
 -- ---- a whole turn
-
--- 1 SETUP, first of all: words that are no figures, and lengths: a table over 256 rows, crosspoints that are not as many as the figures say, a path that has
--- not 1 to 16 numbers, an answer that is not nine words
-unfoldable pub lengthsFit : ℕ → ℕ → ℕ → ℕ → ℕ → Bool
-lengthsFit rows size cells path words =
-    both (eqb words 9)
-    (both (leb rows 256)
-    (both (eqb cells size)
-    (both (leb 1 path) (leb path 16))))
-
--- What came after the session's call, in six words: the tree's number, its place, its count and Root's kind, the desk's number, and its count of answers.
-abbrev pub treeWords : Reply → List ℕ
-treeWords e = e .number ∷ e .place ∷ e .count ∷ e .root ∷ 0 ∷ 0 ∷ []
-
-abbrev pub deskWords : ℕ → ℕ → Outcome → List ℕ
-deskWords root count o = 0 ∷ 0 ∷ count ∷ root ∷ o .number ∷ o .count ∷ []
-
-abbrev pub laterWords : Later → List ℕ
-laterWords none = 0 ∷ 0 ∷ 0 ∷ 0 ∷ 0 ∷ 0 ∷ []
-laterWords (read a table) = treeWords (replyBy a)
-laterWords (desk root count table o) = deskWords root count o
-
--- "Only a finished message goes on to the tree reader": the store's first bytes
-unfoldable pub next : ℕ → List ℕ → Desk → Rows → Left
-next number m d table = pick (eqb number 3) (readTo d m table) (unasked none table (d .crosspoints))
 
 -- A turn: the number and all that is lent, after it. The 256 bytes for answers hold those of this turn in order, then zeros.
 pub record Turned : Type 0 where
@@ -125,6 +83,7 @@ turnAfter c d table lent a =
 unfoldable pub turned : List ℕ → List ℕ → List ℕ → Desk → Rows → List ℕ → List ℕ → Turned
 turned ws t bytes d table lent a = turnAfter (calls ws t bytes (0 ∷ 0 ∷ 0 ∷ [])) d table lent a
 
+-- 1 SETUP, first of all: words that are no figures, and lengths that do not fit
 unfoldable pub turns : List ℕ → List ℕ → List ℕ → Rows → List ℕ → List ℕ → Cells → List ℕ → List ℕ → Turned
 turns ws t bytes table fs path cells lent a =
     pick (both (isFigures fs) (lengthsFit (length table) (sizeOf (figuresAt fs)) (length cells) (length path) (length a)))

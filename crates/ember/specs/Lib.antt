@@ -1,4 +1,2 @@
 pub mod Calls
 pub mod Rounds
-pub mod Steps
-pub mod Vectors

@@ -13,7 +13,8 @@ use Rattle.turns.specs.declared.After.{After}
 use Rattle.turns.specs.Turns as claim
 use Rattle.turns.specs.Whole.{laterOf}
 use Rattle.desk_words.specs.Words.{deskIn}
-use Rattle.ember.specs.Calls.{laterWords, Turned, turns}
+use Rattle.ember_answers.specs.Answers.{laterWords}
+use Rattle.ember.specs.Calls.{Turned, turns}
 
 -- A call: what was offered, and what it answered and left.
 pub record Round : Type 0 where

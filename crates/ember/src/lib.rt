@@ -1,26 +1,16 @@
 // The C library: session, writer of frames, tree reader, tree writer, desk, whole turns, route sheets; numbers and lent slices (include/ember.h).
-mod after;
 mod sheet;
 
-use after::Six;
-use desk_calls::Called;
 use desk_crosspoints::Figures;
-use turns::After;
-use turns::Handled;
 ghost use mathlib.Core.Path.{_≡_};
-ghost use mathlib.Core.List.{List, [], _∷_};
-ghost use Prim.Native.Nat.{ℕ, _≤_};
-ghost use lib.ListN.{length, take};
+ghost use lib.ListN.{length};
 ghost use Rattle.framing_packets.specs.Written.{frame, requestBody, responseBody, into, frameInto, messageInto};
 ghost use Rattle.framing_c.specs.Calls.{starts, calls, puts};
 ghost use Rattle.glow_c.specs.Calls.{call, calls as readCalls, writing, writeCalls, acceptCalls};
-ghost use Rattle.desk_crosspoints.specs.Crosspoints.{Cells};
 ghost use Rattle.desk_crosspoints.specs.Desk.{deskAt, answer as answered};
-ghost use Rattle.desk_calls.specs.Calls.{outcomeOf};
-ghost use Rattle.turns.specs.Whole.{gave};
-ghost use Rattle.ember.specs.Calls.{sizes, opens, legals, requests, counted, deskCall, deskCalls, lengthsFit, next, turned, turns};
+ghost use Rattle.ember_answers.specs.Answers.{deskCall};
+ghost use Rattle.ember.specs.Calls.{sizes, opens, legals, requests, deskCalls, turned, turns};
 ghost use Rattle.ember.specs.Calls.{sheetPut, sheetWrites, sheetCall, sheetReads};
-ghost use Rattle.ember.specs.Steps.{wordsIn};
 
 // ---- the session and the writer of frames
 
@@ -183,21 +173,6 @@ pub extern "C" fn ember_desk_request(
     1
 }
 
-// What the desk's call answered: 0, the answers and how many there are; or 1.
-fn put_answers(called: Called, answers: &mut [u8; 256], answer: &mut [u64]) -> u64
-    requires { ⌜ length (now answer) ≡ 1 ⌝ }
-    ensures { λ r. ⌜ ((cells : Cells) → counted (outcomeOf called cells) (now (answers .entry)) (now (answer .entry))
-        ≡ deskCall r (now (answers .exit)) cells (now (answer .exit))) ⌝ }
-{
-    if called.number != 0 {
-        return called.number;
-    }
-    let given = called.answers;
-    *answers = given;
-    answer[0] = base_casts::word(called.count);
-    0
-}
-
 // The desk's call on the first `count` rows, with the message beside them.
 #[no_mangle]
 pub extern "C" fn ember_desk_call(
@@ -228,79 +203,12 @@ pub extern "C" fn ember_desk_call(
             message,
             crosspoints,
         );
-        return put_answers(called, answers, answer);
+        return ember_answers::put_answers(called, answers, answer);
     }
     1
 }
 
 // ---- a whole turn
-
-fn lengths_fit(rows: usize, size: usize, cells: usize, path: usize, words: usize) -> bool
-    ensures { λ r. ⌜ r ≡ lengthsFit rows size cells path words ⌝ }
-{
-    if words != 9 {
-        return false;
-    }
-    if 256 < rows {
-        return false;
-    }
-    if cells != size {
-        return false;
-    }
-    if path < 1 {
-        return false;
-    }
-    path <= 16
-}
-
-// A message of n bytes is a part of the store.
-fn front(store: &[u8], n: u64) -> usize
-    ensures { λ r. ⌜ take r (now (store .entry)) ≡ take n (now (store .entry)) ⌝ }
-    ensures { λ r. ⌜ r ≤ length (now (store .entry)) ⌝ }
-{
-    let k = n as usize;
-    if k < store.len() {
-        return k;
-    }
-    store.len()
-}
-
-// What comes after the session's call: nothing, unless it gave 3.
-fn follow(
-    number: u64,
-    m: &[u8],
-    table: &mut [[u64; 50]],
-    f: Figures,
-    path: &[u64],
-    crosspoints: &mut [u8],
-) -> Handled
-    ensures { λ r. ⌜ next number (now (m .entry)) (deskAt f (now (path .entry)) (now (crosspoints .entry))) (now (table .entry))
-        ≡ gave (r .after) (r .answers) (now (table .exit)) (now (crosspoints .exit)) ⌝ }
-{
-    if number != 3 {
-        let answers = [0u8; 256];
-        return Handled {
-            after: After::Nothing,
-            answers,
-        };
-    }
-    turns::message(m, table, f, path, crosspoints)
-}
-
-fn put_answer(answer: &mut [u64], discarded: u64, consumed: u64, length: u64, x: Six)
-    requires { ⌜ lib.ListN.length (now answer) ≡ 9 ⌝ }
-    ensures { λ _. ⌜ now (answer .exit) ≡ discarded ∷ consumed ∷ length ∷ wordsIn x ⌝ }
-{
-    answer[0] = discarded;
-    answer[1] = consumed;
-    answer[2] = length;
-    answer[3] = x.tree;
-    answer[4] = x.place;
-    answer[5] = x.count;
-    answer[6] = x.root;
-    answer[7] = x.desk;
-    answer[8] = x.answers;
-}
 
 // The session's call, and what comes after it.
 fn go(
@@ -332,13 +240,11 @@ fn go(
     if number == 1 {
         return 1;
     }
-    let n = front(store, fed[2]);
-    let x = follow(number, &store[..n], table, f, path, crosspoints);
+    let x = ember_answers::follow(number, store, fed[2], table, f, path, crosspoints);
     let given = x.answers;
     *answers = given;
     let came = x.after;
-    let six = after::later(came);
-    put_answer(answer, fed[0], fed[1], fed[2], six);
+    ember_answers::put_answer(answer, fed[0], fed[1], fed[2], came);
     number
 }
 
@@ -370,7 +276,7 @@ pub extern "C" fn ember_turn(
     if desk_words::is_figures(figures) {
         let f = desk_words::figures_at(figures);
         let size = desk_crosspoints::size(f);
-        if lengths_fit(
+        if ember_answers::lengths_fit(
             table.len(),
             size,
             crosspoints.len(),

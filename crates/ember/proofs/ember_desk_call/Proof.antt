@@ -5,7 +5,7 @@ use Rattle.ember.proofs.ember_desk_call.Tie as tie
 use Rattle.ember.proofs.ember_desk_call.Reads as reads
 use Rattle.ember.proofs.ember_desk_call.Lts as lts
 use Rattle.desk_calls.proofs.call.Reads as call-reads
-use Rattle.ember.proofs.put_answers.Reads as put-answers-reads
+use Rattle.ember_answers.proofs.put_answers.Reads as put-answers-reads
 use Rattle.desk_words.proofs.figures_at.Reads as figures-at-reads
 use Rattle.desk_words.proofs.is_figures.Reads as is-figures-reads
 

@@ -1,5 +1,6 @@
 use mathlib.Core.Path.{sym, _∙_}
-use Rattle.ember.proofs.Laws.{fit-words, turns-on, turns-lengths, turns-figures}
+use Rattle.ember_answers.proofs.Laws.{fit-words}
+use Rattle.ember.proofs.Laws.{turns-on, turns-lengths, turns-figures}
 use borrow.Author.Needs.{needs}
 use Rattle.ember.proofs.ember_turn.Statement.{statement}
 use Rattle.ember.proofs.ember_turn.Tie as tie
@@ -7,7 +8,7 @@ use Rattle.ember.proofs.ember_turn.Reads as reads
 use Rattle.ember.proofs.ember_turn.Lts as lts
 use Rattle.desk_crosspoints.proofs.size.Reads as size-reads
 use Rattle.ember.proofs.go.Reads as go-reads
-use Rattle.ember.proofs.lengths_fit.Reads as lengths-fit-reads
+use Rattle.ember_answers.proofs.lengths_fit.Reads as lengths-fit-reads
 use Rattle.desk_words.proofs.figures_at.Reads as figures-at-reads
 use Rattle.desk_words.proofs.is_figures.Reads as is-figures-reads
 

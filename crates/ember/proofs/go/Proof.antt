@@ -1,15 +1,11 @@
 use Rattle.ember.proofs.Laws.{turned-setup, turned-on}
-use mathlib.Core.Path.{sym}
-use lib.Seq.{length-take-le}
 use borrow.Author.Needs.{needs}
 use Rattle.ember.proofs.go.Statement.{statement}
 use Rattle.ember.proofs.go.Tie as tie
 use Rattle.ember.proofs.go.Reads as reads
 use Rattle.ember.proofs.go.Lts as lts
-use Rattle.ember.proofs.after.later.Reads as later-reads
-use Rattle.ember.proofs.follow.Reads as follow-reads
-use Rattle.ember.proofs.front.Reads as front-reads
-use Rattle.ember.proofs.put_answer.Reads as put-answer-reads
+use Rattle.ember_answers.proofs.follow.Reads as follow-reads
+use Rattle.ember_answers.proofs.put_answer.Reads as put-answer-reads
 use Rattle.framing_c.proofs.framing_feed.Reads as framing-feed-reads
 
 slice-aggregate-framing-feed : tie.Need-slice-aggregate-framing-feed
@@ -30,25 +26,11 @@ returns c =
     let the-if1 = c .if1 in
     turned-setup _ _ _ _ _ _ _ (the-framing-feed .ensures) (the-if1 .taken)
 
-array-read-front : tie.Need-array-read-front
-array-read-front c = search needs
-
-front-requires : tie.Need-front-requires
-front-requires c κs = search needs
-
-slice-reshare-prefix-follow : tie.Need-slice-reshare-prefix-follow
-slice-reshare-prefix-follow c = search needs
-
-slice-aggregate-follow : tie.Need-slice-aggregate-follow
-slice-aggregate-follow c =
-    let the-front = c .before .front in
-    sym (length-take-le _ _ (the-front .ensures .1))
+array-read-follow : tie.Need-array-read-follow
+array-read-follow c = search needs
 
 follow-requires : tie.Need-follow-requires
 follow-requires c κs = search needs
-
-later-requires : tie.Need-later-requires
-later-requires c κs = search needs
 
 array-read-put-answer : tie.Need-array-read-put-answer
 array-read-put-answer c = search needs
@@ -79,14 +61,13 @@ same-length-7 c = search needs
 
 returns-2 : tie.Need-returns-2
 returns-2 c =
-    let the-framing-feed = c .before .before .before .before .before .before .before .before .before .before .before .before .before .before .before .before .before .before .before .before .before .framing-feed in
-    let the-if1 = c .before .before .before .before .before .before .before .before .before .before .before .before .before .before .before .if1 in
-    let the-front = c .before .before .before .before .before .before .before .before .before .before .before .before .before .front in
-    let the-follow = c .before .before .before .before .before .before .before .before .before .follow in
-    let the-later = c .before .before .before .before .later in
+    let the-Start = c .before .before .before .before .before .before .before .before .before .before .before .before .before .before .before .before .before .before .before .before .before .before .before .before .before .before .before .before in
+    let the-framing-feed = c .before .before .before .before .before .before .before .before .before .before .before .before .before .before .before .before .before .before .framing-feed in
+    let the-if1 = c .before .before .before .before .before .before .before .before .before .before .before .before .if1 in
+    let the-follow = c .before .before .before .before .before .before .before .before .follow in
     let the-put-answer = c .before .before .put-answer in
-    turned-on _ _ _ _ _ _ _ (the-framing-feed .ensures) (the-front .result) (the-follow .result .after) _ _ _ (the-if1 .left)
-    (the-framing-feed .kept .1 .1 .1 .0) (the-front .ensures .0) (the-follow .ensures) (the-later .ensures) (the-put-answer .ensures)
+    turned-on _ _ _ _ _ _ _ (the-framing-feed .ensures) (the-follow .result .after) _ _ _ (the-if1 .left) (the-framing-feed .kept .1 .1 .1 .0) (the-Start .pre)
+    (the-follow .ensures) (the-put-answer .ensures _ _ _)
 
 pub go-spec : {M : Type 1} → statement M
 go-spec =
@@ -97,12 +78,8 @@ go-spec =
     same-length
     same-length-2
     returns
-    array-read-front
-    front-requires
-    slice-reshare-prefix-follow
-    slice-aggregate-follow
+    array-read-follow
     follow-requires
-    later-requires
     array-read-put-answer
     array-read-put-answer-2
     array-read-put-answer-3

@@ -3,8 +3,7 @@ use glow_reader::Answer;
 use turns::After;
 ghost use mathlib.Core.Path.{_≡_};
 ghost use Rattle.glow_reader.specs.Message.{replyBy};
-ghost use Rattle.ember.specs.Calls.{treeWords};
-ghost use Rattle.ember.specs.Steps.{wordsIn, Words};
+ghost use Rattle.ember_answers.specs.Answers.{treeWords, wordsIn, Words};
 
 pub struct Six {
     pub tree: u64,

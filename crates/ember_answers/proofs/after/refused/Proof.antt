@@ -1,10 +1,10 @@
-use Rattle.ember.proofs.Laws.{tree-setup, tree-refused, tree-room, tree-read}
+use Rattle.ember_answers.proofs.Laws.{tree-setup, tree-refused, tree-room, tree-read}
 use borrow.Author.Needs.{needs}
-use Rattle.ember.proofs.after.refused.Statement.{statement}
-use Rattle.ember.proofs.after.refused.Tie as tie
-use Rattle.ember.proofs.after.refused.Reads as reads
-use Rattle.ember.proofs.after.refused.Lts as lts
-use Rattle.ember.proofs.after.make.Reads as make-reads
+use Rattle.ember_answers.proofs.after.refused.Statement.{statement}
+use Rattle.ember_answers.proofs.after.refused.Tie as tie
+use Rattle.ember_answers.proofs.after.refused.Reads as reads
+use Rattle.ember_answers.proofs.after.refused.Lts as lts
+use Rattle.ember_answers.proofs.after.make.Reads as make-reads
 use Rattle.base_casts.proofs.word.Reads as word-reads
 
 enum-told : tie.Need-enum-told

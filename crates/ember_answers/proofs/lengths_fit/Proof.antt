@@ -1,9 +1,9 @@
-use Rattle.ember.proofs.Laws.{fit-answer, fit-rows, fit-cells, fit-path, fit-all}
+use Rattle.ember_answers.proofs.Laws.{fit-answer, fit-rows, fit-cells, fit-path, fit-all}
 use native.Mathlib.Omega.{arith}
-use Rattle.ember.proofs.lengths_fit.Statement.{statement}
-use Rattle.ember.proofs.lengths_fit.Tie as tie
-use Rattle.ember.proofs.lengths_fit.Reads as reads
-use Rattle.ember.proofs.lengths_fit.Lts as lts
+use Rattle.ember_answers.proofs.lengths_fit.Statement.{statement}
+use Rattle.ember_answers.proofs.lengths_fit.Tie as tie
+use Rattle.ember_answers.proofs.lengths_fit.Reads as reads
+use Rattle.ember_answers.proofs.lengths_fit.Lts as lts
 
 returns : tie.Need-returns
 returns c =

@@ -1,11 +1,11 @@
-use Rattle.ember.proofs.Laws.{later-nothing, later-refused, later-served}
+use Rattle.ember_answers.proofs.Laws.{later-nothing, later-refused, later-served}
 use borrow.Author.Needs.{needs}
-use Rattle.ember.proofs.after.later.Statement.{statement}
-use Rattle.ember.proofs.after.later.Tie as tie
-use Rattle.ember.proofs.after.later.Reads as reads
-use Rattle.ember.proofs.after.later.Lts as lts
-use Rattle.ember.proofs.after.make.Reads as make-reads
-use Rattle.ember.proofs.after.refused.Reads as refused-reads
+use Rattle.ember_answers.proofs.after.later.Statement.{statement}
+use Rattle.ember_answers.proofs.after.later.Tie as tie
+use Rattle.ember_answers.proofs.after.later.Reads as reads
+use Rattle.ember_answers.proofs.after.later.Lts as lts
+use Rattle.ember_answers.proofs.after.make.Reads as make-reads
+use Rattle.ember_answers.proofs.after.refused.Reads as refused-reads
 use Rattle.base_casts.proofs.word.Reads as word-reads
 
 enum-told : tie.Need-enum-told
