@@ -1,18 +1,19 @@
 -- A desk from entries: opened, its connections applied, handed over.
-use Prim.Native.Nat.{ℕ, _-_, _≤_, _<_}
+use Prim.Native.Nat.{ℕ, _-_, _≤_, _<_, _^_}
 use mathlib.Core.Path.{_≡_, refl, sym, ap, subst, _∙_}
 use mathlib.Core.List.{List, [], _∷_, _++_}
 use mathlib.Core.Bool.{Bool, true, false, true≢false}
 use native.Mathlib.Omega.{arith}
 use borrow.Author.Tests.{eq-eqb, ne-eqb}
 use lib.ListN.{length, take, drop, getD, length-take}
-use lib.Seq.{take-at}
+use lib.Seq.{take-at, take-length}
 use lib.Dec.{eqb}
 use Rattle.base_choices.specs.Choices.{pick, both}
 use Rattle.glow_rows.specs.Entry.{Rows}
 use Rattle.glow_rows.specs.declared.Cell.{Cell}
-use Rattle.glow_trees.specs.Content.{Item, contentOf}
-use Rattle.glow_trees.specs.Rows.{itemsIn}
+use Rattle.glow_rows.specs.Cell.{numberIn}
+use Rattle.glow_trees.specs.Content.{Item, contentOf, contentsOf, itemOf, itemsOf}
+use Rattle.glow_trees.specs.Rows.{cellsFrom, entryOf, entriesOf, itemsIn}
 use Rattle.glow_sizes.specs.Accepted.{accepted}
 use Rattle.desk_crosspoints.specs.declared.Figures.{Figures}
 use Rattle.desk_crosspoints.specs.Figures.{mostCells, figuresFit, cellsOf, sizeOf}
@@ -25,9 +26,10 @@ use Rattle.desk_crosspoints.proofs.Paths.{path-short}
 use Rattle.desk_crosspoints.proofs.Opened.{open-legal}
 use Rattle.desk_calls.specs.declared.Called.{Called}
 use Rattle.glow_rows.specs.Row.{rowCell}
-use Rattle.glow_paths.specs.Paths.{octetsOf, numbersIn, nobody}
+use Rattle.glow_paths.specs.Paths.{numberOf, octetsOf, numbersIn, memberOf, nobody}
 use Rattle.desk_calls.specs.Calls.{Served, handled, Outcome, filled, laid, called, outcomeOf as answered}
 use Rattle.glow_paths.proofs.Items.{in-at}
+use Rattle.desk_connections.proofs.Rows.{number-is}
 use Rattle.desk_setup.proofs.Laws.{ready-from}
 use Rattle.desk_calls.proofs.Setup.{called-ready}
 use Rattle.sheet_rules.specs.Reading as reading
@@ -35,8 +37,9 @@ use Rattle.sheet_rules.specs.Reading.{refused, firstRefused, applied, begun, em
 use Rattle.sheet_reader.specs.declared.Sheet.{Sheet}
 use Rattle.sheet_reader.specs.declared.Sheet.the-variants.{Refused, Read}
 use Rattle.sheet_reader.specs.Calls.{leaves}
-use Rattle.sheet_reader.specs.Steps.{firstOf, isSheet, Taken, sheetBy, Tells}
-use Rattle.sheet_reader.proofs.Members.{sheet-some, first-member}
+use Rattle.sheet_entries.specs.Entries.{isSheet, Taken}
+use Rattle.sheet_entries.proofs.Members.{sheet-some}
+use Rattle.sheet_reader.specs.Steps.{sheetBy, Tells}
 
 -- ---- opened
 
@@ -149,6 +152,25 @@ tells-by x y e path cells r path′ cells′ t store = ap (λ (z : reading.Sheet
 
 -- ---- from the entries
 
+-- those of the first rows, as rows of their own
+pub first-rows : (s : List ℕ) (rows : Rows) (n : ℕ) (b : Bool) → isSheet (itemsIn s (take n rows) (length (take n rows))) ≡ b
+    → isSheet (itemsIn s rows n) ≡ b
+unfolding itemsIn
+first-rows s rows n b h = ap (λ (x : Rows). isSheet (itemsOf s (entriesOf x))) (sym (take-length (take n rows))) ∙ h
+
+-- the entry in the first row
+abbrev pub firstOf : List ℕ → Rows → Item
+firstOf s rows = itemOf s (entryOf (getD rows 0 []))
+
+pub mode-is : (rows : Rows) (v : Cell) (mode : ℕ) → v ≡ rowCell rows 0 4 → numberIn v ≡ mode → mode < 2 ^ 64 → (s : List ℕ) → modeIn (firstOf s rows) ≡ mode
+unfolding contentsOf cellsFrom rowCell
+mode-is rows v mode e a h s = ap (λ (x : Cell). numberOf (contentOf s x)) (sym e) ∙ number-is s v _ mode refl a h
+
+-- the path's member
+first-member : (s : List ℕ) (rows : Rows) → memberOf (firstOf s rows) 0 ≡ contentOf s (rowCell rows 0 0)
+unfolding contentsOf cellsFrom rowCell
+first-member s rows = refl
+
 entries-not : (es : List Item) → isSheet es ≡ false → ofEntries es ≡ refused 33
 unfolding ofEntries
 entries-not [] h = refl
@@ -191,7 +213,7 @@ module _ (s : List ℕ) (rows : Rows) (n : ℕ) (h : n ≤ length rows) (sheet :
   opens-first : ofEntries (itemsIn s rows n) ≡ opens (figuresIn first) (pathIn first) (modeIn first) (itemsIn s rows n)
   opens-first =
       entries-are (itemsIn s rows n) sheet
-      ∙ ap (λ (e : Item). opens (figuresIn e) (pathIn e) (modeIn e) (itemsIn s rows n)) (in-at s rows n h 0 (sheet-some s rows n h sheet))
+      ∙ ap (λ (e : Item). opens (figuresIn e) (pathIn e) (modeIn e) (itemsIn s rows n)) (in-at s rows n h 0 (sheet-some s rows n sheet))
 
   module _ (v : Cell) (e : v ≡ rowCell rows 0 0) (r : ℕ) (list : List ℕ) (t : Taken (numbersIn (octetsOf (contentOf s v))) r list) where
     path-first : pathIn first ≡ numbersIn (octetsOf (contentOf s v))

@@ -1,5 +1,4 @@
-pub mod Members
-pub mod Numbers
+pub mod Copies
 pub mod Desks
 pub mod Messages
 pub mod Whole

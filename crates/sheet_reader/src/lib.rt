@@ -1,30 +1,20 @@
 // The route sheet reader: from a sheet's text to a desk, or the first refusal.
-use base_casts::wide;
 use desk_crosspoints::Figures;
-use desk_crosspoints::Limit;
 use desk_crosspoints::SIDE;
-use glow_entries::Number;
 use glow_reader::Answer;
-use glow_rows::Cell;
-use glow_rows::KIND;
-use glow_rows::kinds;
 use glow_rows::places;
 use sheet_stream::Found;
 ghost use mathlib.Core.Path.{_≡_};
 ghost use mathlib.Core.Bool.{true};
-ghost use mathlib.Core.List.{List, _++_};
-ghost use Prim.Native.Nat.{ℕ, _≤_, _<_};
+ghost use mathlib.Core.List.{_++_};
+ghost use Prim.Native.Nat.{_≤_};
 ghost use lib.ListN.{length, drop};
-ghost use Rattle.glow_rows.specs.Cell.{numberIn};
-ghost use Rattle.glow_trees.specs.Content.{contentOf};
-ghost use Rattle.glow_entries.specs.Member.{numberCell};
 ghost use Rattle.glow_trees.specs.Rows.{itemsIn};
 ghost use Rattle.glow_sizes.specs.Accepted.{accepted};
 ghost use Rattle.desk_crosspoints.specs.Figures.{mostCells, sizeOf};
-ghost use Rattle.glow_paths.specs.Paths.{octetsOf, numbersIn};
-ghost use Rattle.sheet_rules.specs.Reading.{firstRefused, figuresIn, opens, ofEntries, ofMessage};
+ghost use Rattle.sheet_rules.specs.Reading.{opens, ofEntries, ofMessage};
 ghost use Rattle.sheet_reader.specs.Calls.{sheetRead, outcomeOf};
-ghost use Rattle.sheet_reader.specs.Steps.{firstOf, limitFrom, isSheet, Taken, sheetBy, Tells};
+ghost use Rattle.sheet_reader.specs.Steps.{sheetBy, Tells};
 
 // As many cells as the largest desk has.
 pub const MOST: usize = SIDE * SIDE;
@@ -34,106 +24,6 @@ pub enum Sheet {
     Setup,
     Refused { number: u64 },
     Read { figures: Figures, length: usize },
-}
-
-// The limit that a number gives.
-fn limit_of(n: Number) -> Limit
-    ensures { λ r. ⌜ limitFrom n ≡ r ⌝ }
-    ensures { λ _. ⌜ numberIn (numberCell n) < 18446744073709551616 ⌝ }
-{
-    let w = glow_entries::number_word(n);
-    match n {
-        Number::Absent => Limit::Absent,
-        Number::Is(_) => Limit::Most(w),
-    }
-}
-
-// The figures of the matrix in the first row: type, targets, sources, and limits where given.
-fn figures_of(rows: &[[u64; 50]]) -> Figures
-    requires { ⌜ 0 < length (now rows) ⌝ }
-    ensures { λ r. ⌜ ((s : List ℕ) → figuresIn (firstOf s (now (rows .entry))) ≡ r) ⌝ }
-{
-    let e = glow_entries::matrix_at(&rows[0]);
-    let matrix_type = e.matrix_type;
-    let targets = e.targets;
-    let sources = e.sources;
-    let total_limit = e.total_limit;
-    let target_limit = e.target_limit;
-    let total = limit_of(total_limit);
-    let each = limit_of(target_limit);
-    Figures {
-        kind: glow_entries::number_word(matrix_type),
-        targets: glow_entries::number_word(targets),
-        sources: glow_entries::number_word(sources),
-        total,
-        each,
-    }
-}
-
-// Whether the first rows are one qualified matrix and connections alone.
-fn is_sheet(rows: &[[u64; 50]], count: usize) -> bool
-    requires { ⌜ count ≤ length (now rows) ⌝ }
-    ensures { λ r. ⌜ ((s : List ℕ) → isSheet (itemsIn s (now (rows .entry)) count) ≡ r) ⌝ }
-{
-    if count == 0 {
-        return false;
-    }
-    if rows[0][KIND] != kinds::QUALIFIED_MATRIX {
-        return false;
-    }
-    let mut i: usize = 1;
-    while i < count {
-        if rows[i][KIND] != kinds::CONNECTION {
-            return false;
-        }
-        i += 1;
-    }
-    true
-}
-
-// The numbers of an identifier, at the start of `list`: how many; 17 where there are more than 16.
-fn numbers_of(octets: &[u8], list: &mut [u64]) -> usize
-    requires { ⌜ length (now list) ≡ 16 ⌝ }
-    ensures { λ r. ⌜ Taken (numbersIn (now (octets .entry))) r (now (list .exit)) ⌝ }
-{
-    let end = glow_paths::list_end(octets);
-    let mut p: usize = 0;
-    let mut k: usize = 0;
-    while p < end {
-        let x = glow_paths::next_number(octets, p, end);
-        if 16 <= k {
-            return 17;
-        }
-        list[k] = x.number;
-        k += 1;
-        p = x.next;
-    }
-    k
-}
-
-// The numbers of a member, none where it has none.
-fn path_of(s: &[u8], v: Cell, list: &mut [u64]) -> usize
-    requires { ⌜ length (now list) ≡ 16 ⌝ }
-    ensures { λ r. ⌜ Taken (numbersIn (octetsOf (contentOf (now (s .entry)) v))) r (now (list .exit)) ⌝ }
-{
-    let span = glow_rows::span_of(s, v);
-    let start = span.start;
-    let end = span.end;
-    numbers_of(&s[start..end], list)
-}
-
-// The first answer that is a refusal, 0 where there is none.
-fn first_refused(answers: &[u8]) -> u64
-    ensures { λ r. ⌜ firstRefused (now (answers .entry)) ≡ r ⌝ }
-{
-    let mut j: usize = 0;
-    while j < answers.len() {
-        if answers[j] != 0 {
-            return wide(answers[j]);
-        }
-        j += 1;
-    }
-    0
 }
 
 // Opens the desk and applies the connections of the first rows: 0 and its crosspoints, or the first refusal.
@@ -159,7 +49,7 @@ fn apply(
     let called = desk_calls::call(f, path, rows, count, root, s, cells);
     let n = called.count;
     let answers = called.answers;
-    first_refused(&answers[..n])
+    sheet_entries::first_refused(&answers[..n])
 }
 
 // The words of one list over the first of another.
@@ -249,15 +139,15 @@ fn of_entries(
     ensures { λ r. ⌜ Tells (ofEntries (itemsIn (now (s .entry)) (now (rows .entry)) count)) (now (path .entry)) (now (crosspoints .entry))
         r (now (path .exit)) (now (crosspoints .exit)) ⌝ }
 {
-    if !is_sheet(rows, count) {
+    if !sheet_entries::is_sheet(&rows[..count]) {
         return Sheet::Refused { number: 33 };
     }
     let mut numbers = [0u64; 16];
-    let n = path_of(s, glow_rows::cell_at(rows, 0, places::KEY), &mut numbers);
+    let n = sheet_entries::path_of(s, glow_rows::cell_at(rows, 0, places::KEY), &mut numbers);
     if 16 < n {
         return Sheet::Refused { number: 45 };
     }
-    let f = figures_of(rows);
+    let f = sheet_entries::figures_of(&rows[0]);
     let mode = glow_rows::number_of(glow_rows::cell_at(rows, 0, places::MODE));
     let size = desk_crosspoints::size(f);
     let mut cells = [0u8; MOST];

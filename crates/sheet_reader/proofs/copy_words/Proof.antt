@@ -1,5 +1,5 @@
 use borrow.Author.Needs.{needs}
-use Rattle.sheet_reader.proofs.Numbers.{copy-more, copy-end, copy-length}
+use Rattle.sheet_reader.proofs.Copies.{copy-more, copy-end, copy-length}
 use lib.ListN.{length, take, drop, set, getD}
 use Prim.Native.Nat.{_-_, _≤_}
 use mathlib.Core.List.{_++_}

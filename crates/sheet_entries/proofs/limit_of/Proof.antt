@@ -1,8 +1,8 @@
 use Prim.Native.Nat.{_<_, _^_}
-use Rattle.sheet_reader.proofs.Members.{limit-some}
+use Rattle.sheet_entries.proofs.Members.{limit-some}
 use borrow.Author.Needs.{needs}
-use Rattle.sheet_reader.proofs.limit_of.Statement.{statement}
-use Rattle.sheet_reader.proofs.limit_of.Tie as tie
+use Rattle.sheet_entries.proofs.limit_of.Statement.{statement}
+use Rattle.sheet_entries.proofs.limit_of.Tie as tie
 
 number-word-requires : tie.Need-number-word-requires
 number-word-requires c κs = search needs

@@ -1,5 +1,5 @@
 use borrow.Author.Needs.{needs}
-use Rattle.sheet_reader.proofs.Numbers.{taken-end, taken-more, taken-over}
+use Rattle.sheet_entries.proofs.Numbers.{taken-end, taken-more, taken-over}
 use Rattle.glow_paths.proofs.Numbers.{left-none}
 use Rattle.glow_paths.specs.Paths.{numbersIn, Left}
 use lib.ListN.{length, take, length-set}
@@ -7,8 +7,8 @@ use Prim.Native.Nat.{ℕ, _-_, _≤_}
 use mathlib.Core.List.{List, _++_}
 use mathlib.Core.Path.{_≡_, refl, _∙_}
 use native.Mathlib.Omega.{arith}
-use Rattle.sheet_reader.proofs.numbers_of.Statement.{statement}
-use Rattle.sheet_reader.proofs.numbers_of.Tie as tie
+use Rattle.sheet_entries.proofs.numbers_of.Statement.{statement}
+use Rattle.sheet_entries.proofs.numbers_of.Tie as tie
 
 abbrev Inv-loop : tie.InvT-loop
 Inv-loop octets list₀ end p₀ k₀ list p k = (xs : List ℕ)

@@ -4,11 +4,11 @@ use mathlib.Core.Path.{_≡_, refl, sym, _∙_}
 use Prim.Native.Nat.{_-_}
 use lib.ListN.{length, drop}
 use Rattle.sheet_rules.specs.Reading.{firstRefused}
-use Rattle.sheet_reader.proofs.Numbers.{refused-none, refused-one, refused-more}
-use Rattle.sheet_reader.proofs.first_refused.Statement.{statement}
-use Rattle.sheet_reader.proofs.first_refused.Tie as tie
-use Rattle.sheet_reader.proofs.first_refused.Reads as reads
-use Rattle.sheet_reader.proofs.first_refused.Lts as lts
+use Rattle.sheet_entries.proofs.Numbers.{refused-none, refused-one, refused-more}
+use Rattle.sheet_entries.proofs.first_refused.Statement.{statement}
+use Rattle.sheet_entries.proofs.first_refused.Tie as tie
+use Rattle.sheet_entries.proofs.first_refused.Reads as reads
+use Rattle.sheet_entries.proofs.first_refused.Lts as lts
 
 abbrev Inv-loop : tie.InvT-loop
 Inv-loop answers j₀ j = firstRefused answers ≡ firstRefused (drop j answers)

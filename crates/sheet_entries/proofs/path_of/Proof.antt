@@ -1,7 +1,7 @@
 use borrow.Author.Needs.{needs}
-use Rattle.sheet_reader.proofs.Numbers.{path-is}
-use Rattle.sheet_reader.proofs.path_of.Statement.{statement}
-use Rattle.sheet_reader.proofs.path_of.Tie as tie
+use Rattle.sheet_entries.proofs.Numbers.{path-is}
+use Rattle.sheet_entries.proofs.path_of.Statement.{statement}
+use Rattle.sheet_entries.proofs.path_of.Tie as tie
 
 span-of-requires : tie.Need-span-of-requires
 span-of-requires c κs = search needs
@@ -18,14 +18,11 @@ part-numbers-of-end c = search needs
 numbers-of-requires : tie.Need-numbers-of-requires
 numbers-of-requires c κs = search needs
 
-same-length : tie.Need-same-length
-same-length c = search needs
-
 returns : tie.Need-returns
 returns c =
-    let the-span-of = c .before .before .before .before .before .span-of in
-    let the-numbers-of = c .before .before .numbers-of in
-    path-is _ _ _ _ _ (the-span-of .ensures .0) (the-numbers-of .ensures)
+    let the-span-of = c .before .before .before .span-of in
+    let the-numbers-of = c .numbers-of in
+    (path-is _ _ _ _ _ (the-span-of .ensures .0) (the-numbers-of .ensures), search needs)
 
 pub path-of-spec : {M : Type 1} → statement M
 path-of-spec =
@@ -36,5 +33,4 @@ path-of-spec =
     part-numbers-of-start
     part-numbers-of-end
     numbers-of-requires
-    same-length
     returns)

@@ -1,21 +1,21 @@
 use borrow.Author.Needs.{needs}
-use Rattle.sheet_reader.proofs.Members.{sheet-none, sheet-other, sheet-links, links-end, links-other, links-more}
-use Rattle.sheet_reader.specs.Steps.{isSheet}
+use Rattle.sheet_entries.proofs.Members.{sheet-none, sheet-other, sheet-links, links-end, links-other, links-more}
+use Rattle.sheet_entries.specs.Entries.{isSheet}
 use Rattle.sheet_rules.specs.Reading.{allLinks}
 use Rattle.glow_trees.specs.Rows.{itemsIn}
-use lib.ListN.{drop}
+use lib.ListN.{length, drop}
 use Prim.Native.Nat.{ℕ, _-_}
 use mathlib.Core.List.{List}
 use mathlib.Core.Path.{_≡_, _∙_}
 use native.Mathlib.Omega.{arith}
-use Rattle.sheet_reader.proofs.is_sheet.Statement.{statement}
-use Rattle.sheet_reader.proofs.is_sheet.Tie as tie
+use Rattle.sheet_entries.proofs.is_sheet.Statement.{statement}
+use Rattle.sheet_entries.proofs.is_sheet.Tie as tie
 
 abbrev Inv-loop : tie.InvT-loop
-Inv-loop rows count i₀ i = (s : List ℕ) → isSheet (itemsIn s rows count) ≡ allLinks (drop i (itemsIn s rows count))
+Inv-loop rows i₀ i = (s : List ℕ) → isSheet (itemsIn s rows (length rows)) ≡ allLinks (drop i (itemsIn s rows (length rows)))
 
 abbrev μ-loop : tie.MeasureT-loop
-μ-loop rows count i₀ i = count - i
+μ-loop rows i₀ i = length rows - i
 
 returns : tie.Need-returns Inv-loop μ-loop
 returns c =
@@ -30,15 +30,13 @@ index-2-if2 c = search needs
 
 returns-2 : tie.Need-returns-2 Inv-loop μ-loop
 returns-2 c =
-    let the-Start = c .before .before .before in
     let the-if2 = c .if2 in
-    λ s. sheet-other s _ _ (the-Start .pre) (omega arith) (the-if2 .taken)
+    λ s. sheet-other s _ (omega arith) (the-if2 .taken)
 
 loop-holds : tie.Need-loop-holds Inv-loop μ-loop
 loop-holds c =
-    let the-Start = c .before .before .before in
     let the-if2 = c .if2 in
-    λ s. sheet-links s _ _ (the-Start .pre) (omega arith) (the-if2 .left)
+    λ s. sheet-links s _ (omega arith) (the-if2 .left)
 
 mul-if3 : tie.Need-mul-if3 Inv-loop μ-loop
 mul-if3 c = search needs
@@ -51,11 +49,10 @@ index-2-if3 c = search needs
 
 returns-3 : tie.Need-returns-3 Inv-loop μ-loop
 returns-3 c =
-    let the-Start = c .before .before .before .before .before .before .before in
     let the-loop = c .before .before .before .loop in
     let the-loop-test = c .before .before .loop-test in
     let the-if3 = c .if3 in
-    λ s. the-loop .inv s ∙ links-other s _ _ (the-Start .pre) _ (the-loop-test .taken) (the-if3 .taken)
+    λ s. the-loop .inv s ∙ links-other s _ _ (the-loop-test .taken) (the-if3 .taken)
 
 add-i : tie.Need-add-i Inv-loop μ-loop
 add-i c = omega arith
@@ -65,18 +62,16 @@ loop-less c = omega arith
 
 loop-again : tie.Need-loop-again Inv-loop μ-loop
 loop-again c =
-    let the-Start = c .before .before .before .before .before .before .before in
     let the-loop = c .before .before .before .loop in
     let the-loop-test = c .before .before .loop-test in
     let the-if3 = c .if3 in
-    λ s. the-loop .inv s ∙ links-more s _ _ (the-Start .pre) _ (the-loop-test .taken) (the-if3 .left)
+    λ s. the-loop .inv s ∙ links-more s _ _ (the-loop-test .taken) (the-if3 .left)
 
 returns-4 : tie.Need-returns-4 Inv-loop μ-loop
 returns-4 c =
-    let the-Start = c .before .before .before .before .before in
     let the-loop = c .before .loop in
     let the-loop-test = c .loop-test in
-    λ s. the-loop .inv s ∙ links-end s _ _ (the-Start .pre) _ (the-loop-test .left)
+    λ s. the-loop .inv s ∙ links-end s _ _ (the-loop-test .left)
 
 pub is-sheet-spec : {M : Type 1} → statement M
 is-sheet-spec =

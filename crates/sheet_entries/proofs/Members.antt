@@ -4,7 +4,7 @@ use mathlib.Core.Path.{_≡_, refl, sym, ap, subst, _∙_}
 use mathlib.Core.List.{List, [], _∷_}
 use mathlib.Core.Bool.{Bool, true, false, true≢false}
 use native.Mathlib.Omega.{arith}
-use borrow.Author.Tests.{eq-eqb, ne-eqb, eqb-true, lt-ltb}
+use borrow.Author.Tests.{eq-eqb, ne-eqb, eqb-true, eqb-false, lt-ltb}
 use lib.ListN.{length, drop, getD, drop-of-length-le}
 use lib.Seq.{drop-cons}
 use lib.Dec.{eqb}
@@ -13,22 +13,22 @@ use Rattle.base_choices.specs.Choices.{pick}
 use Rattle.glow_rows.specs.Entry.{Rows}
 use Rattle.glow_rows.specs.declared.Cell.{Cell}
 use Rattle.glow_rows.specs.Cell.{intOf, numberIn}
-use Rattle.glow_trees.specs.Content.{Content, Item, contentOf, contentsOf, itemsOf}
-use Rattle.glow_trees.specs.Rows.{cellsFrom, entriesOf, itemsIn}
+use Rattle.glow_trees.specs.Content.{Content, Item, contentOf, contentsOf, itemOf, itemsOf}
+use Rattle.glow_trees.specs.Rows.{cellsFrom, entryOf, entriesOf, itemsIn}
 use Rattle.desk_crosspoints.specs.declared.Limit.{Limit}
 use Rattle.desk_crosspoints.specs.declared.Limit.the-variants.{Absent, Most}
-use Rattle.glow_rows.specs.Row.{cellIn, rowCell}
+use Rattle.glow_rows.specs.Row.{cellIn}
 use Rattle.glow_entries.specs.declared.Number.{Number}
 use Rattle.glow_entries.specs.declared.Number.the-variants.{Absent as NoNumber, Is as IsNumber}
 use Rattle.glow_entries.specs.declared.Matrix.{Matrix}
 use Rattle.glow_entries.specs.Member as members
 use Rattle.glow_entries.specs.Member.{numberCell}
 use Rattle.glow_entries.specs.Record.{matrixOf, MatrixWords}
-use Rattle.glow_paths.specs.Paths.{numberOf, memberOf, nobody}
+use Rattle.glow_paths.specs.Paths.{nobody}
 use Rattle.glow_paths.proofs.Items.{in-length, in-kind, content-by}
 use Rattle.desk_connections.proofs.Rows.{number-is}
-use Rattle.sheet_rules.specs.Reading.{limitIn, figuresIn, modeIn, allLinks}
-use Rattle.sheet_reader.specs.Steps.{firstOf, limitFrom, isSheet}
+use Rattle.sheet_rules.specs.Reading.{limitIn, figuresIn, allLinks}
+use Rattle.sheet_entries.specs.Entries.{limitFrom, isSheet}
 
 -- ---- a limit
 
@@ -66,10 +66,7 @@ limit-some n z w e q h =
 
 -- ---- the figures
 
-module _ (rows : Rows) where
-  abbrev row : List ℕ
-  row = getD rows 0 []
-
+module _ (row : List ℕ) where
   pub figures-is : (x : Matrix) → x ≡ matrixOf row → MatrixWords row x
       → (kind targets sources : ℕ) (total each : Limit)
       → numberIn (numberCell (x .«matrix_type»)) ≡ kind → kind < 2 ^ 64
@@ -77,7 +74,8 @@ module _ (rows : Rows) where
       → numberIn (numberCell (x .sources)) ≡ sources → sources < 2 ^ 64
       → limitFrom (x .«total_limit») ≡ total → numberIn (numberCell (x .«total_limit»)) < 18446744073709551616
       → limitFrom (x .«target_limit») ≡ each → numberIn (numberCell (x .«target_limit»)) < 18446744073709551616
-      → (s : List ℕ) → figuresIn (firstOf s rows) ≡ record { kind = kind; targets = targets; sources = sources; total = total; each = each }
+      → (s : List ℕ)
+      → figuresIn (itemOf s (entryOf row)) ≡ record { kind = kind; targets = targets; sources = sources; total = total; each = each }
   unfolding contentsOf cellsFrom cellIn matrixOf
   figures-is x e w kind targets sources total each a a′ b b′ c c′ d d′ f f′ s =
       rw (
@@ -88,59 +86,53 @@ module _ (rows : Rows) where
         limit-is s (cellIn row 8) (x .«target_limit») each (ap (λ (y : Matrix). y .«target_limit») e) (w .«target_limit») f′ f,
       )
 
-pub mode-is : (rows : Rows) (v : Cell) (mode : ℕ) → v ≡ rowCell rows 0 4 → numberIn v ≡ mode → mode < 2 ^ 64 → (s : List ℕ) → modeIn (firstOf s rows) ≡ mode
-unfolding contentsOf cellsFrom rowCell
-mode-is rows v mode e a h s = ap (λ (x : Cell). numberOf (contentOf s x)) (sym e) ∙ number-is s v _ mode refl a h
-
--- the path's member
-pub first-member : (s : List ℕ) (rows : Rows) → memberOf (firstOf s rows) 0 ≡ contentOf s (rowCell rows 0 0)
-unfolding contentsOf cellsFrom rowCell
-first-member s rows = refl
-
 -- ---- which entries
 
 module _ (s : List ℕ) (rows : Rows) (n : ℕ) where
-  abbrev es : List Item
-  es = itemsIn s rows n
-
-  pub sheet-none : n ≡ 0 → isSheet es ≡ false
+  pub sheet-none : n ≡ 0 → isSheet (itemsIn s rows n) ≡ false
   unfolding itemsIn entriesOf itemsOf
   sheet-none e = rw e
 
-  module _ (h : n ≤ length rows) where
-    pub links-end : (i : ℕ) → n ≤ i → allLinks (drop i es) ≡ true
+  -- a sheet has a first entry
+  pub sheet-some : isSheet (itemsIn s rows n) ≡ true → 0 < n
+  sheet-some e = go (eqb n 0) refl
+    where
+      go : (b : Bool) → eqb n 0 ≡ b → 0 < n
+      go true q = absurd (true≢false (sym e ∙ sheet-none (eqb-true n 0 q)))
+      go false q = let z = eqb-false n 0 q in omega arith
+
+module _ (s : List ℕ) (rows : Rows) where
+  abbrev es : List Item
+  es = itemsIn s rows (length rows)
+
+  pub links-end : (i : ℕ) → length rows ≤ i → allLinks (drop i es) ≡ true
+  unfolding allLinks
+  links-end i k = let l = in-length s rows (length rows) (omega arith) in let m : length es ≤ i = omega arith in rw (drop-of-length-le es m)
+
+  module _ (i : ℕ) (k : i < length rows) where
+    from : drop i es ≡ getD es i nobody ∷ drop (i + 1) es
+    from =
+        let l = in-length s rows (length rows) (omega arith) in
+        let d : suc i ≡ i + 1 = omega arith in
+        drop-cons es i nobody (omega arith) ∙ ap (λ (j : ℕ). getD es i nobody ∷ drop j es) d
+
+    kind-at : getD es i nobody .kind ≡ getD (getD rows i []) 0 0
+    kind-at = in-kind s rows (length rows) (omega arith) i k
+
+    pub links-other : (getD (getD rows i []) 0 0 ≡ 8 → ⊥) → allLinks (drop i es) ≡ false
     unfolding allLinks
-    links-end i k = let l = in-length s rows n h in let m : length es ≤ i = omega arith in rw (drop-of-length-le es m)
+    links-other q = rw (from, kind-at, ne-eqb _ _ q)
 
-    module _ (i : ℕ) (k : i < n) where
-      from : drop i es ≡ getD es i nobody ∷ drop (i + 1) es
-      from =
-          let l = in-length s rows n h in
-          let d : suc i ≡ i + 1 = omega arith in
-          drop-cons es i nobody (omega arith) ∙ ap (λ (j : ℕ). getD es i nobody ∷ drop j es) d
+    pub links-more : getD (getD rows i []) 0 0 ≡ 8 → allLinks (drop i es) ≡ allLinks (drop (i + 1) es)
+    unfolding allLinks
+    links-more q = rw (from, kind-at, eq-eqb _ _ q)
 
-      pub links-other : (getD (getD rows i []) 0 0 ≡ 8 → ⊥) → allLinks (drop i es) ≡ false
-      unfolding allLinks
-      links-other q = rw (from, in-kind s rows n h i k, ne-eqb _ _ q)
+  module _ (k : 0 < length rows) where
+    first : es ≡ getD es 0 nobody ∷ drop 1 es
+    first = from 0 k
 
-      pub links-more : getD (getD rows i []) 0 0 ≡ 8 → allLinks (drop i es) ≡ allLinks (drop (i + 1) es)
-      unfolding allLinks
-      links-more q = rw (from, in-kind s rows n h i k, eq-eqb _ _ q)
+    pub sheet-other : (getD (getD rows 0 []) 0 0 ≡ 7 → ⊥) → isSheet es ≡ false
+    sheet-other q = ap isSheet first ∙ rw (kind-at 0 k, ne-eqb _ _ q)
 
-    module _ (k : 0 < n) where
-      first : es ≡ getD es 0 nobody ∷ drop 1 es
-      first = from 0 k
-
-      pub sheet-other : (getD (getD rows 0 []) 0 0 ≡ 7 → ⊥) → isSheet es ≡ false
-      sheet-other q = ap isSheet first ∙ rw (in-kind s rows n h 0 k, ne-eqb _ _ q)
-
-      pub sheet-links : getD (getD rows 0 []) 0 0 ≡ 7 → isSheet es ≡ allLinks (drop 1 es)
-      sheet-links q = ap isSheet first ∙ rw (in-kind s rows n h 0 k, eq-eqb _ _ q)
-
-    -- a sheet has a first entry
-    pub sheet-some : isSheet es ≡ true → 0 < n
-    sheet-some e = go (eqb n 0) refl
-      where
-        go : (b : Bool) → eqb n 0 ≡ b → 0 < n
-        go true q = absurd (true≢false (sym e ∙ sheet-none (eqb-true n 0 q)))
-        go false q = let z = borrow.Author.Tests.eqb-false n 0 q in omega arith
+    pub sheet-links : getD (getD rows 0 []) 0 0 ≡ 7 → isSheet es ≡ allLinks (drop 1 es)
+    sheet-links q = ap isSheet first ∙ rw (kind-at 0 k, eq-eqb _ _ q)
