@@ -158,7 +158,7 @@ pub fn write_oid(ns: &[u64], out: &mut [u8], at: usize) -> Wrote
     while 0 < i {
         i = i - 1;
         p = p - number_size(ns[i]);
-        ber_tags::write_septets(ns[i], out, p);
+        ber_tag_writer::write_septets(ns[i], out, p);
     }
     Wrote::Next(end)
 }

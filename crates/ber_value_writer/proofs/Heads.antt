@@ -17,7 +17,7 @@ use Rattle.ber_integers.proofs.Output.{append-none, append-done, put-fits, put-
 use Rattle.ber_tags.specs.Write.{bit, tagOctets, lengthOctets}
 use Rattle.ber_reals.specs.Write.{Form, unwritten, octets, putForm}
 use Rattle.ber_tags.specs.Write.{putLength}
-use Rattle.ber_tags.proofs.Laws.{put-length-is}
+use Rattle.ber_tag_writer.proofs.Laws.{put-length-is}
 use Rattle.ber_values.specs.Write.{primitive, part, putPart, putPrimitive, putHead, Sealable}
 use Rattle.ber_values.proofs.Laws.{text-out, text-in}
 use Rattle.ber_value_writer.proofs.Laws.{part-out, part-in}

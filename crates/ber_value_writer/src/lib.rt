@@ -111,7 +111,7 @@ fn write_text(kind: u8, src: &[u8], start: usize, len: usize, out: &mut [u8], at
     if 4294967295 < n {
         return Wrote::Out;
     }
-    let h = ber_tags::length_size(n);
+    let h = ber_tag_writer::length_size(n);
     if out.len() < h + 1 {
         return Wrote::Out;
     }
@@ -120,7 +120,7 @@ fn write_text(kind: u8, src: &[u8], start: usize, len: usize, out: &mut [u8], at
     }
     match write_part(src, start, len, out, at + 1 + h) {
         Wrote::Next(e) => {
-            ber_tags::write_length(n, out, at + 1);
+            ber_tag_writer::write_length(n, out, at + 1);
             out[at] = kind;
             Wrote::Next(e)
         }

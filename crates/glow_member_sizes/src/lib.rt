@@ -55,7 +55,7 @@ pub fn around(n: u64) -> u64
     if MESSAGE_LIMIT < n {
         return NO_SIZE;
     }
-    capped(1 + word(ber_tags::length_size(n)) + n)
+    capped(1 + word(ber_tag_writer::length_size(n)) + n)
 }
 
 // The place after what was written, 0 where the output was too short.

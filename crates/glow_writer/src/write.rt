@@ -67,7 +67,7 @@ fn put_head(tag: u8, n: u64, out: &mut [u8], at: usize) -> usize
     ensures { λ r. ⌜ (n ≤ 16384 → Puts (now (out .entry)) at (head tag n) r (now (out .exit))) ⌝ }
 {
     let a = put_octet(tag, out, at);
-    place(ber_tags::write_length(n, out, a))
+    place(ber_tag_writer::write_length(n, out, a))
 }
 
 // A context tag and the tag in it, around n octets.

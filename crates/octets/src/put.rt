@@ -32,8 +32,8 @@ fn write(asked: Asked, src: &[u8], numbers: &[u64], out: &mut [u8]) -> Wrote {
             class,
             constructed,
             number,
-        } => ber_tags::write_tag(class, constructed, number, out, AT),
-        Asked::Length(n) => ber_tags::write_length(n, out, AT),
+        } => ber_tag_writer::write_tag(class, constructed, number, out, AT),
+        Asked::Length(n) => ber_tag_writer::write_length(n, out, AT),
         Asked::Oid => ber_identifiers::write_oid(numbers, out, AT),
         Asked::Whole(value) => ber_value_writer::write_value(value, src, out, AT),
     }

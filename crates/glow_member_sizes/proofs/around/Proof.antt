@@ -6,7 +6,7 @@ use Rattle.glow_member_sizes.proofs.around.Statement.{statement}
 use Rattle.glow_member_sizes.proofs.around.Tie as tie
 use Rattle.glow_member_sizes.proofs.around.Reads as reads
 use Rattle.glow_member_sizes.proofs.around.Lts as lts
-use Rattle.ber_tags.proofs.length_size.Reads as length-size-reads
+use Rattle.ber_tag_writer.proofs.length_size.Reads as length-size-reads
 use Rattle.glow_member_sizes.proofs.capped.Reads as capped-reads
 use Rattle.base_casts.proofs.word.Reads as word-reads
 

@@ -6,7 +6,7 @@ use Rattle.glow_writer.proofs.write.put_head.Reads as reads
 use Rattle.glow_writer.proofs.write.put_head.Lts as lts
 use Rattle.glow_member_sizes.proofs.place.Reads as place-reads
 use Rattle.glow_writer.proofs.write.put_octet.Reads as put-octet-reads
-use Rattle.ber_tags.proofs.write_length.Reads as write-length-reads
+use Rattle.ber_tag_writer.proofs.write_length.Reads as write-length-reads
 
 put-octet-requires : tie.Need-put-octet-requires
 put-octet-requires c κs = search needs

@@ -5,10 +5,10 @@ use Rattle.ber_integers.specs.Digits.{digits, count}
 use Rattle.ber_integers.proofs.Laws.{put-out}
 use Rattle.ber_integers.proofs.Radix.{count-least}
 use Rattle.ber_integers.proofs.Output.{cons-none, cons-done}
-use Rattle.ber_tags.proofs.Laws.{put-length-over, put-length-short, put-length-long}
+use Rattle.ber_tag_writer.proofs.Laws.{put-length-over, put-length-short, put-length-long}
 use borrow.Author.Needs.{needs}
-use Rattle.ber_tags.proofs.write_length.Statement.{statement}
-use Rattle.ber_tags.proofs.write_length.Tie as tie
+use Rattle.ber_tag_writer.proofs.write_length.Statement.{statement}
+use Rattle.ber_tag_writer.proofs.write_length.Tie as tie
 
 -- four octets at most
 few : (c : tie.After-word) → c .word .result ≤ 4

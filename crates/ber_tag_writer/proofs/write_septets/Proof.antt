@@ -6,11 +6,11 @@ use borrow.Author.Needs.{needs}
 use lib.ListN.{length, take, drop, set, length-set}
 use Rattle.ber_integers.specs.Digits.{digits}
 use Rattle.ber_integers.proofs.Laws.{put-out, put-in, fill-step}
 use Rattle.ber_tags.specs.Write.{marked, septets}
-use Rattle.ber_tags.proofs.Laws.{septets-start, septets-step, septets-done, first-there, first-take, first-drop}
+use Rattle.ber_tag_writer.proofs.Laws.{septets-start, septets-step, septets-done, first-there, first-take, first-drop}
 use Rattle.ber_tags.proofs.Septets.{length-septets}
-use Rattle.ber_tags.proofs.write_septets.Statement.{statement}
-use Rattle.ber_tags.proofs.write_septets.Tie as tie
+use Rattle.ber_tag_writer.proofs.write_septets.Statement.{statement}
+use Rattle.ber_tag_writer.proofs.write_septets.Tie as tie
 
 abbrev Inv-loop : tie.InvT-loop
 Inv-loop v out₀ at n r₀ i₀ out r i =

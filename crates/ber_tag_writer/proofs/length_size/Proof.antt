@@ -3,10 +3,10 @@ use mathlib.Core.Path.{sym}
 use native.Mathlib.Omega.{arith}
 use Rattle.ber_integers.specs.Digits.{count}
 use Rattle.ber_integers.proofs.Radix.{count-least}
 use Rattle.ber_tags.proofs.Shortest.{length-length-short, length-length-long}
 use borrow.Author.Needs.{needs}
-use Rattle.ber_tags.proofs.length_size.Statement.{statement}
-use Rattle.ber_tags.proofs.length_size.Tie as tie
+use Rattle.ber_tag_writer.proofs.length_size.Statement.{statement}
+use Rattle.ber_tag_writer.proofs.length_size.Tie as tie
 
 -- 64 bits are at most eight octets
 eight : (c : tie.After-octet-count) → c .octet-count .result ≤ 8

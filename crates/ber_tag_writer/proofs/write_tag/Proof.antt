@@ -3,11 +3,11 @@ use mathlib.Core.Path.{_∙_}
 use native.Mathlib.Omega.{arith}
 use Rattle.ber_integers.proofs.Laws.{put-out}
 use Rattle.ber_integers.proofs.Output.{cons-none, cons-done}
 use Rattle.ber_tags.specs.Write.{bit, septets}
-use Rattle.ber_tags.proofs.Laws.{tag-class, tag-over, tag-short, tag-long}
+use Rattle.ber_tag_writer.proofs.Laws.{tag-class, tag-over, tag-short, tag-long}
 use borrow.Author.Needs.{needs}
-use Rattle.ber_tags.proofs.write_tag.Statement.{statement}
-use Rattle.ber_tags.proofs.write_tag.Tie as tie
+use Rattle.ber_tag_writer.proofs.write_tag.Statement.{statement}
+use Rattle.ber_tag_writer.proofs.write_tag.Tie as tie
 
 returns : tie.Need-returns
 returns c = tag-class _ _ _ _ _ (c .if1 .taken)

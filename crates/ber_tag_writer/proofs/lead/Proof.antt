@@ -1,7 +1,7 @@
 use native.Mathlib.Omega.{arith}
 use borrow.Author.Needs.{needs}
-use Rattle.ber_tags.proofs.lead.Statement.{statement}
-use Rattle.ber_tags.proofs.lead.Tie as tie
+use Rattle.ber_tag_writer.proofs.lead.Statement.{statement}
+use Rattle.ber_tag_writer.proofs.lead.Tie as tie
 
 mul-result : tie.Need-mul-result
 mul-result c = search needs
