@@ -28,13 +28,13 @@ use Rattle.desk_crosspoints.specs.Figures.{sizeOf}
 use Rattle.desk_crosspoints.specs.Crosspoints.{Cells}
 use Rattle.desk_crosspoints.specs.Desk.{Desk, deskLegal}
 use Rattle.turns.specs.declared.After.{After}
-use Rattle.turns.specs.Turns as claim
-use Rattle.turns.specs.Turns.{none as no-more}
+use Rattle.turn_rules.specs.Turns as claim
+use Rattle.turn_rules.specs.Turns.{none as no-more}
 use Rattle.turns.specs.Whole.{Left, left, laterAt, laterOf, gave}
 use Rattle.framing_session.proofs.Laws.{number-apart, legal-true}
 use Rattle.framing.proofs.Sayable.{legal-answered}
 use Rattle.turns.proofs.Comes.{said-at, function-turn}
-use Rattle.turns.proofs.Claim.{claim as rules-claim}
+use Rattle.turn_rules.proofs.Claim.{claim as rules-claim}
 use Rattle.desk_words.specs.Words.{figuresAt, deskIn, isFigures}
 use Rattle.ember_answers.specs.Answers.{lengthsFit, next}
 use Rattle.ember.specs.Calls.{Turned, turn, turnOf, turnAfter, turned, turns}

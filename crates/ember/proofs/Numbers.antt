@@ -20,7 +20,7 @@ use Rattle.desk_requests.specs.Request.{request}
 use Rattle.desk_calls.specs.Calls.{Outcome, called}
 use Rattle.desk_calls.specs.Numbers.{openNumbers, requestNumbers, callNumbers}
 use Rattle.desk_calls.proofs.Numbers.{open-numbers, request-numbers, call-numbers}
-use Rattle.turns.specs.Turns.{none}
+use Rattle.turn_rules.specs.Turns.{none}
 use Rattle.turns.specs.Whole.{left}
 use Rattle.sheet_writer.specs.Numbers.{sheetPutNumbers}
 use Rattle.sheet_writer.proofs.Numbers.{sheet-put-numbers}

@@ -29,12 +29,12 @@ use Rattle.desk_crosspoints.specs.Crosspoints.{Cells}
 use Rattle.desk_crosspoints.specs.Desk.{Desk, allNumbers, pathFits, deskLegal}
 use Rattle.desk_crosspoints.proofs.Legal.{legal-fit, legal-length}
 use Rattle.desk_crosspoints.proofs.Paths.{path-short, desk-fits, desk-legal}
-use Rattle.turns.specs.Rules.{keep, tells, after}
-use Rattle.turns.specs.Turns as claim
+use Rattle.turn_rules.specs.Rules.{keep, tells, after}
+use Rattle.turn_rules.specs.Turns as claim
 use Rattle.turns.specs.Whole.{laterOf}
-use Rattle.turns.proofs.Follows.{comes-legal}
+use Rattle.turn_rules.proofs.Follows.{comes-legal}
 use Rattle.turns.proofs.Comes.{comes-at, said-at, function-turn}
-use Rattle.turns.proofs.Claim.{claim as rules-claim}
+use Rattle.turn_rules.proofs.Claim.{claim as rules-claim}
 use Rattle.desk_words.specs.Words.{figuresAt, deskIn, isFigures}
 use Rattle.ember_answers.specs.Answers.{lengthsFit}
 use Rattle.ember.specs.Calls.{Turned, turnOf, turnAfter, turned, turns}

@@ -25,7 +25,7 @@ use Rattle.desk_crosspoints.specs.Figures.{sizeOf}
 use Rattle.desk_crosspoints.specs.Crosspoints.{Cells}
 use Rattle.desk_crosspoints.specs.Desk.{Desk, deskLegal}
 use Rattle.desk_calls.specs.Numbers.{callNumbers, answerNumbers, AllOneOf}
-use Rattle.turns.specs.Turns.{Later, none, read, desk}
+use Rattle.turn_rules.specs.Turns.{Later, none, read, desk}
 use Rattle.turns.specs.Whole.{Left, left, unasked, readTo}
 use Rattle.turns.proofs.Numbers.{treeNumbers, treeNumber, deskNumber, all-clear, later-tree, later-desk, later-answers}
 use Rattle.desk_words.specs.Words.{figuresAt, deskIn, isFigures}

@@ -12,7 +12,7 @@ use Rattle.desk_crosspoints.specs.Crosspoints.{Cells}
 use Rattle.desk_crosspoints.specs.Desk.{Desk, deskLegal, Answer, answer, deskOpened}
 use Rattle.desk_requests.specs.Request.{request, requested}
 use Rattle.desk_calls.specs.Calls.{called}
-use Rattle.turns.specs.Turns.{none}
+use Rattle.turn_rules.specs.Turns.{none}
 use Rattle.turns.specs.Whole.{Left, left}
 use Rattle.framing_packets.specs.Written.{Outcome as Wrote}
 use Rattle.sheet_writer.specs.Calls.{writesSheet}

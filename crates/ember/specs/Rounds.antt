@@ -10,7 +10,7 @@ use Rattle.framing_words.specs.Words.{sessionAt}
 use Rattle.glow_rows.specs.Entry.{Rows}
 use Rattle.desk_crosspoints.specs.Crosspoints.{Cells}
 use Rattle.turns.specs.declared.After.{After}
-use Rattle.turns.specs.Turns as claim
+use Rattle.turn_rules.specs.Turns as claim
 use Rattle.turns.specs.Whole.{laterOf}
 use Rattle.desk_words.specs.Words.{deskIn}
 use Rattle.ember_answers.specs.Answers.{laterWords}

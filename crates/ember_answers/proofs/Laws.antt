@@ -18,7 +18,7 @@ use Rattle.desk_calls.specs.declared.Called as asked
 use Rattle.desk_calls.specs.Calls.{Outcome, outcomeOf as answered}
 use Rattle.turns.specs.declared.After.{After}
 use Rattle.turns.specs.declared.After.the-variants as after
-use Rattle.turns.specs.Turns.{Later, none}
+use Rattle.turn_rules.specs.Turns.{Later, none}
 use Rattle.turns.specs.Whole.{Left, unasked, readTo}
 use Rattle.ember_answers.specs.declared.after.Six.{Six}
 use Rattle.ember_answers.specs.Answers.{deskCall, counted, countedPut, lengthsFit, next, treeWords, laterWords, answerPut, wordsIn, Words}

@@ -12,7 +12,7 @@ use Rattle.desk_crosspoints.specs.Crosspoints.{Cells}
 use Rattle.desk_crosspoints.specs.Desk.{Desk}
 use Rattle.desk_calls.specs.Calls.{Outcome}
 use Rattle.turns.specs.declared.After.{After}
-use Rattle.turns.specs.Turns.{Later, none, read, desk}
+use Rattle.turn_rules.specs.Turns.{Later, none, read, desk}
 use Rattle.turns.specs.Whole.{Left, unasked, readTo, laterOf}
 use Rattle.ember_answers.specs.declared.after.Six.{Six}
 

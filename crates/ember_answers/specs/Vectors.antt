@@ -4,7 +4,7 @@ use mathlib.Core.Bool.{true, false}
 use mathlib.Core.List.{[], _∷_, map}
 use Rattle.glow_reader.specs.declared.Answer.the-variants.{Refused, Room}
 use Rattle.desk_calls.specs.Calls.{outcome}
-use Rattle.turns.specs.Turns.{none, read, desk}
+use Rattle.turn_rules.specs.Turns.{none, read, desk}
 use Rattle.ember_answers.specs.Answers.{deskCall, counted, countedPut, lengthsFit, laterWords, answerPut}
 
 -- The desk's call told in an answer of one word; in none and in two, which is 1; and where it was 1.

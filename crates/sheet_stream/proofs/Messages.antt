@@ -14,7 +14,7 @@ use Rattle.ber_integers.proofs.Radix.{Below}
 use Rattle.framing_content.specs.Numbers.{messageLimit}
 use Rattle.framing_session.specs.Rules.{State, begin, step, Happening, noted, happens, after}
 use Rattle.framing_session.proofs.Laws.{Bounded, bounded-begin, bounded-next, within-step}
-use Rattle.turns.proofs.Octets.{OctetsIn, happens-octets, begin-octets}
+use Rattle.turn_rules.proofs.Octets.{OctetsIn, happens-octets, begin-octets}
 use Rattle.sheet_rules.specs.Lines.{Stream, bad, stream, push, Come, fresh, pairs, half, linesFrom, linesIn}
 use Rattle.sheet_rules.specs.Reading.{Held, refusal, message, finished, firstFault, somethingOpen, oneOf, ofEvents, heldIn}
 use Rattle.sheet_stream.proofs.Events.{finished-here, finished-later}

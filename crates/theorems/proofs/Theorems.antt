@@ -101,8 +101,8 @@ use Rattle.sheet_reader.specs.declared.Sheet.{Sheet}
 use Rattle.sheet_reader.specs.Calls.{sheetRead, sheetNumbers, outcomeOf as readTold}
 use Rattle.sheet_reader.proofs.Theorems as sheet-reader
 use Rattle.sheet_reader.proofs.Numbered as sheet-reader-calls
-use Rattle.turns.specs.Rules.{keep, tells, after}
-use Rattle.turns.specs.Turns as turns
+use Rattle.turn_rules.specs.Rules.{keep, tells, after}
+use Rattle.turn_rules.specs.Turns as turns
 use Rattle.turns.specs.Samples.{All, p1-to-p12}
 use Rattle.turns.specs.Calls.{CallByCall}
 use Rattle.turns.proofs.Calls.{Made}

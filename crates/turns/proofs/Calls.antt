@@ -23,8 +23,8 @@ use Rattle.desk_crosspoints.specs.Desk.{Desk, deskAt, withCells}
 use Rattle.desk_calls.specs.declared.Called.{Called}
 use Rattle.desk_calls.specs.Calls.{called, outcomeOf as answered}
 use Rattle.turns.specs.declared.Turned.{Turned}
-use Rattle.turns.specs.Turns as turns
-use Rattle.turns.specs.Turns.{Later, Turn, Comes, Turns, calls}
+use Rattle.turn_rules.specs.Turns as turns
+use Rattle.turn_rules.specs.Turns.{Later, Turn, Comes, Turns, calls}
 use Rattle.turns.specs.Calls.{ReadCall, DeskCall, CallsCome, ends, reads, serves, CallByCall, end, next}
 use Rattle.turns.specs.Whole.{laterOf, gave, laterAt}
 use Rattle.turns.proofs.Comes.{said-at, function-turn}

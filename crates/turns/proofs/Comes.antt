@@ -24,7 +24,7 @@ use Rattle.desk_calls.specs.Calls.{Outcome, called}
 use Rattle.turns.specs.declared.Turned.{Turned}
 use Rattle.turns.specs.declared.After.{After}
 use Rattle.turns.specs.declared.After.the-variants as after
-use Rattle.turns.specs.Turns.{Turn, Comes, ends, reads, serves, Turns, turn}
+use Rattle.turn_rules.specs.Turns.{Turn, Comes, ends, reads, serves, Turns, turn}
 use Rattle.turns.specs.Whole.{Left, laterOf, gave, answerTo, readTo, laterAt}
 
 -- what a result says is what its answer says

@@ -14,11 +14,11 @@ use Rattle.framing.proofs.Chunks.{fresh-legal}
 use Rattle.framing.proofs.Calls as framing
 use Rattle.glow_rows.specs.Entry.{Rows}
 use Rattle.desk_crosspoints.specs.Desk.{Desk, deskLegal}
-use Rattle.turns.specs.Rules.{keep, tells, after}
-use Rattle.turns.specs.Turns.{Turn, calls, told, AsRules}
+use Rattle.turn_rules.specs.Rules.{keep, tells, after}
+use Rattle.turn_rules.specs.Turns.{Turn, calls, told, AsRules}
 use Rattle.turns.specs.Calls.{CallByCall}
 use Rattle.turns.proofs.Calls.{calls-turns, Made, made-turns, some-made}
-use Rattle.turns.proofs.Claim.{claim}
+use Rattle.turn_rules.proofs.Claim.{claim}
 
 -- Whatever list of turns is made by calls of `framing::feed`, `glow_reader::read` and `desk_calls::call`, from a fresh session, any store of the
 -- right length and a

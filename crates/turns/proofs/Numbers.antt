@@ -34,7 +34,7 @@ use Rattle.desk_crosspoints.proofs.Paths.{desk-legal}
 use Rattle.desk_calls.proofs.Setup.{called-not, called-ready}
 use Rattle.desk_setup.proofs.Laws.{ready-tells}
 use Rattle.desk_calls.proofs.Numbers.{served-numbers, call-numbers}
-use Rattle.turns.specs.Turns.{Later, none, read, desk, isRead, Comes, ends, reads, serves}
+use Rattle.turn_rules.specs.Turns.{Later, none, read, desk, isRead, Comes, ends, reads, serves}
 use Rattle.turns.specs.Whole.{answerTo, readTo}
 
 left : (a b : Bool) → both a b ≡ true → a ≡ true

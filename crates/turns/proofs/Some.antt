@@ -14,10 +14,10 @@ use Rattle.framing.proofs.Chunks.{fresh-legal}
 use Rattle.framing.proofs.Calls as framing
 use Rattle.glow_rows.specs.Entry.{Rows}
 use Rattle.desk_crosspoints.specs.Desk.{Desk, withCells, deskLegal}
-use Rattle.turns.specs.Rules.{keep, tells, after}
-use Rattle.turns.specs.Turns.{Turn, Turns, none, turn, calls, told, Consumed}
+use Rattle.turn_rules.specs.Rules.{keep, tells, after}
+use Rattle.turn_rules.specs.Turns.{Turn, Turns, none, turn, calls, told, Consumed}
 use Rattle.turns.specs.Whole.{laterAt}
-use Rattle.turns.proofs.Claim.{claim}
+use Rattle.turn_rules.proofs.Claim.{claim}
 use Rattle.turns.proofs.Comes.{comes-at}
 
 -- a table for each turn

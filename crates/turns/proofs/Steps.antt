@@ -21,7 +21,7 @@ use Rattle.desk_crosspoints.specs.Crosspoints.{Cells}
 use Rattle.desk_crosspoints.specs.Desk.{Desk}
 use Rattle.desk_calls.specs.declared.Called.{Called}
 use Rattle.desk_calls.specs.Calls.{Outcome, uncalled, calledAfter, outcomeOf as answered}
-use Rattle.turns.specs.Turns.{none, read, desk, isMessage, isRead}
+use Rattle.turn_rules.specs.Turns.{none, read, desk, isMessage, isRead}
 use Rattle.turns.specs.Whole.{Left, left, unasked, deskTo, answerTo, readTo, laterAt}
 
 -- a message that is no shorter than the store is all of it

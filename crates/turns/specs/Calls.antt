@@ -28,8 +28,8 @@ use Rattle.desk_calls.specs.Calls.{outcomeOf as answered}
 use Rattle.desk_calls.proofs.call
 use Rattle.desk_calls.proofs.call.Kinds as call-kinds
 use Rattle.desk_calls.proofs.call.Reads as call-reads
-use Rattle.turns.specs.Turns as turns
-use Rattle.turns.specs.Turns.{Later, Turn, isMessage, isRead}
+use Rattle.turn_rules.specs.Turns as turns
+use Rattle.turn_rules.specs.Turns.{Later, Turn, isMessage, isRead}
 
 -- `glow_reader::read` was called with the message s and the table, gave a, and left the table′: what its contract has it ensure.
 pub record ReadCall (s : List ℕ) (table : Rows) (a : Answer) (table′ : Rows) : Type 0 where
@@ -65,7 +65,7 @@ pub data CallsCome (rows : ℕ) : Event → List ℕ → Desk → Later → Desk
       → length table ≡ rows → ReadCall (take n t) table (Read root count) table′ → DeskCall d table′ count root (take n t) r cells′
       → CallsCome rows (ev.Message n b) t d (turns.desk root count table′ (answered r cells′)) (withCells d cells′)
 
--- A list of turns, as `Turns` (specs/Turns.antt), of such calls.
+-- A list of turns, as `Turns` (crates/turn_rules/specs/Turns.antt), of such calls.
 pub data CallByCall (rows : ℕ) : Session → List ℕ → Desk → List ℕ → List Turn → Session → List ℕ → Desk → List ℕ → Type 0 where
   end : {s : Session} {t : List ℕ} {d : Desk} {rest : List ℕ} → CallByCall rows s t d rest [] s t d rest
   next : {s s″ : Session} {t t′ t″ : List ℕ} {d d′ d″ : Desk} {rest″ : List ℕ} {ts : List Turn} (c later : List ℕ) (r : Fed) (x : Later)

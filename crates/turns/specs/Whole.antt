@@ -13,7 +13,7 @@ use Rattle.desk_crosspoints.specs.Desk.{Desk}
 use Rattle.desk_calls.specs.Calls.{Outcome, outcome, called}
 use Rattle.turns.specs.declared.After.{After}
 use Rattle.turns.specs.declared.After.the-variants as after
-use Rattle.turns.specs.Turns.{Later, none, read, desk}
+use Rattle.turn_rules.specs.Turns.{Later, none, read, desk}
 
 -- What came after the session's call, the answers, and the table and the crosspoints after it.
 pub record Left : Type 0 where

@@ -1,4 +1,4 @@
-// A whole turn: session, tree reader and desk. The claim over every list of turns is proofs/Claim.antt.
+// A whole turn: session, tree reader and desk. The claim over every list of turns is crates/turn_rules/proofs/Claim.antt.
 use desk_crosspoints::Figures;
 use framing::Event;
 use framing::Fed;

@@ -22,7 +22,7 @@ use Rattle.desk_crosspoints.specs.Crosspoints.{Cells}
 use Rattle.desk_crosspoints.specs.Desk.{Desk, withCells, deskLegal}
 use Rattle.desk_calls.specs.declared.Called.{Called}
 use Rattle.desk_calls.specs.Calls.{Outcome, called, outcomeOf as answered}
-use Rattle.turns.specs.Rules.{keep, Then, nothing, refused, served, Told, noted, tells, after}
+use Rattle.turn_rules.specs.Rules.{keep, Then, nothing, refused, served, Told, noted, tells, after}
 
 -- What came after the session's call: nothing; the tree reader's answer, other than 0, and the table after it; its answer 0 (Root's kind and how many
 -- entries), the table after it, and the desk's answer with the crosspoints after it.

@@ -25,9 +25,9 @@ use Rattle.desk_calls.specs.Calls.{Served, handled, Outcome, filled, laid, call
 use Rattle.desk_calls.proofs.Setup.{called-ready}
 use Rattle.desk_calls.proofs.AsRead.{ready}
 use Rattle.desk_calls.proofs.Claims.{called-legal}
-use Rattle.turns.specs.Rules.{refusal, treeOf, Then, nothing, served, follow, asked, follows}
-use Rattle.turns.specs.Turns.{Later, read, desk, isMessage, isRead, Comes, ends, reads, serves, thenOf}
-use Rattle.turns.proofs.Trees.{tree-refused, tree-read}
+use Rattle.turn_rules.specs.Rules.{refusal, treeOf, Then, nothing, served, follow, asked, follows}
+use Rattle.turn_rules.specs.Turns.{Later, read, desk, isMessage, isRead, Comes, ends, reads, serves, thenOf}
+use Rattle.turn_rules.proofs.Trees.{tree-refused, tree-read}
 
 -- only event 3 is a message
 other : (e : Event) (t : List ℕ) → isMessage e ≡ false → eqb (saidBy e t .number) 3 ≡ false

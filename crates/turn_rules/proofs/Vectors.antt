@@ -31,7 +31,7 @@ use Rattle.desk_crosspoints.specs.Desk.{Desk}
 use Rattle.glow_paths.specs.Paths.{numbersIn, isQualified, pathUp, same}
 use Rattle.desk_connections.specs.Connections.{askOf, asksIn}
 use Rattle.desk_calls.specs.Calls.{answered, Served, served as servedIn, handled}
-use Rattle.turns.specs.Rules.{keep, treeOf, Then, nothing, refused, served, follows, Told, tells, after}
+use Rattle.turn_rules.specs.Rules.{keep, treeOf, Then, nothing, refused, served, follows, Told, tells, after}
 
 abbrev desk : Figures → Cells → Desk
 desk f cells = record { figures = f; path = 1 ∷ 5 ∷ []; crosspoints = cells }

@@ -21,8 +21,8 @@ use Rattle.trees_accepted.proofs.Lists.{items-length}
 use Rattle.trees_accepted.proofs.Message.{is-legal}
 use Rattle.trees_round_trip.proofs.Rows.{rows-items, tree-sixteen}
 use Rattle.trees_round_trip.proofs.Reading.{Walked, read-walk}
-use Rattle.turns.specs.Rules.{Tree, entries, refusal, treeBy, treeOf}
-use Rattle.turns.specs.Turns.{isRead}
+use Rattle.turn_rules.specs.Rules.{Tree, entries, refusal, treeBy, treeOf}
+use Rattle.turn_rules.specs.Turns.{isRead}
 
 -- by the answer
 abbrev treeFor : Answer → List Item → Tree

@@ -13,11 +13,11 @@ use Rattle.framing_session.specs.Session.{saidBy, stateOf, sessionOf, Legal}
 use Rattle.framing.specs.Offers as offers
 use Rattle.framing.proofs.Chunks.{as-rules, fresh-legal}
 use Rattle.desk_crosspoints.specs.Desk.{Desk, deskLegal}
-use Rattle.turns.specs.Rules.{keep, Then, Follow, Told, noted, tells, after}
-use Rattle.turns.specs.Turns.{Turn, Turns, none, turn, calls, thenOf, told, AsRules}
-use Rattle.turns.proofs.Octets.{Octets, OctetsIn, happens-octets, begin-octets, octets-here, octets-rest}
-use Rattle.turns.proofs.Events.{toldOf, deskOver, told-noted, desk-noted, tells-are, after-is}
-use Rattle.turns.proofs.Follows.{Agrees, comes-as}
+use Rattle.turn_rules.specs.Rules.{keep, Then, Follow, Told, noted, tells, after}
+use Rattle.turn_rules.specs.Turns.{Turn, Turns, none, turn, calls, thenOf, told, AsRules}
+use Rattle.turn_rules.proofs.Octets.{Octets, OctetsIn, happens-octets, begin-octets, octets-here, octets-rest}
+use Rattle.turn_rules.proofs.Events.{toldOf, deskOver, told-noted, desk-noted, tells-are, after-is}
+use Rattle.turn_rules.proofs.Follows.{Agrees, comes-as}
 
 -- the session calls of a list of turns are framing's turns
 pub session-calls : {rows : ℕ} {s s″ : Session} {t t″ : List ℕ} {d d″ : Desk} {rest rest″ : List ℕ} {ts : List Turn}

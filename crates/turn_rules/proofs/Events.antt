@@ -9,7 +9,7 @@ use Rattle.base_choices.specs.Choices.{pick}
 use Rattle.framing_session.specs.Rules as framing
 use Rattle.framing_session.specs.Rules.{State, Said, step, Happening, happens}
 use Rattle.desk_crosspoints.specs.Desk.{Desk}
-use Rattle.turns.specs.Rules.{keep, Follow, follow, nothing, follows, Told, noted, next, tells, after}
+use Rattle.turn_rules.specs.Rules.{keep, Follow, follow, nothing, follows, Told, noted, next, tells, after}
 
 -- what is told of the events, and the desk after them
 unfoldable pub toldOf : ℕ → Desk → List Happening → List Told
