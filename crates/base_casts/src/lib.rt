@@ -1,4 +1,6 @@
 // Conversions between widths of numbers, one name each. A usize has 64 bits, so none loses anything.
+#![tactic(auto)]
+
 ghost use Rattle.std.specs.Prelude.{◌≡◌, ◌<◌};
 
 // A place or a length as a word.

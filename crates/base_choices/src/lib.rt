@@ -1,1 +1,3 @@
 // Choices by a test: definitions and laws alone.
+#![tactic(auto)]
+

@@ -1,4 +1,6 @@
 // Hexadecimal digits: one read, and the two of a byte.
+#![tactic(auto)]
+
 ghost use Rattle.std.specs.Prelude.{◌≡◌, ◌/◌, ◌%◌, ◌≤◌, ◌<◌};
 ghost use Rattle.base_hex.specs.Digits.{digit_of, glyph_of};
 

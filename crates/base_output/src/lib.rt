@@ -1,4 +1,6 @@
 // Output: a byte put where there is room.
+#![tactic(auto)]
+
 ghost use Rattle.std.specs.Prelude.{◌≡◌, ◌+◌, ◌≤◌, ◌<◌, [], ◌∷◌};
 ghost use Rattle.base_output.specs.Output.{wrote, last_place};
 

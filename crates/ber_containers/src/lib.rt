@@ -1,4 +1,6 @@
 // Containers of tags, lengths and values: what stands at a place, what surrounds the one value of an outer tag, and what is passed over.
+#![tactic(auto)]
+
 ghost use Rattle.std.specs.Prelude.{ℕ, ◌+◌, ◌-◌, ◌≤◌, ◌<◌, ◌≡◌, true, length, eqb};
 ghost use Rattle.ber_containers.specs.Ends.{open_of, bit, zero_at, closing_at, standing_at, deep, enter_at, first_at, last_at, is_tag};
 ghost use Rattle.ber_containers.specs.declared.No.{No};
@@ -15,18 +17,18 @@ use ber_tags::{Head, Length};
 pub const NOT_SHUT: usize = 18446744073709551615;
 
 // A refusal: its number and its place.
-#[derive(Drop)]
+#[derive(Clone, Copy)]
 pub struct No(pub u64, pub usize);
 
 // An open container: definite (1) with its end, or of indefinite length (0), which 00 00 ends before `end`.
-#[derive(Drop)]
+#[derive(Clone, Copy)]
 pub struct Open {
     pub definite: u64,
     pub end: usize,
 }
 
 // A tag that was read, where its content starts, and how that is open. A struct of words alone is copied fastest.
-#[derive(Drop)]
+#[derive(Clone, Copy)]
 pub struct Tag {
     pub class: u64,
     pub constructed: u64,
@@ -36,7 +38,7 @@ pub struct Tag {
 }
 
 // What stands at a position: the end and the place after it, or a tag.
-#[derive(Drop)]
+#[derive(Clone, Copy)]
 pub enum Stands {
     Ended(usize),
     Here(Tag),
@@ -44,21 +46,21 @@ pub enum Stands {
 }
 
 // The one value of an outer tag.
-#[derive(Drop)]
+#[derive(Clone, Copy)]
 pub enum Found {
     Value(Tag),
     Refused(No),
 }
 
 // The place to go on from.
-#[derive(Drop)]
+#[derive(Clone, Copy)]
 pub enum Onto {
     Next(usize),
     Refused(No),
 }
 
 // One turn of passing over: the end, a value passed, or a container to go into.
-#[derive(Drop)]
+#[derive(Clone, Copy)]
 pub enum Crossing {
     Over(usize),
     Past(usize),

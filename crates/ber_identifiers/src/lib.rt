@@ -1,4 +1,6 @@
 // Relative identifiers: numbers in groups of seven bits, one after another.
+#![tactic(auto)]
+
 ghost use Rattle.std.specs.Prelude.{◌≡◌, ◌+◌, ◌-◌, ◌≤◌, ◌<◌, length, take, drop, get_or};
 ghost use Rattle.ber_integers.specs.Digits.{put, outcome};
 ghost use Rattle.ber_integers.specs.Readings.{Promised};
@@ -9,7 +11,7 @@ use base_casts::wide;
 use ber_integers::Wrote;
 
 // One number of an identifier and the position after it, or one over 2,147,483,647, or 30.
-#[derive(Drop)]
+#[derive(Clone, Copy)]
 pub enum Arc {
     Number { number: u64, next: usize },
     Range { next: usize },
@@ -17,7 +19,7 @@ pub enum Arc {
 }
 
 // How many numbers an identifier has; or that one is over 2,147,483,647; or 30.
-#[derive(Drop)]
+#[derive(Clone, Copy)]
 pub enum Oid {
     Numbers(usize),
     Range,

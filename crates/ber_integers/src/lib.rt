@@ -1,4 +1,6 @@
 // Big-endian numbers in content octets: natural numbers, two's complement, and EmBER integers.
+#![tactic(auto)]
+
 ghost use Rattle.std.specs.Prelude.{◌≡◌, [], ◌∷◌, ◌+◌, ◌-◌, ◌*◌, ◌^◌, ◌%◌, ◌≤◌, ◌<◌, length, take, drop, get_or};
 ghost use Rattle.std.specs.Int.Signed.{mag};
 ghost use Rattle.std.specs.Int.{w64};
@@ -10,21 +12,21 @@ ghost use Rattle.ber_integers.specs.Integer.{size_by, nine, unsigned_at, signed_
 use base_casts::wide;
 
 // A natural number read, or octets refused.
-#[derive(Drop)]
+#[derive(Clone, Copy)]
 pub enum Natural {
     Nat(u64),
     Refused,
 }
 
 // An integer read, or octets refused.
-#[derive(Drop)]
+#[derive(Clone, Copy)]
 pub enum Number {
     Int(i64),
     Refused,
 }
 
 // The position after what was written, or 46: nothing written.
-#[derive(Drop)]
+#[derive(Clone, Copy)]
 pub enum Wrote {
     Next(usize),
     Out,

@@ -1,4 +1,6 @@
 // How many content octets a double takes: as it is written, and at least, among all octets that are read as it.
+#![tactic(auto)]
+
 ghost use Rattle.std.specs.Prelude.{◌≡◌, ◌+◌, ◌≤◌, ◌<◌, ◌^◌};
 ghost use Rattle.std.specs.Int.Count.{count_trailing_zeros};
 ghost use Rattle.std.specs.Float.Ieee.{minus, size, of_bits};

@@ -1,4 +1,6 @@
 // EmBER reals, written without rounding.
+#![tactic(auto)]
+
 ghost use Rattle.std.specs.Prelude.{◌≡◌, ◌+◌, ◌/◌, ◌≤◌, ◌<◌, ◌^◌};
 ghost use Rattle.std.specs.Float.Ieee.{minus, size, odd, of_bits};
 ghost use Rattle.std.specs.Float.{binary64};
@@ -9,7 +11,7 @@ ghost use Rattle.ber_reals.specs.Write.{first_octet, number_octets, write_at};
 use ber_integers::Wrote;
 
 // The low octets of a number, so many of them.
-#[derive(Drop)]
+#[derive(Clone, Copy)]
 struct Octets {
     value: u64,
     count: usize,

@@ -1,4 +1,6 @@
 // EmBER reals, read without rounding.
+#![tactic(auto)]
+
 ghost use Rattle.std.specs.Prelude.{◌≡◌, ◌+◌, ◌-◌, ◌≤◌, ◌<◌, ◌^◌, length, take, drop, get_or, pos, ◌+ℤ◌};
 ghost use Rattle.std.specs.Int.Count.{count_trailing_zeros};
 ghost use Rattle.std.specs.Float.Ieee.{minus, size};
@@ -12,7 +14,7 @@ use base_casts::wide;
 use ber_integers::Natural;
 
 // A real that was read, or one that is not accepted: 35.
-#[derive(Drop)]
+#[derive(Clone, Copy)]
 pub enum Read {
     Real(f64),
     Refused,

@@ -1,4 +1,6 @@
 // Identifier octets and length octets of EmBER, written.
+#![tactic(auto)]
+
 ghost use Rattle.std.specs.Prelude.{◌≡◌, ◌+◌, ◌*◌, ◌%◌, ◌≤◌, ◌<◌, length};
 ghost use Rattle.ber_integers.specs.Digits.{put, outcome};
 ghost use Rattle.ber_tags.specs.Write.{septets, bit, put_tag, length_octets, put_length};

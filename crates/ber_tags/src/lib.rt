@@ -1,4 +1,6 @@
 // Identifier octets and length octets of EmBER, read.
+#![tactic(auto)]
+
 ghost use Rattle.std.specs.Prelude.{◌≡◌, ◌+◌, ◌≤◌, ◌<◌, length};
 ghost use Rattle.ber_integers.specs.Readings.{Promised};
 ghost use Rattle.ber_tags.specs.Tag.{stop, cut, long_number, tag_number, sized, length_at, head_of, head_at, head_says, head_or, NumberWithin};
@@ -7,28 +9,28 @@ use base_casts::{index, wide};
 use ber_integers::Natural;
 
 // The length of what follows a tag.
-#[derive(Drop)]
+#[derive(Clone, Copy)]
 pub enum Length {
     Definite(usize),
     Indefinite,
 }
 
 // A tag number read and the position after it, or 30 with its place.
-#[derive(Drop)]
+#[derive(Clone, Copy)]
 pub enum Numbered {
     Number { number: u64, next: usize },
     Refused { place: usize },
 }
 
 // A length read and the position after it, or 30 with its place.
-#[derive(Drop)]
+#[derive(Clone, Copy)]
 pub enum Sized {
     Length { length: Length, next: usize },
     Refused { place: usize },
 }
 
 // A tag read, with its length, and the position of what follows; or 30 with its place.
-#[derive(Drop)]
+#[derive(Clone, Copy)]
 pub enum Head {
     Tag {
         class: u8,

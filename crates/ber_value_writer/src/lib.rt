@@ -1,4 +1,6 @@
 // EmBER values written: one tag with its content. Nothing of Glow.
+#![tactic(auto)]
+
 ghost use Rattle.std.specs.Prelude.{◌≡◌, [], ◌∷◌, ◌<◌};
 ghost use Rattle.ber_integers.specs.Integer.{shortest};
 ghost use Rattle.ber_integers.specs.Digits.{outcome};

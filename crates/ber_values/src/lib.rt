@@ -1,4 +1,6 @@
 // EmBER values: one tag with its content, read. Nothing of Glow.
+#![tactic(auto)]
+
 ghost use Rattle.std.specs.Prelude.{◌≡◌, ◌+◌, ◌≤◌, leb, length};
 ghost use Rattle.ber_values.specs.Value.{bool_at, on_flag, on_number, on_real, is_listed, kind_at, content_at, value_at, flag_says, flag_or, answer_says, answer_or};
 ghost use Rattle.ber_integers.specs.Readings.{Promised};
@@ -8,7 +10,7 @@ use ber_reals::Read;
 use ber_tags::{Head, Length};
 
 // A value, or that there is none. Texts and octets are parts of the message.
-#[derive(Drop)]
+#[derive(Clone, Copy)]
 pub enum Value {
     Absent,
     Int(i64),
@@ -19,14 +21,14 @@ pub enum Value {
 }
 
 // A boolean read, or octets refused.
-#[derive(Drop)]
+#[derive(Clone, Copy)]
 pub enum Flag {
     Is(bool),
     Refused,
 }
 
 // A value read and the position after it; or a tag that is none of the five kinds; or a number refused with its place.
-#[derive(Drop)]
+#[derive(Clone, Copy)]
 pub enum Answer {
     Found { value: Value, next: usize },
     Other,

@@ -88,7 +88,7 @@ fn figures(numbers: &[u64], given: &[u64]) -> Figures {
 }
 
 // What an `open` line has before its path: the figures and the mode, and where the path begins, 0 where a figure is none.
-#[derive(Drop)]
+#[derive(Clone, Copy)]
 pub struct Opening {
     pub figures: Figures,
     pub mode: u64,

@@ -11,6 +11,8 @@
 // while there is none, prints `bad line`.
 //
 // An event's line is its number, for 3 the tree's number too, and after tree number 0 the desk's answers with commas between, `-` for none.
+#![tactic(auto)]
+
 mod figures;
 mod route;
 mod show;
@@ -30,7 +32,7 @@ use words::Word;
 const MOST: usize = SIDE * SIDE;
 
 // The desk that is there, if one is: its figures, how many numbers its path has, and its stream's session.
-#[derive(Drop)]
+#[derive(Clone, Copy)]
 pub struct Desk {
     pub there: bool,
     pub figures: Figures,

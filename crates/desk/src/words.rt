@@ -5,7 +5,7 @@ use program_lines::text;
 use program_lines::text::Decimal;
 
 // `-`, a number (the largest for one over 64 bits), or neither.
-#[derive(Drop)]
+#[derive(Clone, Copy)]
 pub enum Word {
     Absent,
     Number(u64),

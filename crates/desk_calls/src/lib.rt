@@ -1,4 +1,6 @@
 // The desk's calls: one request on plain numbers, and a message's connections.
+#![tactic(auto)]
+
 ghost use Rattle.std.specs.Prelude.{◌≡◌, List, [], true, ℕ, ◌+◌, ◌*◌, ◌≤◌, ◌<◌, length, get_or};
 ghost use Rattle.desk_crosspoints.specs.Figures.{cells_of};
 ghost use Rattle.desk_crosspoints.specs.Crosspoints.{clear, count, taken_from, with_row, legal};
@@ -18,7 +20,7 @@ use glow_reader::Answer;
 use glow_rows::{KIND, PARENT, kinds, word_at};
 
 // What the call answers: 0, or 1 SETUP; how many connections were answered; and their answers in order, then zeros.
-#[derive(Drop)]
+#[derive(Clone, Copy)]
 pub struct Called {
     pub number: u64,
     pub count: usize,
@@ -26,21 +28,21 @@ pub struct Called {
 }
 
 // What the tree reader answers and, where that is 0, what the desk's call answers; else zeros.
-#[derive(Drop)]
+#[derive(Clone, Copy)]
 pub struct ReadCalled {
     pub answer: Answer,
     pub called: Called,
 }
 
 // An answer, and the total after it (`desk_requests::total_of`).
-#[derive(Drop)]
+#[derive(Clone, Copy)]
 struct Answered {
     number: u64,
     total: u64,
 }
 
 // The place for the next answer, and the total.
-#[derive(Drop)]
+#[derive(Clone, Copy)]
 struct Taken {
     next: usize,
     total: u64,

@@ -1,9 +1,11 @@
 // What the connection in a row asks, read as the struct of its kind.
+#![tactic(auto)]
+
 ghost use Rattle.std.specs.Prelude.{◌≡◌, [], get_or};
 ghost use Rattle.desk_connections.specs.Rows.{Asks};
 
 // Its target, its operation (0 where it has none), and where the octets of its sources stand in the message.
-#[derive(Drop)]
+#[derive(Clone, Copy)]
 pub struct Asked {
     pub target: u64,
     pub operation: u64,

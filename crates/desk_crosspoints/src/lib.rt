@@ -1,4 +1,6 @@
 // The desk's figures and crosspoints, which of them are legal, and opening.
+#![tactic(auto)]
+
 ghost use Rattle.std.specs.Prelude.{◌≡◌, ℕ, ◌+◌, ◌*◌, ◌≤◌, ◌<◌, min, leb, length, get_or};
 ghost use Rattle.base_choices.specs.Choices.{both};
 ghost use Rattle.desk_crosspoints.specs.Figures.{side, is_count, is_limit, figures_fit, cells_of, size_of, limit_or, most_each, most_total};
@@ -16,14 +18,14 @@ pub const ONE_TO_ONE: u64 = 1;
 pub const N_TO_N: u64 = 2;
 
 // A limit where it was given.
-#[derive(Drop)]
+#[derive(Clone, Copy)]
 pub enum Limit {
     Absent,
     Most(u64),
 }
 
 // Type (0 1:N, 1 1:1, 2 N:N), counts of targets and sources, the limit in total and the limit per target.
-#[derive(Drop)]
+#[derive(Clone, Copy)]
 pub struct Figures {
     pub kind: u64,
     pub targets: u64,

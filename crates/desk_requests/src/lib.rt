@@ -1,5 +1,7 @@
 // The checks of a request in their order, for a desk that is known to be legal. Nothing here changes a crosspoint: the request itself, which judges the desk
 // first, is in desk_calls.
+#![tactic(auto)]
+
 ghost use Rattle.std.specs.Prelude.{◌≡◌, [], true, ◌+◌, ◌-◌, ◌*◌, ◌≤◌, ltb, eqb, length, set};
 ghost use Rattle.base_choices.specs.Choices.{pick, both};
 ghost use Rattle.desk_crosspoints.specs.Figures.{n_to_n, side, most_cells, cells_of, most_each, most_total};
@@ -17,7 +19,7 @@ pub const CONNECT: u64 = 1;
 pub const DISCONNECT: u64 = 2;
 
 // The number of the first check that fails, 0 where none does; then how many sources are named, and the total after the request.
-#[derive(Drop)]
+#[derive(Clone, Copy)]
 pub struct Judged {
     pub number: u64,
     pub ones: u64,

@@ -1,4 +1,6 @@
 // A desk's entries as rows: its qualified matrix, and a connection for a target with its sources.
+#![tactic(auto)]
+
 ghost use Rattle.std.specs.Prelude.{◌≡◌, ◌≤◌, length, take};
 ghost use Rattle.ber_integers.specs.Digits.{outcome};
 ghost use Rattle.glow_rows.specs.Cell.{numbers};

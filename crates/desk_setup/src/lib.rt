@@ -1,4 +1,6 @@
 // Whether the desk's call is no SETUP: of a table, a message, a desk, and entries handed in.
+#![tactic(auto)]
+
 ghost use Rattle.std.specs.Prelude.{◌≡◌};
 ghost use Rattle.desk_crosspoints.specs.Desk.{desk_at};
 ghost use Rattle.desk_setup.specs.Ready.{is_ready};

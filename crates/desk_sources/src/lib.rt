@@ -1,4 +1,6 @@
 // The sources that a connection names, each once, for a request.
+#![tactic(auto)]
+
 ghost use Rattle.std.specs.Prelude.{◌≡◌, ◌≤◌, ◌<◌, length, take};
 ghost use Rattle.desk_crosspoints.specs.Figures.{side};
 ghost use Rattle.desk_crosspoints.specs.Crosspoints.{clear};

@@ -1,4 +1,6 @@
 // A desk's figures as seven words, and back.
+#![tactic(auto)]
+
 ghost use Rattle.std.specs.Prelude.{◌≡◌, length, set};
 ghost use Rattle.desk_words.specs.Words.{given_word, limit_word, words_of, limit_at, figures_at, is_limit, is_figures, words_in};
 

@@ -6,7 +6,7 @@ ghost use Rattle.ember_answers.specs.Answers.{tree_words, words_in, Words};
 use glow_reader::Answer;
 use turns::After;
 
-#[derive(Drop)]
+#[derive(Clone, Copy)]
 pub struct Six {
     pub tree: u64,
     pub place: u64,

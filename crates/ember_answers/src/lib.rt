@@ -1,5 +1,7 @@
 // What the C library's calls on desk and turns answer in numbers: which lengths are no SETUP, what comes after the session's call, the words of a turn's
 // answer, what the desk's call told.
+#![tactic(auto)]
+
 mod after;
 
 ghost use Rattle.std.specs.Prelude.{◌≡◌, List, ℕ, take};

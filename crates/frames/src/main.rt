@@ -1,5 +1,7 @@
 // frames: reads lines of hexadecimal digits on standard input, each a chunk of an S101 stream, and prints a line for
 // each event and one at the end.
+#![tactic(auto)]
+
 ghost use Rattle.std.specs.Prelude.{◌≡◌, ◌+◌, ◌≤◌, min, length};
 ghost use Rattle.framing_session.specs.Session.{said_by};
 ghost use Rattle.base_output.specs.Output.{wrote};
@@ -11,7 +13,7 @@ use libc::{STDERR_FILENO, STDIN_FILENO, STDOUT_FILENO};
 
 // What is kept from chunk to chunk: the session, the count of bytes consumed, how many bytes of output wait, and
 // whether all is done.
-#[derive(Drop)]
+#[derive(Clone, Copy)]
 struct Reader {
     session: Session,
     offset: u64,
@@ -20,7 +22,7 @@ struct Reader {
 }
 
 // .. and from block to block: the input line too.
-#[derive(Drop)]
+#[derive(Clone, Copy)]
 struct Run {
     reader: Reader,
     line: Line,

@@ -1,4 +1,6 @@
 // S101 framing, alone: the session that reads a stream in chunks. Beside `feed`, all that a gateway needs of the crates below it.
+#![tactic(auto)]
+
 ghost use Rattle.std.specs.Prelude.{◌≡◌, true, length};
 ghost use Rattle.framing_session.specs.Session.{legal, answers, state_of, run, feeds};
 

@@ -1,4 +1,6 @@
 // What the C interface of framing answers in numbers: which calls are no SETUP, the words of a call's answer, what the writer told.
+#![tactic(auto)]
+
 ghost use Rattle.std.specs.Prelude.{◌≡◌, cond, min};
 ghost use Rattle.framing_session.specs.Session.{legal as is_legal};
 ghost use Rattle.framing_words.specs.Words.{session_at};

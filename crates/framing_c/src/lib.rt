@@ -1,4 +1,6 @@
 // The C interface of framing: numbers and lent slices (include/framing.h).
+#![tactic(auto)]
+
 ghost use Rattle.std.specs.Prelude.{◌≡◌};
 ghost use Rattle.framing_packets.specs.Written.{frame, request_body, response_body, into, frame_into, message_into};
 ghost use Rattle.framing_c.specs.Calls.{starts, calls, puts};

@@ -1,6 +1,8 @@
 // The checksum of S101 frames: what 001's table gives, by division and without the table, which would be laid out at each call. The polynomial is
 // x^16 + x^12 + x^5 + 1; a number's low bit is its highest power, so that a shift to the left divides by x. What is left of data is its quotient times
 // the polynomial, as far as it is below x^16 (proofs/Division.antt).
+#![tactic(auto)]
+
 ghost use Rattle.std.specs.Prelude.{◌≡◌, ◌+◌, ◌-◌, ◌*◌, [], ◌∷◌};
 ghost use Rattle.framing_checksum.specs.Checksum.{crc_step, crc_from, checksum};
 

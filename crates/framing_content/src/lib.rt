@@ -1,9 +1,11 @@
 // What a frame's content is: its checksum and its header, checked in document 01's order.
+#![tactic(auto)]
+
 ghost use Rattle.std.specs.Prelude.{◌≡◌, ◌≤◌, length};
 ghost use Rattle.framing_content.specs.Content.{empty_bit, packet_of, command_of, body_of, content_of};
 
 // Why a frame or a run of bytes is refused; specs/Numbers.antt gives each its number, 10 to 24.
-#[derive(Drop)]
+#[derive(Clone, Copy)]
 pub enum Fault {
     Stray,
     Cut,
@@ -20,7 +22,7 @@ pub enum Fault {
 }
 
 // What a frame's content is.
-#[derive(Drop)]
+#[derive(Clone, Copy)]
 pub enum Content {
     Refused { fault: Fault },
     Request,

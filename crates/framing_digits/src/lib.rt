@@ -1,18 +1,20 @@
 // Lines of hexadecimal digits, as far as they were read, and the bytes that their pairs are.
+#![tactic(auto)]
+
 ghost use Rattle.std.specs.Prelude.{◌≡◌, false, ◌≤◌, ◌<◌, min, length, drop};
 ghost use Rattle.framing_digits.specs.Lines.{stops, line_ends, scanned};
 
 use base_hex::NO_DIGIT;
 
 // `high` is the first digit of a pair that is not whole yet, or 16. `begun`: the line has a digit.
-#[derive(Drop)]
+#[derive(Clone, Copy)]
 pub struct Line {
     pub high: u8,
     pub begun: bool,
 }
 
 // Why a scan stopped: the block's end, a line's end, or a byte that makes the line bad.
-#[derive(Drop)]
+#[derive(Clone, Copy)]
 pub enum Stop {
     Input,
     Line,
@@ -20,7 +22,7 @@ pub enum Stop {
 }
 
 // `next` is the place after the last byte read, and `count` how many bytes the chunk has.
-#[derive(Drop)]
+#[derive(Clone, Copy)]
 pub struct Scanned {
     pub stop: Stop,
     pub next: usize,

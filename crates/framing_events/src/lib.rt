@@ -1,5 +1,7 @@
 // What an event says, as numbers: document 01's number, whether an unfinished message was thrown away, and how many
 // bytes at the store's start are the message.
+#![tactic(auto)]
+
 ghost use Rattle.std.specs.Prelude.{◌≡◌, []};
 ghost use Rattle.framing_content.specs.Numbers.{number as fault_number};
 ghost use Rattle.framing_session.specs.Session.{said_by};

@@ -1,4 +1,6 @@
 // The lines for a stream's events, put into an output from a place on.
+#![tactic(auto)]
+
 ghost use Rattle.std.specs.Prelude.{◌≡◌, ◌+◌, ◌*◌, ◌<◌, ◌≤◌, min, cond, leb, [], ◌∷◌, ◌++◌, length, take};
 ghost use Rattle.framing_session.specs.Session.{said_by};
 ghost use Rattle.base_hex.specs.Digits.{hex_text};

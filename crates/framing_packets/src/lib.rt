@@ -1,5 +1,7 @@
 // What the writer writes: frames, keep-alives and messages as packets (specs/Written.antt), and that the rules read it back (proofs/Back.antt). No function
 // stands here.
+#![tactic(auto)]
+
 
 // The content of a frame without its CRC, and the payload of a packet.
 pub const BODY_LIMIT: usize = 1022;
@@ -7,7 +9,7 @@ pub const BODY_LIMIT: usize = 1022;
 pub const PAYLOAD_LIMIT: usize = 1013;
 
 // What a call answers; specs/Written.antt gives each case its number and values.
-#[derive(Drop)]
+#[derive(Clone, Copy)]
 pub enum Written {
     Done { length: usize },
     Out,

@@ -1,4 +1,6 @@
 // The end of a frame: what its content is, and what a piece does to the message.
+#![tactic(auto)]
+
 ghost use Rattle.std.specs.Prelude.{◌≡◌, ◌+◌, ◌≤◌};
 ghost use lib.ListN.{length, take, drop};
 ghost use Rattle.std.proofs.lemmas.List.Edits.{sets};

@@ -1,4 +1,6 @@
 // The session of a stream: its types, a fresh one, and which ones are legal; with the rules that it follows (specs/Rules.antt).
+#![tactic(auto)]
+
 ghost use Rattle.std.specs.Prelude.{◌≡◌};
 ghost use Rattle.framing_session.specs.Rules.{begin};
 ghost use Rattle.framing_session.specs.Session.{frame_length, message_length, legal, session_of};
@@ -22,7 +24,7 @@ pub const CONTENT_LIMIT: usize = 1024;
 
 // What a call has to tell; specs/Session.antt gives each case its number and values. Of a message
 // the bytes are the store's first `length`.
-#[derive(Drop)]
+#[derive(Clone, Copy)]
 pub enum Event {
     More,
     Setup,
@@ -34,7 +36,7 @@ pub enum Event {
 }
 
 // Where the stream stands: of an open frame, how many content bytes the store holds.
-#[derive(Drop)]
+#[derive(Clone, Copy)]
 pub enum Frame {
     Outside,
     Stray,
@@ -45,27 +47,27 @@ pub enum Frame {
 }
 
 // The unfinished message: how many bytes of it the store holds.
-#[derive(Drop)]
+#[derive(Clone, Copy)]
 pub enum Pending {
     Nothing,
     Part { length: usize },
 }
 
-#[derive(Drop)]
+#[derive(Clone, Copy)]
 pub struct Session {
     pub frame: Frame,
     pub message: Pending,
 }
 
 // What a byte gives: the event and the next session.
-#[derive(Drop)]
+#[derive(Clone, Copy)]
 pub struct Stepped {
     pub event: Event,
     pub session: Session,
 }
 
 // What a call answers: the event, the count of bytes consumed, and the next session.
-#[derive(Drop)]
+#[derive(Clone, Copy)]
 pub struct Fed {
     pub event: Event,
     pub consumed: usize,

@@ -1,4 +1,6 @@
 // What one byte does to a session and its store.
+#![tactic(auto)]
+
 ghost use Rattle.std.specs.Prelude.{◌≡◌, ◌+◌, ◌≤◌};
 ghost use lib.ListN.{length};
 ghost use Rattle.framing_content.specs.Numbers.{content_limit, message_limit, store_length};

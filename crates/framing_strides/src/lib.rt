@@ -1,4 +1,6 @@
 // What bytes do that make no event, taken many at a time: content, the rest of a frame that has a fault, a stray run.
+#![tactic(auto)]
+
 ghost use Rattle.std.specs.Prelude.{◌≡◌, ℕ, ◌≤◌, List};
 ghost use lib.ListN.{length};
 ghost use Rattle.framing_session.specs.Session.{Legal};
@@ -8,7 +10,7 @@ ghost use Rattle.framing_strides.specs.Strides.{arriving, Strode};
 use framing_session::{BOF, CE, CONTENT_LIMIT, CONTENT_START, EOF, Frame, Pending, Session};
 
 // How far a call has come in its chunk.
-#[derive(Drop)]
+#[derive(Clone, Copy)]
 pub struct Progress {
     pub session: Session,
     pub at: usize,

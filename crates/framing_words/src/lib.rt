@@ -1,4 +1,6 @@
 // A session as four words of a lent slice, and back.
+#![tactic(auto)]
+
 ghost use Rattle.std.specs.Prelude.{◌≡◌, get_or};
 ghost use Rattle.framing_words.specs.Words.{place_word, open_word, frame_at, pending_at, session_at, is_frame, is_pending, is_session, session_put};
 

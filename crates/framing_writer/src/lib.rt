@@ -1,4 +1,6 @@
 // The S101 writer: frames, keep-alives and messages as packets, into a lent output.
+#![tactic(auto)]
+
 ghost use Rattle.std.specs.Prelude.{◌≡◌, ◌+◌, ◌*◌, ◌/◌, ◌%◌, ◌≤◌, ◌<◌, [], ◌∷◌, ◌++◌, length};
 ghost use Rattle.base_choices.specs.Choices.{pick};
 ghost use Rattle.framing_content.specs.Numbers.{message_limit};

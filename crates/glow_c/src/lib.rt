@@ -1,4 +1,6 @@
 // The C interface of the tree reader and the tree writer: numbers and lent slices (include/glow.h).
+#![tactic(auto)]
+
 ghost use Rattle.std.specs.Prelude.{◌≡◌, [], ◌∷◌, length};
 ghost use Rattle.glow_reader.specs.Message.{reply_by};
 ghost use Rattle.glow_c.specs.Calls.{call, words_of, calls, length_word, writing, write_calls, accept_calls};

@@ -1,4 +1,6 @@
 // The kinds of entry of the Glow tree, by value: each is made from a row of the lent table and put into one.
+#![tactic(auto)]
+
 ghost use Rattle.std.specs.Prelude.{◌≡◌, ◌-◌, ◌≤◌, length, take, drop};
 ghost use Rattle.glow_rows.specs.Cell.{numbers, cell_of, word_of, int_of, value_of, number_in, octets_in};
 ghost use Rattle.glow_rows.specs.Row.{cell_in};
@@ -18,35 +20,35 @@ use glow_rows::{
 };
 
 // A number member, or that there is none.
-#[derive(Drop)]
+#[derive(Clone, Copy)]
 pub enum Number {
     Absent,
     Is(i64),
 }
 
 // A flag member, or that there is none.
-#[derive(Drop)]
+#[derive(Clone, Copy)]
 pub enum Flag {
     Absent,
     Is(bool),
 }
 
 // A part of the message, a text or a list of identifier numbers, or that there is none.
-#[derive(Drop)]
+#[derive(Clone, Copy)]
 pub enum Part {
     Absent,
     At { start: usize, len: usize },
 }
 
 // What an element is found by: its number, or as a qualified element its full path, a part of the message.
-#[derive(Drop)]
+#[derive(Clone, Copy)]
 pub enum Key {
     Number(i64),
     Path { start: usize, len: usize },
 }
 
 // The place of the entry that holds this one, or that none does.
-#[derive(Drop)]
+#[derive(Clone, Copy)]
 pub enum Parent {
     Root,
     At(u32),
@@ -223,7 +225,7 @@ pub fn span_of(s: &[u8], p: Part) -> Span
 }
 
 // A parameter, with its value, its minimum and its maximum, of any kind each.
-#[derive(Drop)]
+#[derive(Clone, Copy)]
 pub struct Parameter {
     pub parent: Parent,
     pub key: Key,
@@ -240,7 +242,7 @@ pub struct Parameter {
 }
 
 // What a row is read as: an entry, or that it is none of this kind.
-#[derive(Drop)]
+#[derive(Clone, Copy)]
 pub enum ReadParameter {
     Entry(Parameter),
     Other,
@@ -332,7 +334,7 @@ pub fn parameter_of(row: &[u64; 50]) -> ReadParameter
 }
 
 // A node.
-#[derive(Drop)]
+#[derive(Clone, Copy)]
 pub struct Node {
     pub parent: Parent,
     pub key: Key,
@@ -343,7 +345,7 @@ pub struct Node {
 }
 
 // What a row is read as: an entry, or that it is none of this kind.
-#[derive(Drop)]
+#[derive(Clone, Copy)]
 pub enum ReadNode {
     Entry(Node),
     Other,
@@ -411,7 +413,7 @@ pub fn node_of(row: &[u64; 50]) -> ReadNode
 }
 
 // A matrix.
-#[derive(Drop)]
+#[derive(Clone, Copy)]
 pub struct Matrix {
     pub parent: Parent,
     pub key: Key,
@@ -426,7 +428,7 @@ pub struct Matrix {
 }
 
 // What a row is read as: an entry, or that it is none of this kind.
-#[derive(Drop)]
+#[derive(Clone, Copy)]
 pub enum ReadMatrix {
     Entry(Matrix),
     Other,
@@ -512,7 +514,7 @@ pub fn matrix_of(row: &[u64; 50]) -> ReadMatrix
 }
 
 // A command.
-#[derive(Drop)]
+#[derive(Clone, Copy)]
 pub struct Command {
     pub parent: Parent,
     pub number: i64,
@@ -520,7 +522,7 @@ pub struct Command {
 }
 
 // What a row is read as: an entry, or that it is none of this kind.
-#[derive(Drop)]
+#[derive(Clone, Copy)]
 pub enum ReadCommand {
     Entry(Command),
     Other,
@@ -569,7 +571,7 @@ pub fn command_of(row: &[u64; 50]) -> ReadCommand
 }
 
 // A connection of a matrix.
-#[derive(Drop)]
+#[derive(Clone, Copy)]
 pub struct Connection {
     pub parent: Parent,
     pub target: i64,
@@ -578,7 +580,7 @@ pub struct Connection {
 }
 
 // What a row is read as: an entry, or that it is none of this kind.
-#[derive(Drop)]
+#[derive(Clone, Copy)]
 pub enum ReadConnection {
     Entry(Connection),
     Other,
@@ -633,7 +635,7 @@ pub fn connection_of(row: &[u64; 50]) -> ReadConnection
 }
 
 // A stream entry.
-#[derive(Drop)]
+#[derive(Clone, Copy)]
 pub struct Stream {
     pub parent: Parent,
     pub identifier: i64,
@@ -641,7 +643,7 @@ pub struct Stream {
 }
 
 // What a row is read as: an entry, or that it is none of this kind.
-#[derive(Drop)]
+#[derive(Clone, Copy)]
 pub enum ReadStream {
     Entry(Stream),
     Other,

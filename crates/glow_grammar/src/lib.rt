@@ -1,4 +1,6 @@
 // The grammar of Glow: what stands where, and whether a tag, a number or a name fits there.
+#![tactic(auto)]
+
 pub mod collections;
 pub mod rows;
 pub mod rules;
@@ -13,7 +15,7 @@ ghost use Rattle.glow_grammar.specs.Leaf.{expects, least, most, word_in, is_lett
 use glow_rows::{Cell, kinds, tags as universal};
 
 // What judging one value gives: it is kept in its cell, with the count of the path's numbers after it; or a refusal with its place.
-#[derive(Drop)]
+#[derive(Clone, Copy)]
 pub enum Leaf {
     Kept(Cell, usize),
     Refused(u64, usize),

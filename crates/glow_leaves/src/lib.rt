@@ -1,4 +1,6 @@
 // One value, read and judged by what stands at its member.
+#![tactic(auto)]
+
 ghost use Rattle.std.specs.Prelude.{◌≡◌, ◌+◌, ◌≤◌, true, leb, eqb, length};
 ghost use Rattle.base_choices.specs.Choices.{pick};
 ghost use Rattle.ber_identifiers.specs.Identifier.{arcs};

@@ -1,4 +1,6 @@
 // The members of an entry: how many octets each takes with its tags, and whether it may stand where it does.
+#![tactic(auto)]
+
 ghost use Rattle.std.specs.Prelude.{◌≡◌, true, false, List, [], ℕ, ◌+◌, length};
 ghost use Rattle.std.specs.Int.Signed.{mag};
 ghost use Rattle.ber_integers.specs.Integer.{shortest, size_by};

@@ -1,4 +1,6 @@
 // The numbers of relative identifiers, and the full paths of entries in rows.
+#![tactic(auto)]
+
 ghost use Rattle.std.specs.Prelude.{◌≡◌, List, ℕ, ◌≤◌, ◌<◌, length};
 ghost use Rattle.glow_trees.specs.Content.{content_of};
 ghost use Rattle.glow_trees.specs.Rows.{items_in};
@@ -29,7 +31,7 @@ pub fn list_end(octets: &[u8]) -> usize
 }
 
 // A number of an identifier, and where the next one begins.
-#[derive(Drop)]
+#[derive(Clone, Copy)]
 pub struct Step {
     pub number: u64,
     pub next: usize,

@@ -1,4 +1,6 @@
 // The Glow tree: a message read into entries, rows of a lent table.
+#![tactic(auto)]
+
 ghost use Rattle.std.specs.Prelude.{◌≤◌, ◌<◌, ◌≡◌};
 ghost use Rattle.glow_reader.specs.Message.{read_result, read_at};
 
@@ -6,7 +8,7 @@ use glow_rows::{MOST_BYTES, MOST_ENTRIES};
 use glow_walk::Whole;
 
 // What the reader answers.
-#[derive(Drop)]
+#[derive(Clone, Copy)]
 pub enum Answer {
     Setup,
     Refused { number: u64, place: usize },

@@ -1,4 +1,6 @@
 // Entries of the Glow tree as rows of words.
+#![tactic(auto)]
+
 pub mod kinds;
 pub mod places;
 pub mod tags;
@@ -26,7 +28,7 @@ pub const MOST_ENTRIES: usize = 256;
 pub const MOST_BYTES: usize = 16384;
 
 // What an entry keeps of one member: the universal tag number of its value (0: absent) and two words of content.
-#[derive(Drop)]
+#[derive(Clone, Copy)]
 pub struct Cell {
     pub kind: u64,
     pub first: u64,
@@ -294,7 +296,7 @@ pub fn number_of(v: Cell) -> u64
 }
 
 // Where octets begin and end in the message.
-#[derive(Drop)]
+#[derive(Clone, Copy)]
 pub struct Span {
     pub start: usize,
     pub end: usize,

@@ -1,4 +1,6 @@
 // Which entries make a tree that the reader accepts, and how many octets its message takes.
+#![tactic(auto)]
+
 ghost use Rattle.std.specs.Prelude.{◌≡◌, true, false, [], ◌∷◌, ◌⊎◌, ℕ, ◌+◌, ◌-◌, ◌*◌, ◌^◌, ◌/◌, ◌%◌, ◌≤◌, ◌<◌, length, get_or, leb, eqb};
 ghost use Rattle.base_choices.specs.Choices.{pick};
 ghost use Rattle.glow_trees.specs.Content.{content_of, contents_of};
@@ -50,7 +52,7 @@ pub const KIDS_UNIT: u64 = 4294967296;
 pub const LINKS_UNIT: u64 = 281474976710656;
 
 // An entry alone: how many octets its members and contents take, and its contents inside their tags, and how many numbers the path has with its own.
-#[derive(Drop)]
+#[derive(Clone, Copy)]
 pub struct Entered {
     pub size: u64,
     pub inside: u64,
@@ -286,7 +288,7 @@ pub fn inside_of(k: u64) -> u64
 
 // The trees of a collection: the place after their entries, and how many octets they take; NO_SIZE where they are not legal or
 // take more than a message may have.
-#[derive(Drop)]
+#[derive(Clone, Copy)]
 pub struct Measured {
     pub next: usize,
     pub size: u64,

@@ -1,4 +1,6 @@
 // One turn of the tree reader: what stands at a place among the members of a row, in a collection, or in Root. No turn recurs.
+#![tactic(auto)]
+
 ghost use Rattle.std.specs.Prelude.{◌+◌, ◌-◌, ◌%◌, ◌≤◌, ◌<◌, ◌≡◌, true};
 ghost use Rattle.ber_containers.specs.Progress.{Ahead};
 ghost use Rattle.ber_containers.specs.Short.{Short, not_shut};
@@ -15,7 +17,7 @@ use glow_grammar::{Leaf, collections, rules, tags};
 use glow_rows::Cell;
 
 // One turn of the members of a row: the end; a member passed over; a value for a cell; contents or a collection to go into.
-#[derive(Drop)]
+#[derive(Clone, Copy)]
 pub enum Member {
     Done(usize),
     Over(u64, usize),
@@ -26,7 +28,7 @@ pub enum Member {
 }
 
 // One turn of a collection: the end, or an element to go into.
-#[derive(Drop)]
+#[derive(Clone, Copy)]
 pub enum Item {
     Done(usize),
     Element(u64, Open, Tag, usize),
@@ -34,7 +36,7 @@ pub enum Item {
 }
 
 // Root's collection, the outer tag around it, and its own.
-#[derive(Drop)]
+#[derive(Clone, Copy)]
 pub enum Top {
     Root(u64, Open, Tag),
     Refused(No),

@@ -1,4 +1,6 @@
 // Trees of entries by content: which entries make a tree that the reader accepts, and how many octets their message has.
+#![tactic(auto)]
+
 ghost use Rattle.std.specs.Prelude.{◌≡◌};
 ghost use Rattle.glow_trees.specs.Legal.{is_root};
 

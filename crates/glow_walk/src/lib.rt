@@ -1,4 +1,6 @@
 // The walk through a message: its entries into the rows that there are, and no row past them.
+#![tactic(auto)]
+
 ghost use Rattle.std.specs.Prelude.{◌+◌, ◌≤◌, ◌<◌, ◌≡◌, true, false};
 ghost use Rattle.glow_grammar.specs.Grammar.{body};
 ghost use Rattle.glow_grammar.specs.Leaf.{cell_by};
@@ -14,14 +16,14 @@ use glow_rows::tags::TEXT;
 use glow_steps::{Item, Member, Top};
 
 // The place after what was read, and the count of entries so far.
-#[derive(Drop)]
+#[derive(Clone, Copy)]
 pub enum Walked {
     Read(usize, usize),
     Refused(No),
 }
 
 // A whole message: Root's collection and the count of entries.
-#[derive(Drop)]
+#[derive(Clone, Copy)]
 pub enum Whole {
     Read(u64, usize),
     Refused(No),
@@ -29,7 +31,7 @@ pub enum Whole {
 
 // Where the reader stands in a container: the place, what came before it, the count of the path's numbers and that of the
 // entries so far.
-#[derive(Drop)]
+#[derive(Clone, Copy)]
 pub struct Cursor {
     pub place: usize,
     pub before: u64,
@@ -38,7 +40,7 @@ pub struct Cursor {
 }
 
 // One turn: the cursor after it; or the place after the container's end and the count of entries; or a refusal.
-#[derive(Drop)]
+#[derive(Clone, Copy)]
 pub enum Turn {
     On(Cursor),
     Read(usize, usize),

@@ -1,2 +1,4 @@
 // The tree writer.
+#![tactic(auto)]
+
 pub mod write;

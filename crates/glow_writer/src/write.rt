@@ -27,7 +27,7 @@ const KIDS: u8 = tags::KIDS_MEMBER as u8;
 const LINKS: u8 = tags::LINKS_MEMBER as u8;
 
 // The next entry and the place after what was written.
-#[derive(Drop)]
+#[derive(Clone, Copy)]
 pub struct Placed {
     pub next: usize,
     pub place: usize,

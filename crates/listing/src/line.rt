@@ -2,14 +2,14 @@
 ghost use Rattle.std.specs.Prelude.{◌≡◌, ◌≤◌, ◌<◌, length};
 
 // `high` is the first digit of a pair that is not whole yet, or 16. `begun`: the line has a digit.
-#[derive(Drop)]
+#[derive(Clone, Copy)]
 pub struct Line {
     pub high: u8,
     pub begun: bool,
 }
 
 // What a scan found: its pairs are the bytes up to `end` now, `next` is the place after the last byte read.
-#[derive(Drop)]
+#[derive(Clone, Copy)]
 pub struct Scanned {
     pub end: usize,
     pub next: usize,

@@ -1,6 +1,8 @@
 // listing: reads lines of hexadecimal digits on standard input, each a chunk of one S101 stream, and prints a line for
 // each event: its count and its number, and for a message what the tree reader answers. The last line is `end` and the
 // count; or `bad line`, at the first such, whose pairs before the fault are taken.
+#![tactic(auto)]
+
 mod line;
 
 ghost use Rattle.std.specs.Prelude.{◌≤◌};
@@ -12,7 +14,7 @@ use line::Line;
 use program_lines::print;
 
 // What is kept from chunk to chunk: the session, the count of events, and whether all is done.
-#[derive(Drop)]
+#[derive(Clone, Copy)]
 struct Run {
     session: Session,
     count: u64,
@@ -20,7 +22,7 @@ struct Run {
 }
 
 // .. and from block to block: the line that is open too.
-#[derive(Drop)]
+#[derive(Clone, Copy)]
 struct Progress {
     run: Run,
     line: Line,

@@ -151,7 +151,7 @@ fn read_oid(s: &[u8], n: usize) {
 }
 
 // An integer of a request, one that does not fit 64 bits, or no integer.
-#[derive(Drop)]
+#[derive(Clone, Copy)]
 pub enum Whole {
     Int(i64),
     Out,
@@ -314,7 +314,7 @@ fn write_bits(line: &[u8], from: usize, work: &mut [u8]) {
 }
 
 // What a line asks to be written.
-#[derive(Drop)]
+#[derive(Clone, Copy)]
 enum Writing {
     Value,
     Int,
@@ -421,7 +421,7 @@ fn read_head(s: &[u8], end: usize) {
 }
 
 // What a line asks to be read.
-#[derive(Drop)]
+#[derive(Clone, Copy)]
 enum Reading {
     Value,
     Int,

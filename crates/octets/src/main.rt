@@ -12,6 +12,8 @@
 //
 // Readers and writers are called at a position other than 0. A writer is called in one octet less than it takes (which
 // must be 46 and leave the output as it was, else `room` is printed), and in exactly as many: that is printed.
+#![tactic(auto)]
+
 mod ask;
 mod put;
 mod value;

@@ -5,7 +5,7 @@ use ber_values::Value;
 use program_lines::{print, room};
 
 // What a request asks to be written. The numbers of an identifier, and a text or octets, are handed in beside it.
-#[derive(Drop)]
+#[derive(Clone, Copy)]
 pub enum Asked {
     Int(i64),
     Bits(u64),

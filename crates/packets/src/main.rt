@@ -10,13 +10,15 @@
 //
 // The writer is called in one byte less than it takes (which must be 46 and leave the output as it was, else `room` is
 // printed), and in exactly as many: that is printed.
+#![tactic(auto)]
+
 use framing_writer::Written;
 use program_lines::input::Input;
 use program_lines::text::Hex;
 use program_lines::{input, print, room, text};
 
 // What a request asks to be written. The bytes of a frame and of a message are handed in beside it.
-#[derive(Drop)]
+#[derive(Clone, Copy)]
 enum Asked {
     Frame,
     Request,

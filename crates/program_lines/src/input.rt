@@ -5,7 +5,7 @@ use libc::STDIN_FILENO;
 
 // What of the block read last is left, from `at` to `end`; and the line found: its length, whether the space for it was
 // too short, and whether the input had ended instead.
-#[derive(Drop)]
+#[derive(Clone, Copy)]
 pub struct Input {
     pub at: usize,
     pub end: usize,

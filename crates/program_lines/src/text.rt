@@ -6,14 +6,14 @@ ghost use Rattle.program_lines.specs.Words.{starts_with, number_in};
 use base_casts::wide;
 
 // Octets at the start of the work space, or no such.
-#[derive(Drop)]
+#[derive(Clone, Copy)]
 pub enum Hex {
     Octets(usize),
     Bad,
 }
 
 // A number, the largest for one over 64 bits; or no number.
-#[derive(Drop)]
+#[derive(Clone, Copy)]
 pub enum Decimal {
     Number(u64),
     Bad,

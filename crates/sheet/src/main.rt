@@ -1,5 +1,7 @@
 // sheet: the whole standard input is a route sheet. Prints the number of reading it and, after 0, the sheet of the desk that was read as it is written here.
 // An input of more than 600,000 bytes prints `too long`.
+#![tactic(auto)]
+
 ghost use Rattle.std.specs.Prelude.{◌≡◌, length};
 
 use desk_crosspoints::Figures;

@@ -1,5 +1,7 @@
 // What the entries of a route sheet say: whether they are one matrix and connections alone, the figures, the path's numbers, and the first refusal among a
 // desk's answers.
+#![tactic(auto)]
+
 ghost use Rattle.std.specs.Prelude.{◌≡◌, List, ℕ, ◌<◌, length};
 ghost use Rattle.glow_rows.specs.Cell.{number_in};
 ghost use Rattle.glow_trees.specs.Content.{content_of, item_of};

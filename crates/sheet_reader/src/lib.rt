@@ -1,4 +1,6 @@
 // The route sheet reader: from a sheet's text to a desk, or the first refusal.
+#![tactic(auto)]
+
 ghost use Rattle.std.specs.Prelude.{◌≡◌, true, ◌++◌, ◌≤◌, length, drop};
 ghost use Rattle.glow_trees.specs.Rows.{items_in};
 ghost use Rattle.glow_sizes.specs.Accepted.{accepted};
@@ -16,7 +18,7 @@ use sheet_stream::Found;
 pub const MOST: usize = SIDE * SIDE;
 
 // 1 SETUP; a refusal; or a desk: its figures, and how many numbers its path has.
-#[derive(Drop)]
+#[derive(Clone, Copy)]
 pub enum Sheet {
     Setup,
     Refused { number: u64 },

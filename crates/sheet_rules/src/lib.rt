@@ -1,5 +1,7 @@
 // Route sheets: what a desk's sheet is, what reading a sheet gives, and that the one undoes the other. The code here is the text of sheets: frames into
 // lines, and whether lines are right.
+#![tactic(auto)]
+
 ghost use Rattle.std.specs.Prelude.{◌≡◌, ℕ, ◌+◌, ◌*◌, ◌≤◌, ◌<◌, List, [], ◌∷◌, length};
 ghost use Rattle.framing_packets.specs.Written.{outcome};
 ghost use Rattle.base_output.specs.Output.{wrote};

@@ -1,4 +1,6 @@
 // The first half of reading a route sheet: from its text to the one finished message, or the first refusal.
+#![tactic(auto)]
+
 ghost use Rattle.std.specs.Prelude.{◌≡◌, List, [], ℕ, length};
 ghost use Rattle.framing_content.specs.Numbers.{store_length};
 ghost use Rattle.framing_session.specs.Rules.{begin, happens, after};
@@ -10,7 +12,7 @@ use base_hex::NO_DIGIT;
 use framing::{Event, Frame, Pending, Session};
 
 // What the text of a sheet holds. Of a message the bytes are the store's first `length`.
-#[derive(Drop)]
+#[derive(Clone, Copy)]
 pub enum Found {
     Setup,
     Refused { number: u64 },
@@ -19,7 +21,7 @@ pub enum Found {
 
 // What the bytes so far have given: the session, how many messages are finished (2 for more than one), the length of the last of them, and the first event
 // from 10 up, 0 if there is none.
-#[derive(Drop)]
+#[derive(Clone, Copy)]
 struct Tally {
     session: Session,
     messages: u64,

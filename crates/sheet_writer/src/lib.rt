@@ -1,4 +1,6 @@
 // The route sheet writer: a legal desk's sheet, into a lent output.
+#![tactic(auto)]
+
 ghost use Rattle.std.specs.Prelude.{◌≡◌, true, ◌+◌, ◌*◌, ◌≤◌, ◌<◌, length, take};
 ghost use Rattle.glow_trees.specs.Rows.{items_in};
 ghost use Rattle.glow_trees.specs.Trees.{flat};
@@ -23,7 +25,7 @@ const ROWS: usize = SIDE + 1;
 const OCTETS: usize = 80 + SIDE * SIDE;
 
 // 1 SETUP, 46 OUT, or how many bytes the sheet has.
-#[derive(Drop)]
+#[derive(Clone, Copy)]
 pub enum Answer {
     Setup,
     Out,

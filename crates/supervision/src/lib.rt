@@ -1,5 +1,7 @@
 // A supervisor for one connection (request 01). It is shown ticks and what happened, and says what to do: it asks for a
 // keep-alive request in a silence, declares a silent link dead, and has every incoming request answered.
+#![tactic(auto)]
+
 ghost use Rattle.std.specs.Prelude.{◌≡◌, []};
 ghost use Rattle.framing_session.specs.Session.{said_by};
 ghost use Rattle.supervision.specs.Events.{happened_by};
@@ -12,7 +14,7 @@ use framing::Event;
 const SILENCE: u32 = 5000;
 
 // What is shown with a tick. An incoming request is an event too.
-#[derive(Drop)]
+#[derive(Clone, Copy)]
 pub enum Happened {
     Nothing,
     Event,
@@ -20,7 +22,7 @@ pub enum Happened {
 }
 
 // What is to be done: nothing; write a keep-alive request; write a keep-alive response; give the link up.
-#[derive(Drop)]
+#[derive(Clone, Copy)]
 pub enum Answer {
     Nothing,
     Ask,
@@ -30,7 +32,7 @@ pub enum Answer {
 
 // The supervisor's state: a silence, with the tick of the event that it began with; one in which a request was asked for,
 // with the tick of asking; or a dead link.
-#[derive(Drop)]
+#[derive(Clone, Copy)]
 pub enum Link {
     Silent { since: u32 },
     Asked { since: u32 },
@@ -38,7 +40,7 @@ pub enum Link {
 }
 
 // What a showing answers, and the next state.
-#[derive(Drop)]
+#[derive(Clone, Copy)]
 pub struct Shown {
     pub answer: Answer,
     pub link: Link,

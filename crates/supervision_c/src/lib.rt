@@ -1,4 +1,6 @@
 // The C interface of supervision: numbers and lent slices (include/supervision.h).
+#![tactic(auto)]
+
 mod words;
 
 ghost use Rattle.std.specs.Prelude.{◌≡◌};

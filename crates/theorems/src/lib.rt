@@ -1,1 +1,3 @@
 // What is proved, on one page: theorems alone.
+#![tactic(auto)]
+

@@ -13,6 +13,8 @@
 // Numbers are decimal, flags true or false, paths and a connection's sources numbers with dots (`-` for none). Texts stand
 // in double quotes, with `\` and two digits for each byte that is `"`, `\` or none of 20 to 7E. A member of any kind has
 // its kind before it: int:, real: (64 bits), text:, bool:, octets: (HEX).
+#![tactic(auto)]
+
 mod entry;
 mod members;
 mod names;

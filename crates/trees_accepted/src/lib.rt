@@ -1,1 +1,3 @@
 // What the reader accepts is a legal tree: theorems alone.
+#![tactic(auto)]
+

@@ -1,1 +1,3 @@
 // What a tree's message is read as: theorems alone.
+#![tactic(auto)]
+

@@ -1,4 +1,6 @@
 // A whole turn: session, tree reader and desk. The claim over every list of turns is crates/turn_rules/proofs/Claim.antt.
+#![tactic(auto)]
+
 ghost use Rattle.std.specs.Prelude.{◌≡◌, ◌≤◌, length, take};
 ghost use Rattle.framing_session.specs.Session.{feeds, answers};
 ghost use Rattle.desk_crosspoints.specs.Desk.{desk_at};
@@ -9,7 +11,7 @@ use framing::{Event, Fed, Session};
 use glow_reader::Answer;
 
 // What came after the session's call: nothing; the tree reader's answer, other than 0; its answer 0, the desk's number and how many connections it answered.
-#[derive(Drop)]
+#[derive(Clone, Copy)]
 pub enum After {
     Nothing,
     Refused {
@@ -24,14 +26,14 @@ pub enum After {
 }
 
 // What came after a finished message, and the answers in order, then zeros.
-#[derive(Drop)]
+#[derive(Clone, Copy)]
 pub struct Handled {
     pub after: After,
     pub answers: [u8; 256],
 }
 
 // What the session's call gave, what came after it, and the answers in order, then zeros.
-#[derive(Drop)]
+#[derive(Clone, Copy)]
 pub struct Turned {
     pub fed: Fed,
     pub after: After,

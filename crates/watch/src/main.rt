@@ -7,18 +7,20 @@
 //
 // The answers are `-`, `ask`, `answer` and `dead`. TICK is decimal, 0 to 4294967295. Any other line is answered with
 // `bad line`, and so are one before the start and a second start.
+#![tactic(auto)]
+
 use program_lines::input::Input;
 use program_lines::text::Decimal;
 use program_lines::{input, print, text};
 use supervision::{Answer, Happened, Link};
 
-#[derive(Drop)]
+#[derive(Clone, Copy)]
 enum Tick {
     At(u32),
     Bad,
 }
 
-#[derive(Drop)]
+#[derive(Clone, Copy)]
 enum Line {
     Start(u32),
     Showing(u32, Happened),
@@ -26,7 +28,7 @@ enum Line {
 }
 
 // Whether there was a start, and the supervisor since then.
-#[derive(Drop)]
+#[derive(Clone, Copy)]
 enum Watch {
     Before,
     Since(Link),
