@@ -1,5 +1,5 @@
 -- The checksum (document 01, "Framing"; 001, "CRC Computation" and "S101 CRC Table").
-use Rattle.std.specs.Prelude.{ℕ, ◌+◌, ◌-◌, ◌*◌, ◌/◌, ◌%◌, List, [], ◌∷◌, get_or}
+use Rattle.std.specs.Prelude.{ℕ, ◌-◌, ◌/◌, ◌%◌, List, [], ◌∷◌, get_or}
 use Rattle.std.specs.Int.Bits.{bit_xor}
 
 -- 001's table of 256 numbers.
