@@ -3,10 +3,10 @@ use Prim.Native.Nat.{ℕ, zero, suc, ◌+◌, ◌-◌, ◌*◌, ◌≤◌, ◌<�
 use mathlib.Core.Path.{◌≡◌, refl, sym, ap, subst, ◌∙◌}
 use mathlib.Core.List.{[], ◌∷◌, ◌++◌}
 use mathlib.Core.Bool.{Bool, true, false, true≢false}
-use mathlib.Core.Logic.{◌⊎◌, ⊎_elim}
+use mathlib.Core.Logic.{⊎_elim}
 use native.Mathlib.Omega.{arith}
 use borrow.Author.Tests.{leb-true, eqb-true, eqb-false, le-leb}
-use lib.ListN.{length, take, drop, get_or, set, get_or-eq_default, get_or-append, length-drop, length-append}
+use lib.ListN.{length, take, drop, get_or, get_or-eq_default, get_or-append, length-drop, length-append}
 use lib.Seq.{get_or-take, get_or-drop, get_or-append-add, length-take-le}
 use lib.Dec.{leb, eqb}
 use Rattle.base_choices.specs.Choices.{pick}

@@ -1,5 +1,5 @@
 -- A desk's figures (document 01, "Desk"): type, counts and limits.
-use Rattle.std.specs.Prelude.{ℕ, ◌*◌, Bool, true, false, leb, eqb}
+use Rattle.std.specs.Prelude.{ℕ, ◌*◌, Bool, true, leb, eqb}
 use Rattle.base_choices.specs.Choices.{pick, both}
 use Rattle.desk_crosspoints.specs.declared.Limit.{Limit}
 use Rattle.desk_crosspoints.specs.declared.Limit.TheVariants.{Absent, Most}

@@ -1,0 +1,44 @@
+use native.Mathlib.Omega.{arith}
+use mathlib.Core.Path.{◌∙◌}
+use Rattle.desk_crosspoints.proofs.Laws.{fit-kind, fit-targets, fit-sources, fit-rest, both-no, both_yes}
+use Rattle.desk_crosspoints.proofs.figures_fit.Goals as goal
+
+pub returns-then-f-gt-N_TO_N : goal.returns-then-f-gt-N_TO_N
+returns-then-f-gt-N_TO_N c = fit-kind _ (omega arith)
+
+pub returns-then-not-is_count : goal.returns-then-not-is_count
+returns-then-not-is_count c =
+    let the-is-count = c.is_count in
+    let the-if2 = c.if-not-is_count in
+    fit-targets _ (omega arith) (the-is-count.ensures ∙ the-if2.true)
+
+pub returns-then-not-is_count-2 : goal.returns-then-not-is_count-2
+returns-then-not-is_count-2 c =
+    let the-is-count = c.is_count in
+    let the-if2 = c.if-not-is_count in
+    let the-is-count2 = c.is_count-2 in
+    let the-if3 = c.if-not-is_count-2 in
+    fit-sources _ (omega arith) (the-is-count.ensures ∙ the-if2.false) (the-is-count2.ensures ∙ the-if3.true)
+
+pub returns-then-not-is_limit : goal.returns-then-not-is_limit
+returns-then-not-is_limit c =
+    let the-is-count = c.is_count in
+    let the-if2 = c.if-not-is_count in
+    let the-is-count2 = c.is_count-2 in
+    let the-if3 = c.if-not-is_count-2 in
+    let the-is-limit = c.is_limit in
+    let the-if4 = c.if-not-is_limit in
+    fit-rest _ (omega arith) (the-is-count.ensures ∙ the-if2.false) (the-is-count2.ensures ∙ the-if3.false)
+    ∙ both-no _ _ (the-is-limit.ensures ∙ the-if4.true)
+
+pub returns : goal.returns
+returns c =
+    let the-is-count = c.is_count in
+    let the-if2 = c.if-not-is_count in
+    let the-is-count2 = c.is_count-2 in
+    let the-if3 = c.if-not-is_count-2 in
+    let the-is-limit = c.is_limit in
+    let the-if4 = c.if-not-is_limit in
+    let the-is-limit2 = c.is_limit-2 in
+    fit-rest _ (omega arith) (the-is-count.ensures ∙ the-if2.false) (the-is-count2.ensures ∙ the-if3.false)
+    ∙ both_yes _ _ (the-is-limit.ensures ∙ the-if4.false) ∙ the-is-limit2.ensures
