@@ -1,6 +1,6 @@
 -- The rule of document 01 accepts a number exactly if some finite double equals it, and what is read is that double: "Accepted exactly if
 -- some finite double equals it". Doubles, and when one equals a number, are the library's (`lib.Ieee`).
-use Prim.Native.Nat.{ℕ, zero, suc, ◌+◌, ◌-◌, ◌*◌, ◌%◌, ◌^◌, ◌≤◌, ◌<◌}
+use Prim.Native.Nat.{ℕ, zero, suc, ◌+◌, ◌*◌, ◌%◌, ◌^◌, ◌≤◌, ◌<◌}
 use mathlib.Core.Path.{◌≡◌, refl, sym, ap, ◌∙◌, subst}
 use mathlib.Core.Bool.{Bool, true, false, ◌&&◌, ◌||◌, beq}
 use native.Mathlib.Nat.{zero-lt-suc, mul-pos, mul_assoc, zero-mul, lt_irrefl, le_trans, le_of_eq, add_comm, lt_of_not-le, le_of_suc-le-suc}

@@ -1,11 +1,11 @@
 -- Laws of odd numbers, of halving a number until it is odd, and of a number's binary digits.
-use Prim.Native.Nat.{ℕ, zero, suc, ◌+◌, ◌-◌, ◌*◌, ◌/◌, ◌%◌, ◌^◌, ◌≤◌, ◌<◌}
+use Prim.Native.Nat.{ℕ, zero, suc, ◌+◌, ◌*◌, ◌/◌, ◌%◌, ◌^◌, ◌≤◌, ◌<◌}
 use mathlib.Core.Path.{◌≡◌, refl, sym, ap, ◌∙◌, subst}
 use native.Mathlib.Nat.{mul-one, mul_assoc, mul_left_comm, pow-succ', pow-suc, zero-lt-suc, eq_of_mul-eq-mul_right, div-div-eq-div-mul, div-one}
 use native.Mathlib.Nat.{lt_irrefl, lt_of_lt_of_le, lt_of_not-le, le_of_suc-le-suc, le_antisymm, le_trans, le_of_eq, div-lt_iff_lt-mul}
-use native.Mathlib.Nat.{mul-le-mul_right, mul-pos}
+use native.Mathlib.Nat.{mul-le-mul_right}
 use native.Mathlib.Omega.{arith}
-use lib.Pow.{pow-add, pow_pos, pow_mono, shl_lt}
+use lib.Pow.{pow-add, pow_mono, shl_lt}
 use lib.Count.{count_trailing_zeros, under, count_leading_zeros, leading_length}
 use lib.Ieee.{size}
 use lib.Ieee.Digits.{size-lt, size-le, size_reaches}

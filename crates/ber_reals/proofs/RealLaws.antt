@@ -7,7 +7,7 @@ use native.Mathlib.Omega.{arith}
 use borrow.Author.Tests.{lt-ltb, le-ltb, le-leb, lt-leb, eq-eqb, ne_eqb}
 use lib.ListN.{length, take, drop, get_or}
 use lib.Seq.{take-nil, take-take, drop-drop}
-use lib.IntN.{ℤ, pos, ◌+ℤ◌}
+use lib.IntN.{pos, ◌+ℤ◌}
 use lib.Ieee.{inf, fin}
 use Rattle.ber_integers.specs.Digits.{natural}
 use Rattle.ber_integers.specs.Integer.{signed}

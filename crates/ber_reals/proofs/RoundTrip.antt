@@ -1,7 +1,7 @@
 -- Reals: what is written is read back as the same double, what is read is written, and the written form has the fewest octets of its kind.
 use Prim.Native.Nat.{ℕ, zero, suc, ◌+◌, ◌-◌, ◌*◌, ◌/◌, ◌%◌, ◌^◌, ◌≤◌, ◌<◌}
 use mathlib.Core.Path.{◌≡◌, refl, sym, ap, ◌∙◌, subst}
-use mathlib.Core.Logic.{◌⊎◌, ⊎_elim}
+use mathlib.Core.Logic.{⊎_elim}
 use mathlib.Core.List.{List, [], ◌∷◌, ◌++◌}
 use mathlib.Core.Bool.{Bool, true, false, ◌&&◌}
 use native.Mathlib.Nat.{lt_irrefl, eq-zero-or-pos, mul-one, one-mul, pow-suc, pow-succ', le_trans, le_of_eq, lt_of_lt_of_le}
@@ -20,7 +20,7 @@ use lib.Ieee.Fits.{and_l, and_r}
 use lib.Ieee.Bits.{is_true}
 use Rattle.ber_integers.specs.declared.Wrote.TheVariants.{Next, Out}
 use Rattle.ber_integers.specs.Digits.{natural, Put, outcome}
-use Rattle.ber_integers.specs.Integer.{signed, shortest, size}
+use Rattle.ber_integers.specs.Integer.{signed, shortest}
 use Rattle.ber_integers.proofs.Radix.{Below, length_digits, horner-digits, natural-lt}
 use Rattle.ber_integers.proofs.Sizes.{size_holds, size-least, octets-signed}
 use Rattle.ber_integers.proofs.RoundTrip.{length-shortest, signed-shortest}
