@@ -1,6 +1,6 @@
 -- What a frame's content is (document 01, "Framing"; the checks in the order of "Numbers answered"). A name stands before its use, so the last check comes
 -- first here: read from `content_of` upwards.
-use Rattle.std.specs.Prelude.{ℕ, ◌+◌, ◌-◌, ◌*◌, ◌/◌, ◌%◌, Bool, true, false, List, leb, ltb, eqb, length, get_or, take, drop}
+use Rattle.std.specs.Prelude.{ℕ, ◌+◌, ◌-◌, ◌*◌, ◌/◌, ◌%◌, Bool, List, ltb, eqb, length, get_or, take, drop}
 use Rattle.framing_content.specs.declared.Fault.TheVariants.{Short, Crc, Header, Flags, Dtd}
 use Rattle.framing_content.specs.declared.Content.{Content}
 use Rattle.framing_content.specs.declared.Content.TheVariants.{Refused, Request, Response, Piece}
