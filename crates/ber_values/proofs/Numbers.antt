@@ -2,7 +2,6 @@
 use Prim.Native.Nat.{ℕ, ◌+◌}
 use mathlib.Core.List.{List}
 use mathlib.Core.Bool.{Bool, true, false}
-use mathlib.Core.Path.{◌≡◌}
 use types.Run.{OneOf, hit}
 use lib.ListN.{length, take, drop}
 use lib.Dec.{leb, eqb}
@@ -28,7 +27,6 @@ use Rattle.ber_values.specs.declared.Value.{Value}
 use Rattle.ber_values.specs.declared.Flag.{Flag}
 use Rattle.ber_values.specs.declared.Flag.TheVariants.{Is, Refused as NoFlag}
 use Rattle.ber_values.specs.declared.Answer.{Answer}
-use Rattle.ber_values.specs.declared.Answer.TheVariants.{Found, Other, Refused}
 use Rattle.ber_values.specs.Value.{bool_at, flag_says, on_flag, on_number, on_real, is_listed, kind_at, content_at, on_length, on_head, value_at, answer_says}
 use Rattle.ber_values.specs.Value.{value_numbers}
 use Rattle.ber_values.specs.Write.{content_octets, kind_of, primitive, put_primitive, put_value, put_part}

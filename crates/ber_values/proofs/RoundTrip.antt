@@ -8,11 +8,7 @@ use native.Mathlib.Omega.{arith}
 use borrow.Author.Tests.{le-leb, lt-leb, eqb-true, eqb-false}
 use lib.ListN.{length, take, drop, length-append, take-append-drop}
 use lib.Seq.{take-append_seam}
-use lib.Dec.{T, leb, eqb}
-use lib.Ieee as Ieee
-use lib.Ieee.{binary64}
-use mir.Syntax.{w64}
-use mir.Val.{SFits}
+use lib.Dec.{leb, eqb}
 use Rattle.ber_integers.specs.declared.Wrote.TheVariants.{Next, Out}
 use Rattle.ber_integers.specs.declared.Number.{Number}
 use Rattle.ber_integers.specs.declared.Number.TheVariants.{Int as Whole, Refused as NoInt}

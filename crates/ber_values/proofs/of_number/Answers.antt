@@ -1,0 +1,15 @@
+use mathlib.Core.Path.{◌≡◌, sym, ap}
+use mir.Syntax.{w64}
+use mir.Val.{to_z, of_z}
+use Rattle.ber_values.specs.Value.{on_number}
+use borrow.Author.Rules.{rules}
+use Rattle.ber_values.proofs.of_number.Goals as goal
+
+pub returns-in-Int : goal.returns-in-Int
+returns-in-Int c =
+    let z = c.in-Int.x in
+    let k : to_z w64 (of_z w64 z) ≡ z = search rules in
+    rw k (sym (ap (on_number c.args.at c.args.next) c.in-Int.is))
+
+pub returns-in-Refused : goal.returns-in-Refused
+returns-in-Refused c = sym (ap (on_number c.args.at c.args.next) c.in-Refused.is)
