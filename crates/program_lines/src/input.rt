@@ -1,7 +1,8 @@
 // The input, line by line: a line ends at 0A or at the input's end.
-ghost use Rattle.std.specs.Prelude.{◌≡◌, false, ◌≤◌, length};
+ghost use Rattle.std.specs.Prelude.{◌≡◌, false, ◌≤◌, length, IfOk};
 
-use libc::STDIN_FILENO;
+use std::io;
+use std::io::Read;
 
 // What of the block read last is left, from `at` to `end`; and the line found: its length, whether the space for it was
 // too short, and whether the input had ended instead.
@@ -39,13 +40,15 @@ fn at_end(len: usize, long: bool) -> Input
     }
 }
 
-fn refill(block: &mut [u8]) -> usize {
-    io::count(libc::read(STDIN_FILENO, block), block)
-}
-
-// Reads the next line into `line`. No line stands after the last 0A. What block and line hold then is the input's; they keep their lengths.
-pub fn next(input: Input, block: &mut [u8], line: &mut [u8]) -> Input
-    ensures len_in_bounds { result.len ≤ length line.new }
+// Reads the next line into `line`, or fails where a read fails. No line stands after the last 0A. What block and line hold then is the input's;
+// they keep their lengths.
+pub fn next(
+    reader: &mut impl Read,
+    input: Input,
+    block: &mut [u8],
+    line: &mut [u8],
+) -> io::Result<Input>
+    ensures len_in_bounds { IfOk result (λ found. found.len ≤ length line.new) }
     ensures block_len_unchanged { (length block.new ≡ length block.old) × (length line.new ≡ length line.old) }
 {
     let mut at = input.at;
@@ -58,25 +61,25 @@ pub fn next(input: Input, block: &mut [u8], line: &mut [u8]) -> Input
         turns = turns - 1;
         if end <= at {
             at = 0;
-            end = refill(block);
+            end = reader.read(block)?;
             if end == 0 {
-                return at_end(len, long);
+                return Ok(at_end(len, long));
             }
             continue;
         }
         if block.len() <= at {
-            return at_end(len, long);
+            return Ok(at_end(len, long));
         }
         let b = block[at];
         at = at + 1;
         if b == b'\n' {
-            return Input {
+            return Ok(Input {
                 at,
                 end,
                 len,
                 long,
                 ended: false,
-            };
+            });
         }
         if len < line.len() {
             line[len] = b;
@@ -85,5 +88,5 @@ pub fn next(input: Input, block: &mut [u8], line: &mut [u8]) -> Input
             long = true;
         }
     }
-    at_end(len, long)
+    Ok(at_end(len, long))
 }

@@ -1,98 +1,98 @@
-// Answers, on standard output.
-use libc::STDOUT_FILENO;
+// Answers, on standard output. Each fails where a write fails.
+use std::io;
 
 // A text as it is.
-pub fn say(text: &[u8]) {
-    io::write_all(STDOUT_FILENO, text);
+pub fn say(rt: &impl Print, text: &[u8]) -> io::Result<()> {
+    rt.write_all(text)
 }
 
 // A number.
-pub fn decimal(n: u64) {
-    io::print_decimal(STDOUT_FILENO, n);
+pub fn decimal(rt: &impl Print, n: u64) -> io::Result<()> {
+    rt.print(n)
 }
 
 // The answer to a line that is no request.
-pub fn bad_line() {
-    say(b"bad line\n");
+pub fn bad_line(rt: &impl Print) -> io::Result<()> {
+    say(rt, b"bad line\n")
 }
 
 // A line's end.
-pub fn end() {
-    say(b"\n");
+pub fn end(rt: &impl Print) -> io::Result<()> {
+    say(rt, b"\n")
 }
 
 // What stands between the numbers of a path.
-pub fn dot() {
-    say(b".");
+pub fn dot(rt: &impl Print) -> io::Result<()> {
+    say(rt, b".")
 }
 
 // The answer where the output was too short.
-pub fn out() {
-    say(b"46\n");
+pub fn out(rt: &impl Print) -> io::Result<()> {
+    say(rt, b"46\n")
 }
 
 // Writes the first n bytes of a space.
-fn flush(space: &[u8], n: usize) {
+fn flush(rt: &impl Print, space: &[u8], n: usize) -> io::Result<()> {
     if n <= space.len() {
-        say(&space[..n]);
+        return say(rt, &space[..n]);
     }
+    Ok(())
 }
 
 // Where two digits more go: at the start, after all before them is written, where the space is full.
-fn next_place(space: &[u8], n: usize) -> usize {
+fn next_place(rt: &impl Print, space: &[u8], n: usize) -> io::Result<usize> {
     if space.len() <= n {
-        flush(space, n);
-        return 0;
+        flush(rt, space, n)?;
+        return Ok(0);
     }
     if space.len() - n < 2 {
-        flush(space, n);
-        return 0;
+        flush(rt, space, n)?;
+        return Ok(0);
     }
-    n
+    Ok(n)
 }
 
 // Puts two digits into a space after its first n bytes.
-fn pair(b: u8, space: &mut [u8], n: usize) -> usize {
-    let at = next_place(space, n);
+fn pair(rt: &impl Print, b: u8, space: &mut [u8], n: usize) -> io::Result<usize> {
+    let at = next_place(rt, space, n)?;
     if space.len() <= at {
-        return 0;
+        return Ok(0);
     }
     if space.len() - at < 2 {
-        return 0;
+        return Ok(0);
     }
     space[at] = base_hex::high(b);
     space[at + 1] = base_hex::low(b);
-    at + 2
+    Ok(at + 2)
 }
 
 // Octets in hexadecimal, `-` for none.
-pub fn hex(s: &[u8]) {
+pub fn hex(rt: &impl Print, s: &[u8]) -> io::Result<()> {
     if s.len() == 0 {
-        say(b"-");
-        return;
+        return say(rt, b"-");
     }
-    let mut room = io::buffer();
+    let mut room = [0u8; 4096];
     let space: &mut [u8] = &mut room;
     let mut n: usize = 0;
     let mut i: usize = 0;
     while i < s.len() {
-        n = pair(s[i], space, n);
+        n = pair(rt, s[i], space, n)?;
         i = i + 1;
     }
-    flush(space, n);
+    flush(rt, space, n)
 }
 
 // A line of octets in hexadecimal.
-pub fn octets(s: &[u8]) {
-    hex(s);
-    end();
+pub fn octets(rt: &impl Print, s: &[u8]) -> io::Result<()> {
+    hex(rt, s)?;
+    end(rt)
 }
 
 // What was written to the start of an output.
-pub fn written(s: &[u8], end: usize) {
+pub fn written(rt: &impl Print, s: &[u8], end: usize) -> io::Result<()> {
     if end <= s.len() {
-        octets(&s[..end]);
+        octets(rt, &s[..end])
     } else {
-        out();
+        out(rt)
     }
 }
