@@ -1,5 +1,5 @@
 -- The session and the lent store (document 01, "Framing" and "Numbers answered"): which state of the rules they hold, and what a call gives.
-use Rattle.std.specs.Prelude.{ℕ, ◌+◌, ◌≤◌, Bool, true, false, List, [], ◌∷◌, ◌≡◌, leb, eqb, length, take, drop}
+use Rattle.std.specs.Prelude.{ℕ, ◌+◌, ◌≤◌, Bool, false, List, [], ◌∷◌, ◌≡◌, leb, eqb, length, take, drop}
 use Rattle.std.proofs.lemmas.List.Edits.{sets}
 use Rattle.framing_session.specs.declared.Event.{Event}
 use Rattle.framing_session.specs.declared.Event.TheVariants as ev
