@@ -2,7 +2,7 @@
 use Prim.Native.Nat.{ℕ, zero, suc, ◌+◌, ◌-◌, ◌*◌, ◌%◌, ◌^◌, ◌≤◌, ◌<◌}
 use mathlib.Core.Path.{◌≡◌, refl}
 use mathlib.Core.List.{List}
-use mathlib.Core.Bool.{Bool, true, false}
+use mathlib.Core.Bool.{Bool}
 use native.Mathlib.Omega.{arith}
 use borrow.Author.Tests.{leb-true, leb-false, ltb-true, ltb-false}
 use lib.ListN.{length, take, drop, get_or}
@@ -10,8 +10,6 @@ use lib.Dec.{leb, ltb, eqb}
 use Rattle.base_choices.proofs.Laws.{pick-by}
 use Rattle.ber_integers.specs.Digits.{natural}
 use Rattle.ber_integers.proofs.Radix.{digit-more, power_le}
-use Rattle.ber_tags.specs.declared.Length.{Length}
-use Rattle.ber_tags.specs.declared.Length.TheVariants.{Definite, Indefinite}
 use Rattle.ber_tags.specs.declared.Numbered.{Numbered}
 use Rattle.ber_tags.specs.declared.Numbered.TheVariants.{Number, Refused as NoNumber}
 use Rattle.ber_tags.specs.declared.Sized.{Sized}

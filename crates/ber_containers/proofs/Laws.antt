@@ -1,13 +1,12 @@
 -- One law for each answer of the definitions, at plain variables.
 use Prim.Native.Nat.{ℕ, zero, suc, ◌+◌, ◌-◌, ◌≤◌, ◌<◌}
-use mathlib.Core.Path.{◌≡◌, refl, sym, subst}
-use mathlib.Core.List.{List, [], ◌∷◌}
+use mathlib.Core.Path.{◌≡◌, refl, subst}
+use mathlib.Core.List.{List}
 use mathlib.Core.Bool.{Bool, true, false}
 use native.Mathlib.Omega.{arith}
-use borrow.Author.Tests.{le-leb, lt-leb, eq-eqb, ne_eqb, leb-false, lt-ltb, le-ltb}
-use lib.ListN.{length, get_or, set}
-use lib.Seq.{set_out}
-use lib.Dec.{leb, ltb, eqb}
+use borrow.Author.Tests.{le-leb, lt-leb, eq-eqb, ne_eqb, leb-false}
+use lib.ListN.{length, get_or}
+use lib.Dec.{leb, eqb}
 use Rattle.base_choices.specs.Choices.{pick}
 use Rattle.ber_tags.specs.declared.Head.{Head}
 use Rattle.ber_tags.specs.declared.Head.TheVariants.{Tag as HeadTag}

@@ -1,6 +1,6 @@
 -- With which numbers each call refuses, whatever is handed in.
 use Prim.Native.Nat.{ℕ, zero, suc, ◌+◌, ◌-◌, ◌≤◌, ◌<◌}
-use mathlib.Core.Path.{◌≡◌, sym, subst}
+use mathlib.Core.Path.{sym, subst}
 use mathlib.Core.List.{List}
 use native.Mathlib.Omega.{arith}
 use types.Run.{OneOf, hit}
@@ -13,14 +13,13 @@ use Rattle.ber_containers.specs.declared.Open.{Open}
 use Rattle.ber_containers.specs.declared.Tag.{Tag}
 use Rattle.ber_containers.specs.declared.Stands.{Stands}
 use Rattle.ber_containers.specs.declared.Stands.TheVariants.{Ended, Here, Refused}
-use Rattle.ber_containers.specs.declared.Found.{Found}
 use Rattle.ber_containers.specs.declared.Onto.{Onto}
 use Rattle.ber_containers.specs.declared.Onto.TheVariants.{Next, Refused as Stopped}
 use Rattle.ber_containers.specs.declared.Crossing.{Crossing}
 use Rattle.ber_containers.specs.declared.Crossing.TheVariants.{Over, Past, Into, Refused as Stuck}
 use Rattle.ber_containers.specs.Ends.{of_head, zero_at, closing_at, standing_at, deep, counted, enter_at, first_of, first_at, last_of, last_at}
 use Rattle.ber_containers.specs.Passing.{skipped, past_of, cross_of, cross_at, on_crossing, onwards, through_by, passed_at}
-use Rattle.ber_containers.specs.Progress.{Ahead, Onward}
+use Rattle.ber_containers.specs.Progress.{Onward}
 use Rattle.ber_containers.specs.Numbers.{stand_numbers, enter_numbers, first_numbers, last_numbers, StandsBy, FoundBy, OntoBy}
 use Rattle.base_choices.proofs.Laws.{pick-by}
 use Rattle.ber_containers.proofs.Quick.{standing-onward}

@@ -6,22 +6,20 @@ use mathlib.Core.Bool.{Bool, true, false}
 use native.Mathlib.Omega.{arith}
 use borrow.Author.Tests.{le-leb, lt-leb, leb-true, leb-false, lt-ltb, le-ltb, eq-eqb, ne_eqb}
 use lib.ListN.{length, get_or}
-use lib.Dec.{leb, ltb, eqb}
+use lib.Dec.{leb, eqb}
 use Rattle.base_choices.proofs.Laws.{pick-by}
-use Rattle.ber_tags.specs.declared.Length.{Length}
 use Rattle.ber_tags.specs.declared.Length.TheVariants.{Definite, Indefinite}
 use Rattle.ber_tags.specs.declared.Head.{Head}
 use Rattle.ber_tags.specs.declared.Head.TheVariants.{Tag as HeadTag, Refused as NoHead}
 use Rattle.ber_tags.specs.Tag.{stop, tag_number, sized, length_at, head_at}
 use Rattle.ber_containers.specs.declared.Open.{Open}
 use Rattle.ber_containers.specs.declared.Tag.{Tag}
-use Rattle.ber_containers.specs.declared.Stands.{Stands}
-use Rattle.ber_containers.specs.declared.Stands.TheVariants.{Ended, Here, Refused}
-use Rattle.ber_containers.specs.Ends.{bit, open_of, of_head, zero_at, closing_at, standing_at}
-use Rattle.ber_containers.specs.Progress.{Fits, Ahead, Onward}
+use Rattle.ber_containers.specs.declared.Stands.TheVariants.{Ended, Here}
+use Rattle.ber_containers.specs.Ends.{bit, of_head, zero_at, closing_at, standing_at}
+use Rattle.ber_containers.specs.Progress.{Ahead, Onward}
 use Rattle.ber_containers.specs.Short.{short_tag, Short}
-use Rattle.ber_containers.proofs.Heads.{HeadAhead, head-ahead, stop-under, stop-inside}
-use Rattle.ber_containers.proofs.Laws.{standing-zero, standing_by, closing-two, zero_in, zero-inside, head-before}
+use Rattle.ber_containers.proofs.Heads.{HeadAhead, head-ahead}
+use Rattle.ber_containers.proofs.Laws.{standing-zero, standing_by, closing-two, zero_in}
 
 -- whatever stands at p is ahead of it
 module _ (s : List ℕ) (p : ℕ) where

@@ -12,7 +12,7 @@ use Rattle.ber_containers.specs.declared.Stands.TheVariants.{Ended, Here}
 use Rattle.ber_containers.specs.declared.Onto.{Onto}
 use Rattle.ber_containers.specs.declared.Onto.TheVariants.{Next, Refused as Stopped}
 use Rattle.ber_containers.specs.Ends.{standing_at}
-use Rattle.ber_containers.specs.Passing.{Through, skipped}
+use Rattle.ber_containers.specs.Passing.{Through}
 use Rattle.ber_containers.specs.Progress.{OntoOnward}
 use Rattle.ber_containers.proofs.Laws.{cross-ended, cross-into, cross-past, skip-next, through-over, through-past, through-into}
 use Rattle.ber_containers.proofs.Laws.{through-in-stuck, onto-later}
