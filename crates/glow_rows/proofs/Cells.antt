@@ -19,7 +19,7 @@ use Rattle.base_choices.specs.Choices.{pick}
 use Rattle.ber_integers.proofs.Signs.{negative, natural-sign, word}
 use Rattle.glow_rows.specs.declared.Cell.{Cell}
 use Rattle.glow_rows.specs.Cell.{cell, word_of, bit_of, absent}
-use Rattle.glow_rows.specs.Entry.{Rows, row}
+use Rattle.glow_rows.specs.Entry.{Rows}
 use Rattle.glow_rows.specs.Row.{cell_put, blanked}
 
 word-is : (z : ℤ) → SFits w64 z → of_z w64 z ≡ word_of z
