@@ -4,7 +4,7 @@ use Rattle.ber_reals.proofs.RealLaws.{real-row}
 use Prim.Native.Nat.{ℕ, ◌+◌, ◌-◌, ◌≤◌}
 use mathlib.Core.Path.{◌≡◌, refl, sym, ap, ◌∙◌}
 use mathlib.Core.List.{List, []}
-use denote.Ref.{Bor}
+use denote.Ref.{Bor, MutBor}
 use contract.Lifetimes.{Lfts}
 use borrow.Fn.World as World
 use borrow.Fn.Kinds as K
@@ -54,17 +54,21 @@ pub record Reads (s : List ℕ) (at n : ℕ) (r : Read) : Type 0 where
 lent : List ℕ → Bor (List ℕ)
 lent xs = record { ref_ptr = (0, 0); now = xs }
 
+-- the same, lent to be written
+lent_out : List ℕ → MutBor (List ℕ)
+lent_out xs = record { ref_ptr = (0, 0); ghost_name = 0; now = xs }
+
 -- What a call gives is what its function's definition says, and nothing else.
 pub write-says : {x : Float} {out : List ℕ} {at : ℕ} {r : Wrote} {out' : List ℕ} → Writes x out at r out' → write_at out at x ≡ outcome r out'
 write-says k = cc k.ensured
 
 pub write-called : (x : Float) (out : List ℕ) (at : ℕ) (r : Wrote) (out' : List ℕ) → write_at out at x ≡ outcome r out' → Writes x out at r out'
-unfolding lent
+unfolding lent_out
 write-called x out at r out' e =
     record {
       κs = ([], tt);
-      args = (x, (lent out, (at, tt)));
-      exits = (x, (lent out', (at, tt)));
+      args = (x, (lent_out out, (at, tt)));
+      exits = (x, (lent_out out', (at, tt)));
       real-is = refl;
       out-is = refl;
       at-is = refl;
