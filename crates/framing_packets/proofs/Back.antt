@@ -16,7 +16,7 @@ use Rattle.framing_session.proofs.Laws.{number-not-zero}
 use Rattle.framing_checksum.specs.Checksum.{checksum, octets_of}
 use Rattle.framing_content.specs.Content.{is_first, is_last, empty_bit, packet_of, command_of, body_of, body, crc_of, content_of, payload}
 use Rattle.base_choices.specs.Choices.{pick}
-use Rattle.framing_content.specs.Numbers.{BOF, EOF, message_limit, number}
+use Rattle.framing_content.specs.Numbers.{BOF, EOF, message_limit}
 use Rattle.framing_session.specs.Rules.{outside, inside, Message, none, part, State, Step, begin, is_open, refuses, joins, pieces, reads, ends}
 use Rattle.framing_packets.specs.Written.{escapes, sealed, frame, body_limit, request_body, response_body, flags, header, packet_body, packet}
 use Rattle.framing_packets.specs.Written.{packets, payload_limit, earlier, in_packets}

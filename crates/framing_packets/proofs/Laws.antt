@@ -8,9 +8,9 @@ use native.Mathlib.Omega.{arith}
 use borrow.Author.Tests.{le-leb, lt-leb, leb-true}
 use lib.Dec.{leb}
 use lib.Bits.{bit_xor}
-use lib.ListN.{length, get_or, set, take, drop, length-append, length-drop, drop_of_length-le}
-use lib.Seq.{sets, sets-eq, set_out, take_all, take-append_seam, drop-cons, drop-drop}
-use Rattle.framing_checksum.specs.Checksum.{crc_from, checksum}
+use lib.ListN.{length, get_or, take, drop, length-drop, drop_of_length-le}
+use lib.Seq.{take_all, take-append_seam, drop-cons, drop-drop}
+use Rattle.framing_checksum.specs.Checksum.{crc_step, crc_from, checksum}
 use Rattle.base_choices.specs.Choices.{pick}
 use Rattle.base_output.specs.Output.{Wrote, wrote}
 use Rattle.base_output.proofs.Laws.{wrote-all, wrote_count}
@@ -47,7 +47,7 @@ module _ (s : List ℕ) (i : ℕ) where
 crc_from-append : (c : ℕ) (xs ys : List ℕ) → crc_from c (xs ++ ys) ≡ crc_from (crc_from c xs) ys
 unfolding crc_from
 crc_from-append c [] ys = refl
-crc_from-append c (x ∷ xs) ys = crc_from-append _ xs ys
+crc_from-append c (x ∷ xs) ys = crc_from-append (crc_step c x) xs ys
 
 -- of content in two parts, c what the checksum's steps leave
 pub frame-parts : (xs ys : List ℕ) {c lo hi : ℕ} → c ≡ crc_from (crc_from 0xffff xs) ys → lo ≡ (0xffff - c) % 256 → hi ≡ (0xffff - c) / 256

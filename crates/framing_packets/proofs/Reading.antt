@@ -1,5 +1,5 @@
 -- What the rules of framing do at the bytes that the writer writes, and over one run of bytes after another.
-use Prim.Native.Nat.{ℕ, suc, ◌+◌, ◌-◌, ◌≤◌, ◌<◌}
+use Prim.Native.Nat.{ℕ, ◌+◌, ◌-◌, ◌≤◌, ◌<◌}
 use mathlib.Core.Bool.{Bool, true, false}
 use mathlib.Core.List.{List, [], ◌∷◌, ◌++◌, append_assoc, append-nil}
 use mathlib.Core.Logic.{◌⊎◌, inl, inr, ⊎_elim}
@@ -10,8 +10,8 @@ use lib.Bits.{bit_xor, xor_block, xor_zero_r}
 use lib.Dec.{ltb, eqb}
 use lib.ListN.{length, length-append}
 use Rattle.framing_content.specs.Numbers.{BOF, EOF, CE, content_limit}
-use Rattle.framing_session.specs.Rules.{Place, outside, stray, inside, escaped, Message, State, Said, Step, Happening, goes, adds, ends, cuts}
-use Rattle.framing_session.specs.Rules.{in_place, step, noted, happens, after}
+use Rattle.framing_session.specs.Rules.{Place, outside, stray, inside, escaped, Message, State, Step, Happening, goes, adds, ends, cuts}
+use Rattle.framing_session.specs.Rules.{in_place, step, happens, after}
 use Rattle.framing_session.proofs.Stream.{happens-append, after-append}
 use Rattle.framing_packets.specs.Written.{escape, escapes}
 use Rattle.framing_packets.proofs.Laws.{escape-plain, escape-high}

@@ -2,7 +2,6 @@
 // stands here.
 #![tactic(auto)]
 
-
 // The content of a frame without its CRC, and the payload of a packet.
 pub const BODY_LIMIT: usize = 1022;
 
