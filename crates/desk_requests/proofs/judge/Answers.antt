@@ -28,7 +28,6 @@ returns-then-operation-gt-DISCONNECT c =
     let the-if1 = c.if-not-is_fit in
     let the-index = c.index in
     let the-if2 = c.if-cells-index in
-    let the-if3 = c.if-operation-gt-DISCONNECT in
     let the-refused3 = c.refused-then-operation-gt-DISCONNECT in
     let h = the-is-fit.ensures ∙ the-if1.false in
     let r = the-refused3.ensures in record { row_value = with-operation _ _ _ _ h (omega (arith, the-index.ensures, the-if2.false)) (omega arith) ∙ r; sources_value = λ z. absurd (omega (arith, z, r)) }
@@ -39,7 +38,6 @@ returns-then-f-target c =
     let the-if1 = c.if-not-is_fit in
     let the-index = c.index in
     let the-if2 = c.if-cells-index in
-    let the-if3 = c.if-operation-gt-DISCONNECT in
     let the-if4 = c.if-f-target in
     let the-refused4 = c.refused-then-f-target in
     let h = the-is-fit.ensures ∙ the-if1.false in
@@ -51,7 +49,6 @@ returns-then-not-all_below c =
     let the-if1 = c.if-not-is_fit in
     let the-index = c.index in
     let the-if2 = c.if-cells-index in
-    let the-if3 = c.if-operation-gt-DISCONNECT in
     let the-if4 = c.if-f-target in
     let the-all-below = c.all_below in
     let the-if5 = c.if-not-all_below in
@@ -85,7 +82,6 @@ returns c =
     let the-if1 = c.if-not-is_fit in
     let the-index = c.index in
     let the-if2 = c.if-cells-index in
-    let the-if3 = c.if-operation-gt-DISCONNECT in
     let the-judge-limits = c.judge_limits in
     let h = the-is-fit.ensures ∙ the-if1.false in
-    let j = the-judge-limits.ensures in record { row_value = with-judged _ _ _ _ h (omega (arith, the-index.ensures, the-if2.false)) (omega (arith, the-if3.false)) _ j.operation_value; sources_value = λ z. j.sources_value_3 }
+    let j = the-judge-limits.ensures in record { row_value = with-judged _ _ _ _ h (omega (arith, the-index.ensures, the-if2.false)) (omega arith) _ j.operation_value; sources_value = λ z. j.sources_value_3 }
