@@ -1,5 +1,5 @@
 -- Words of sessions, and words of none, by computation: a line of the header each.
-use Rattle.std.specs.Prelude.{ℕ, Bool, true, false, ◌≡◌, refl, List, [], ◌∷◌, map}
+use Rattle.std.specs.Prelude.{ℕ, true, false, ◌≡◌, refl, List, [], ◌∷◌, map}
 use Rattle.framing_session.specs.declared.Frame.{Frame}
 use Rattle.framing_session.specs.declared.Frame.TheVariants.{Outside, Stray, Inside, Escaped, BadByte, TooLong}
 use Rattle.framing_session.specs.declared.Pending.{Pending}
