@@ -4,7 +4,7 @@ use mathlib.Core.Path.{◌≡◌, refl}
 use mathlib.Core.Bool.{true, false}
 use mathlib.Core.List.{[], ◌∷◌, ◌++◌}
 use lib.IntN.{pos, negsuc}
-use Rattle.ber_values.specs.declared.Value.TheVariants.{Absent, Int, Real, Text, Bool as Truth, Octets}
+use Rattle.ber_values.specs.declared.Value.TheVariants.{Absent, Int, Text, Bool as Truth, Octets}
 use Rattle.glow_rows.specs.Cell.{int_of, value_of, number_in}
 use Rattle.glow_rows.specs.Entry.{words, blanks, with_cell}
 use Rattle.glow_rows.specs.Row.{cell_in, same}

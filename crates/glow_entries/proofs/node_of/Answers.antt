@@ -1,0 +1,15 @@
+use Rattle.glow_entries.specs.Record.{node_read}
+use Rattle.glow_entries.proofs.Answers.{told_is, told-other}
+use Rattle.glow_entries.proofs.node_of.Goals as goal
+
+pub returns-then-is_same : goal.returns-then-is_same
+unfolding node_read
+returns-then-is_same c =
+    told_is _ _ _ _ _ c.node_at-e.ensures c.node_row-again.ensures
+    c.is_same.ensures c.if-is_same.true
+
+pub returns : goal.returns
+unfolding node_read
+returns c =
+    told-other _ _ _ _ _ c.node_at-e.ensures c.node_row-again.ensures
+    c.is_same.ensures c.if-is_same.false
