@@ -1,0 +1,24 @@
+use native.Mathlib.Omega.{arith}
+use Rattle.glow_grammar.specs.Grammar.{members}
+use Rattle.glow_grammar.proofs.Tables.{rule-at}
+use Rattle.glow_grammar.proofs.of_qualified_matrix.Goals as goal
+
+pub returns-in-0 : goal.returns-in-0
+unfolding members
+returns-in-0 c = rule-at 7 _ _ (omega arith)
+
+pub returns-in-1 : goal.returns-in-1
+unfolding members
+returns-in-1 c = rule-at 7 _ _ (omega arith)
+
+pub returns-in-2 : goal.returns-in-2
+unfolding members
+returns-in-2 c = rule-at 7 _ _ (omega arith)
+
+pub returns-in-5 : goal.returns-in-5
+unfolding members
+returns-in-5 c = rule-at 7 _ _ (omega arith)
+
+pub returns-in_default : goal.returns-in_default
+unfolding members
+returns-in_default c = rule-at 7 _ _ (omega arith)
