@@ -1,12 +1,12 @@
 -- The rows that the structs make are the desk's.
 use Prim.Native.Nat.{ℕ, ◌<◌, ◌^◌}
-use mathlib.Core.Path.{◌≡◌, refl, sym, ap, ◌∙◌}
+use mathlib.Core.Path.{◌≡◌, ap, ◌∙◌}
 use mathlib.Core.List.{List, ◌∷◌}
 use borrow.Author.Tests.{eq-eqb, ne_eqb}
 use lib.IntN.{ℤ}
 use Rattle.glow_rows.specs.declared.Cell.{Cell}
 use Rattle.glow_rows.specs.Cell.{cell, absent, numbers, numbers_cell, word_of, int_of}
-use Rattle.glow_rows.specs.Entry.{Entry, blanks, row}
+use Rattle.glow_rows.specs.Entry.{blanks, row}
 use Rattle.glow_rows.proofs.Values.{word-int}
 use Rattle.glow_entries.specs.declared.Number.{Number}
 use Rattle.glow_entries.specs.declared.Number.TheVariants as number
@@ -17,7 +17,6 @@ use Rattle.glow_entries.specs.declared.Parent.TheVariants as parent
 use Rattle.glow_entries.specs.Member as members
 use Rattle.glow_entries.specs.Record.{matrix_row, connection_row}
 use Rattle.glow_entries.proofs.Cells.{entry, matrix-cells, connection-cells}
-use Rattle.desk_crosspoints.specs.declared.Limit.{Limit}
 use Rattle.desk_crosspoints.specs.declared.Figures.{Figures}
 use Rattle.desk_rows.specs.Rows.{number_cell, limit_cell, list_cell, matrix_entry, link_entry}
 

@@ -1,15 +1,11 @@
 -- The sources of a row of cells, gathered cell by cell, and their octets.
-use Prim.Native.Nat.{ℕ, suc, ◌+◌, ◌≤◌, ◌<◌}
+use Prim.Native.Nat.{ℕ, ◌+◌, ◌≤◌, ◌<◌}
 use mathlib.Core.Path.{◌≡◌, refl, sym, ap, ◌∙◌}
 use mathlib.Core.List.{List, [], ◌∷◌, ◌++◌, append_assoc, append-nil}
-use mathlib.Core.Bool.{Bool, true, false}
 use native.Mathlib.Numerals.{add-one}
-use native.Mathlib.Omega.{arith}
 use borrow.Author.Tests.{eq-eqb, ne_eqb, le-leb, lt-leb}
 use lib.ListN.{length, take, drop, get_or, set, drop_of_length-le}
 use lib.Seq.{drop-cons, take-suc-set}
-use lib.Dec.{leb, eqb}
-use Rattle.base_choices.specs.Choices.{pick}
 use Rattle.ber_integers.specs.Digits.{Put, unchanged}
 use Rattle.ber_identifiers.specs.Identifier.{put_oid}
 use Rattle.desk_crosspoints.specs.Figures.{side}

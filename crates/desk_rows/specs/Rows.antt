@@ -1,6 +1,6 @@
 -- A desk's entries as rows (document 01, "Desk": "the qualified matrix with type, counts and limits, every target and its sources ascending,
 -- operation and empty lists left out"). The octets of path and sources stand beside the rows.
-use Rattle.std.specs.Prelude.{ℕ, List, ◌∷◌, eqb}
+use Rattle.std.specs.Prelude.{ℕ, ◌∷◌, eqb}
 use Rattle.base_choices.specs.Choices.{pick}
 use Rattle.glow_rows.specs.declared.Cell.{Cell}
 use Rattle.glow_rows.specs.Cell.{integer, cell, absent, numbers_cell}
