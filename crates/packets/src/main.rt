@@ -16,6 +16,7 @@ use framing_writer::Written;
 use program_lines::input::Input;
 use program_lines::text::Hex;
 use program_lines::{input, print, room, text};
+use std::io;
 
 // What a request asks to be written. The bytes of a frame and of a message are handed in beside it.
 #[derive(Clone, Copy)]
@@ -51,101 +52,103 @@ fn is_short(asked: Asked, bytes: &[u8], out: &mut [u8], n: usize) -> bool {
     }
 }
 
-fn show(w: Written, out: &[u8]) {
+fn show(rt: &impl Print, w: Written, out: &[u8]) -> io::Result<()> {
     match w {
-        Written::Done { length } => print::written(out, length),
-        Written::Out => print::out(),
+        Written::Done { length } => print::written(rt, out, length),
+        Written::Out => print::out(rt),
     }
 }
 
-fn exactly(asked: Asked, bytes: &[u8], length: usize) {
+fn exactly(rt: &impl Print, asked: Asked, bytes: &[u8], length: usize) -> io::Result<()> {
     let mut space = [0u8; 34850];
     let out: &mut [u8] = &mut space;
     if length == 0 {
-        print::say(b"room\n");
-        return;
+        return print::say(rt, b"room\n");
     }
     if !is_short(asked, bytes, out, length - 1) {
-        print::say(b"room\n");
-        return;
+        return print::say(rt, b"room\n");
     }
     let w = write_to(asked, bytes, out, length);
-    show(w, out);
+    show(rt, w, out)
 }
 
 // Prints what is written. 17 packets of a message, each a frame of at most 2,050 bytes, fit.
-fn put(asked: Asked, bytes: &[u8]) {
+fn put(rt: &impl Print, asked: Asked, bytes: &[u8]) -> io::Result<()> {
     let mut space = [0u8; 34850];
     let out: &mut [u8] = &mut space;
     match write(asked, bytes, out) {
-        Written::Done { length } => exactly(asked, bytes, length),
-        Written::Out => print::out(),
+        Written::Done { length } => exactly(rt, asked, bytes, length),
+        Written::Out => print::out(rt),
     }
 }
 
 // The frame or the message whose bytes a line has from a position on.
-fn put_bytes(asked: Asked, line: &[u8], from: usize, work: &mut [u8]) {
+fn put_bytes(
+    rt: &impl Print,
+    asked: Asked,
+    line: &[u8],
+    from: usize,
+    work: &mut [u8],
+) -> io::Result<()> {
     let Hex::Octets(n) = text::octets(line, from, work) else {
-        print::bad_line();
-        return;
+        return print::bad_line(rt);
     };
     if n <= work.len() {
-        put(asked, &work[..n]);
+        return put(rt, asked, &work[..n]);
     }
+    Ok(())
 }
 
-fn answer(line: &[u8], work: &mut [u8]) {
+fn answer(rt: &impl Print, line: &[u8], work: &mut [u8]) -> io::Result<()> {
     if text::starts(line, b"frame ") {
-        put_bytes(Asked::Frame, line, 6, work);
-        return;
+        return put_bytes(rt, Asked::Frame, line, 6, work);
     }
     if text::starts(line, b"message ") {
-        put_bytes(Asked::Message, line, 8, work);
-        return;
+        return put_bytes(rt, Asked::Message, line, 8, work);
     }
     if text::starts(line, b"request") {
         if line.len() == 7 {
-            put(Asked::Request, line);
-            return;
+            return put(rt, Asked::Request, line);
         }
     }
     if text::starts(line, b"response") {
         if line.len() == 8 {
-            put(Asked::Response, line);
-            return;
+            return put(rt, Asked::Response, line);
         }
     }
-    print::bad_line();
+    print::bad_line(rt)
 }
 
 // Answers the line that was found.
-fn finish(found: Input, line: &[u8], work: &mut [u8]) {
+fn finish(rt: &impl Print, found: Input, line: &[u8], work: &mut [u8]) -> io::Result<()> {
     let n = found.len;
     if found.long {
-        print::bad_line();
-        return;
+        return print::bad_line(rt);
     }
     if n <= line.len() {
-        answer(&line[..n], work);
+        return answer(rt, &line[..n], work);
     }
+    Ok(())
 }
 
-fn main() {
+fn main(rt: HostRuntime) -> io::Result<()> {
     let mut space = [0u8; 65536];
     let line: &mut [u8] = &mut space;
     let mut room = [0u8; 32768];
     let work: &mut [u8] = &mut room;
-    let mut buffer = io::large_buffer();
+    let mut buffer = [0u8; 65536];
     let block: &mut [u8] = &mut buffer;
     let mut found = input::start();
+    let mut reader = rt.stdin();
     // A proved loop has to end: it counts down from a number that no run uses up.
     let mut turns = u64::MAX;
     while turns > 0 {
         turns = turns - 1;
-        found = input::next(found, block, line);
+        found = input::next(&mut reader, found, block, line)?;
         if found.ended {
             break;
         }
-        finish(found, line, work);
+        finish(&rt, found, line, work)?;
     }
+    Ok(())
 }
