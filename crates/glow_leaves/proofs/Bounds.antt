@@ -11,7 +11,7 @@ use lib.ListN.{length, take, drop}
 use lib.Dec.{leb, ltb, eqb}
 use lib.IntN.{ℤ}
 use lib.Ieee as Ieee
-use Rattle.base_choices.specs.Choices.{pick, both}
+use Rattle.base_choices.specs.Choices.{pick}
 use Rattle.base_choices.proofs.Laws.{pick-by, both_left, both_right}
 use Rattle.ber_integers.specs.declared.Number.{Number}
 use Rattle.ber_integers.specs.declared.Number.TheVariants.{Int as Whole, Refused as NoInt}

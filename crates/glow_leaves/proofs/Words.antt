@@ -1,8 +1,8 @@
 -- Laws of `word_of`: a value told by its first word is what `leaf_at` gives.
 use Prim.Native.Nat.{ℕ, ◌+◌, ◌≤◌, ◌<◌}
-use mathlib.Core.Path.{◌≡◌, refl, sym, ap, subst, ◌∙◌}
+use mathlib.Core.Path.{◌≡◌, sym, ap, subst, ◌∙◌}
 use mathlib.Core.List.{List}
-use mathlib.Core.Bool.{true, false}
+use mathlib.Core.Bool.{true}
 use native.Mathlib.Omega.{arith}
 use borrow.Author.Tests.{lt-ltb, le-ltb}
 use lib.ListN.{length, take, drop}
@@ -20,10 +20,9 @@ use Rattle.ber_identifiers.specs.declared.Oid.{Oid}
 use Rattle.ber_identifiers.specs.declared.Oid.TheVariants.{Numbers}
 use Rattle.ber_identifiers.specs.Identifier.{oid_at}
 use Rattle.glow_rows.specs.declared.Cell.{Cell}
-use Rattle.glow_rows.specs.Cell.{cell, cell_of, word_of}
-use Rattle.glow_grammar.specs.declared.Leaf.{Leaf}
+use Rattle.glow_rows.specs.Cell.{cell, cell_of}
 use Rattle.glow_grammar.specs.declared.Leaf.TheVariants.{Kept}
-use Rattle.glow_grammar.specs.Leaf.{expects, in_range, word_in, is_name, oid_leaf, judged, leaf_at, cell_by, Counted, NumberTold, ListTold, LeafTold}
+use Rattle.glow_grammar.specs.Leaf.{expects, word_in, is_name, oid_leaf, judged, leaf_at, cell_by, Counted, NumberTold, ListTold, LeafTold}
 use Rattle.glow_grammar.proofs.Tables.{expects-any, expects-text, expects-int, expects-numbers}
 use Rattle.glow_leaves.proofs.Laws.{cell-range, number-any, number-kept, text-free, text-name, numbers-list, leaf-numbers, leaf-value}
 
