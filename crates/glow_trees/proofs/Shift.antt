@@ -8,12 +8,12 @@ use native.Mathlib.Omega.{arith}
 use borrow.Author.Tests.{le-leb, lt-ltb, le-ltb}
 use lib.ListN.{length, take, drop, get_or, length-drop, get_or-append}
 use lib.Seq.{drop-drop, drop-append-le, take_at, take_all, get_or-drop}
-use lib.Dec.{leb, ltb, eqb}
+use lib.Dec.{ltb, eqb}
 use Rattle.base_choices.specs.Choices.{pick}
 use Rattle.ber_integers.proofs.Radix.{lt-or-le}
 use Rattle.ber_identifiers.specs.declared.Arc.{Arc}
 use Rattle.ber_identifiers.specs.declared.Arc.TheVariants.{Number, Range as Over, Refused as NoArc}
-use Rattle.ber_identifiers.specs.Identifier.{Arcs, bad, over, numbers, push, pass, and_then, arc_is, arc_from, arc_at, arcs_from, arcs}
+use Rattle.ber_identifiers.specs.Identifier.{Arcs, numbers, push, pass, and_then, arc_is, arc_from, arc_at, arcs_from, arcs}
 
 -- an answer that ends later
 abbrev moved : ℕ → Arc → Arc

@@ -2,7 +2,6 @@
 use mathlib.Core.Path.{◌≡◌, refl}
 use mathlib.Core.List.{List, [], ◌∷◌}
 use mathlib.Core.Bool.{true}
-use Prim.Native.Nat.{ℕ}
 use Rattle.ber_integers.specs.Digits.{digits}
 use Rattle.ber_integers.specs.Integer.{shortest, size_by}
 use Rattle.ber_integers.specs.Integer as int

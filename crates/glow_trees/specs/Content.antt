@@ -1,5 +1,5 @@
 -- A member of an entry by content: "Trees compare texts, octets and sources by content."
-use Rattle.std.specs.Prelude.{ℕ, ◌+◌, List, [], ◌∷◌, Bool, true, false, length, take, drop, leb, ltb, eqb}
+use Rattle.std.specs.Prelude.{ℕ, ◌+◌, List, [], ◌∷◌, Bool, true, length, take, drop, leb, ltb, eqb}
 use Rattle.base_choices.specs.Choices.{pick}
 use Rattle.glow_rows.specs.declared.Cell.{Cell}
 use Rattle.glow_rows.specs.Cell.{boolean, integer, octets, real, text, numbers}

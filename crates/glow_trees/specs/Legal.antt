@@ -1,5 +1,5 @@
 -- Which trees the reader accepts, but for their size (document 01, "Glow"). That this is so is a theorem (`reads-back`, `is-legal`).
-use Rattle.std.specs.Prelude.{ℕ, zero, suc, ◌+◌, ◌-◌, List, [], ◌∷◌, Bool, true, false, not, length, leb, ltb, eqb, Float}
+use Rattle.std.specs.Prelude.{ℕ, zero, suc, ◌-◌, List, [], ◌∷◌, Bool, true, false, not, length, leb, ltb, eqb}
 use Rattle.std.specs.Float.Ieee as Ieee
 use Rattle.std.specs.Float.{binary64}
 use Rattle.base_choices.specs.Choices.{pick, both}

@@ -1,6 +1,6 @@
 -- The message of a tree (document 01, "Values"): "The writer uses definite shortest lengths and ascending tags"; what is absent or empty is left out.
 -- `real` spells a real's bits; integers, booleans and identifiers have one spelling.
-use Rattle.std.specs.Prelude.{ℕ, suc, ◌+◌, ◌*◌, List, [], ◌∷◌, ◌++◌, Bool, true, false, length, get_or, leb, eqb}
+use Rattle.std.specs.Prelude.{ℕ, suc, List, [], ◌∷◌, ◌++◌, Bool, true, false, length, get_or, eqb}
 use Rattle.std.specs.Float.Ieee as Ieee
 use Rattle.std.specs.Float.{binary64}
 use Rattle.base_choices.specs.Choices.{pick}
