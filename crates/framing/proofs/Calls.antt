@@ -1,13 +1,13 @@
 -- Calls of `start` and `feed`. Their contracts say what the claim over every list of offers speaks of; and the claim speaks of something: there is a call for
 -- every session, store and chunk, and a list of calls for every stream and every way to cut it.
-use Prim.Native.Nat.{ℕ, zero, suc, ◌+◌, ◌-◌, ◌≤◌, ◌<◌}
+use Prim.Native.Nat.{ℕ, zero, suc, ◌+◌, ◌≤◌, ◌<◌}
 use mathlib.Core.Bool.{Bool, true, false, not}
 use mathlib.Core.Path.{◌≡◌, refl, sym, ap, subst, ◌∙◌}
-use mathlib.Core.List.{List, [], ◌∷◌, ◌++◌, append-nil}
+use mathlib.Core.List.{List, [], ◌∷◌, append-nil}
 use native.Mathlib.Omega.{arith}
 use borrow.Author.Tests.{eqb-true, eqb-false}
 use contract.Lifetimes.{Lfts}
-use denote.Ref.{Bor}
+use denote.Ref.{Bor, MutBor}
 use denote.Triple.Clauses as Clauses
 use borrow.Fn.World as World
 use borrow.Fn.Kinds as K
@@ -29,7 +29,7 @@ use Rattle.base_choices.proofs.Laws.{pick-by}
 use Rattle.framing_content.specs.Numbers.{store_length, feed_numbers}
 use Rattle.framing_session.specs.Rules.{State, Said, begin, Happening, noted, happens, after}
 use Rattle.framing_session.specs.Session.{said_by, state_of, session_of, legal, Legal, Whole, answers, run, feeds}
-use Rattle.framing.specs.Offers.{Turn, Turns, none, turn, eaten, told, joined, Serves, done, whole, part, Consumed}
+use Rattle.framing.specs.Offers.{Turn, Turns, none, turn, eaten, told, joined, done, whole, part, Consumed}
 use Rattle.framing_session.proofs.Laws.{legal-true, bounded-state, event-numbered}
 use Rattle.framing.proofs.OneCall.{Ran}
 use Rattle.framing.proofs.Sayable.{Sayable, run-sayable, run-other}
@@ -59,6 +59,10 @@ pub record Call (s : Session) (t c : List ℕ) (r : Fed) (t' : List ℕ) : Type 
 lent : List ℕ → Bor (List ℕ)
 lent xs = record { ref_ptr = (0, 0); now = xs }
 
+-- .. and one that is lent to be written
+lent_out : List ℕ → MutBor (List ℕ)
+lent_out xs = record { ref_ptr = (0, 0); ghost_name = 0; now = xs }
+
 -- What `start` gives is the fresh session, and nothing else.
 pub begins : {s : Session} → Started s → s ≡ session_of begin
 begins k = k.ensured
@@ -71,12 +75,12 @@ pub says : {s : Session} {t c : List ℕ} {r : Fed} {t' : List ℕ} → Call s t
 says k = cc k.ensured
 
 pub called : {s : Session} {t c : List ℕ} (r : Fed) {t' : List ℕ} → feeds s t c ≡ answers r t' → Call s t c r t'
-unfolding lent
+unfolding lent lent_out
 called {s} {t} {c} r {t'} e =
     record {
       κs = ([], ([], tt));
-      args = (s, (lent t, (lent c, tt)));
-      exits = (s, (lent t', (lent c, tt)));
+      args = (s, (lent_out t, (lent c, tt)));
+      exits = (s, (lent_out t', (lent c, tt)));
       session-is = refl;
       store_is = refl;
       chunk-is = refl;

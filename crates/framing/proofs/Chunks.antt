@@ -1,6 +1,6 @@
 -- Freedom from chunks: whatever is offered, call by call, the events and the bytes consumed are those of the rules. It speaks of calls by what
 -- `feeds` says, which is the contract of `feed`.
-use Prim.Native.Nat.{ℕ, ◌+◌, ◌≤◌}
+use Prim.Native.Nat.{ℕ, ◌+◌}
 use mathlib.Core.Bool.{false}
 use mathlib.Core.Path.{◌≡◌, refl, sym, ap, subst, ◌∙◌}
 use mathlib.Core.List.{List, [], ◌∷◌, ◌++◌, append_assoc}

@@ -1,15 +1,14 @@
 -- What a call over a chunk makes of the stream.
-use Prim.Native.Nat.{ℕ, zero, suc, ◌+◌, ◌≤◌}
+use Prim.Native.Nat.{ℕ, suc, ◌+◌, ◌≤◌}
 use mathlib.Core.Bool.{Bool, true, false}
-use mathlib.Core.Path.{◌≡◌, refl, sym, ap, subst, ◌∙◌}
-use mathlib.Core.List.{List, [], ◌∷◌, ◌++◌}
+use mathlib.Core.Path.{◌≡◌, refl, ap, subst, ◌∙◌}
+use mathlib.Core.List.{List, [], ◌∷◌}
 use native.Mathlib.Omega.{arith}
 use lib.Dec.{eqb}
 use lib.ListN.{length, take}
-use Rattle.framing_session.specs.declared.Session.{Session}
 use Rattle.base_choices.specs.Choices.{pick}
 use Rattle.framing_content.specs.Numbers.{store_length}
-use Rattle.framing_session.specs.Rules.{State, Said, Step, step, Happening, noted, happens, after, quiet}
+use Rattle.framing_session.specs.Rules.{State, Said, Step, step, noted, happens, after}
 use Rattle.framing_session.specs.Session.{state_of, session_of, Legal, kept, Whole, whole, run}
 use Rattle.framing.specs.Offers.{EndsWith}
 use Rattle.framing_session.proofs.Laws.{Bounded, Within, within_step, bounded-next, frame_bound, message-bound, legal-next, kept-state, kept-length}

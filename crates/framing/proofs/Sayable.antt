@@ -16,11 +16,11 @@ use Rattle.framing_session.specs.declared.Session.{Session}
 use Rattle.framing_content.specs.declared.Fault.TheVariants.{Stray, Cut, Byte, Long, Escape, Orphan, Big}
 use Rattle.framing_content.specs.Content.{content_of, payload}
 use Rattle.base_choices.proofs.Laws.{pick-by}
-use Rattle.framing_content.specs.Numbers.{BOF, EOF, CE, content_limit, message_limit, store_length, number}
+use Rattle.framing_content.specs.Numbers.{BOF, EOF, CE, content_limit, message_limit, store_length}
 use Rattle.framing_session.specs.Rules.{Place, outside, stray, inside, escaped, bad_byte, too_long, Message, none, part, is_open, State, Said, Step}
 use Rattle.framing_session.specs.Rules.{goes, refuses, adds, joins, pieces, reads, ends, faulted, cuts, in_place, step}
-use Rattle.framing_session.specs.Session.{said_by, state_of, session_of, held, kept, Legal, Whole, run, feeds}
-use Rattle.framing_session.proofs.Laws.{number-apart, true-legal, Bounded, Within, within_step, bounded-next, kept-length, kept-message}
+use Rattle.framing_session.specs.Session.{said_by, state_of, held, kept, Legal, Whole, run, feeds}
+use Rattle.framing_session.proofs.Laws.{number-apart, true-legal, Bounded, within_step, bounded-next, kept-length, kept-message}
 
 -- the message that a step leaves, or has finished
 abbrev message_after : Step → List ℕ
