@@ -1,14 +1,14 @@
 -- One law for each answer of the turns, at plain variables.
 use Prim.Native.Nat.{ℕ, zero, suc, ◌+◌, ◌-◌, ◌*◌, ◌/◌, ◌%◌, ◌^◌, ◌≤◌, ◌<◌}
-use mathlib.Core.Path.{◌≡◌, refl, sym, ap, subst, ◌∙◌}
+use mathlib.Core.Path.{◌≡◌, refl, sym, ◌∙◌}
 use mathlib.Core.List.{List, [], ◌∷◌}
-use mathlib.Core.Bool.{Bool, true, false, not}
+use mathlib.Core.Bool.{true, false, not}
 use native.Mathlib.Omega.{arith}
 use borrow.Author.Tests.{le-leb, lt-leb, eq-eqb, ne_eqb, lt-ltb, le-ltb}
 use lib.Bits.{bit_or}
 use lib.Pow.{shl_exact}
 use lib.ListN.{length, get_or}
-use lib.Dec.{leb, ltb, eqb}
+use lib.Dec.{ltb, eqb}
 use Rattle.ber_containers.specs.declared.No.{No}
 use Rattle.ber_containers.specs.declared.Open.{Open}
 use Rattle.ber_containers.specs.declared.Tag.{Tag}
@@ -20,7 +20,7 @@ use Rattle.ber_containers.specs.Passing.{passed_at}
 use Rattle.glow_rows.specs.declared.Cell.{Cell}
 use Rattle.glow_grammar.specs.declared.Leaf.{Leaf}
 use Rattle.glow_grammar.specs.declared.Leaf.TheVariants.{Kept, Refused as Unfit}
-use Rattle.glow_grammar.specs.Grammar.{body, members, rule_of, required, is_set, inner_class, inner_number, collection_of, kind_in}
+use Rattle.glow_grammar.specs.Grammar.{members, rule_of, required, is_set, inner_class, inner_number, collection_of, kind_in}
 use Rattle.glow_grammar.specs.Leaf.{leaf_at}
 use Rattle.glow_steps.specs.declared.Member.{Member}
 use Rattle.glow_steps.specs.declared.Member.TheVariants.{Done, Over, Leaf as Cell-of, Contents, Items, Refused as NoMember}

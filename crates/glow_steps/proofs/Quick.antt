@@ -6,7 +6,7 @@ use mathlib.Core.List.{List}
 use native.Mathlib.Omega.{arith}
 use borrow.Author.Tests.{lt-ltb, le-ltb, eq-eqb, ne_eqb}
 use lib.ListN.{length, get_or}
-use lib.Dec.{ltb, eqb}
+use lib.Dec.{eqb}
 use Rattle.base_choices.specs.Choices.{pick}
 use Rattle.ber_containers.specs.declared.Open.{Open}
 use Rattle.ber_containers.specs.declared.Tag.{Tag}
@@ -16,16 +16,15 @@ use Rattle.ber_containers.specs.declared.Onto.TheVariants.{Next}
 use Rattle.ber_containers.specs.Ends.{no, deep, standing_at, enter_at, first_at, last_at, is_tag}
 use Rattle.ber_containers.specs.Passing.{Through, passed_at}
 use Rattle.ber_containers.specs.Short.{short_tag, Short}
-use Rattle.ber_containers.proofs.Laws.{standing-ended, enter-here, first-here, last-ended, tag-form, deep_in, deep-not}
+use Rattle.ber_containers.proofs.Laws.{standing-ended, enter-here, first-here, last-ended, tag-form}
 use Rattle.ber_containers.proofs.Laws.{skip-next, passed-in, passed-skip}
 use Rattle.glow_rows.specs.declared.Cell.{Cell}
 use Rattle.glow_grammar.specs.declared.Leaf.TheVariants.{Kept, Refused as Unfit}
 use Rattle.glow_grammar.specs.Grammar.{rule_of, kind_in, inner_class, inner_number, collection_of}
 use Rattle.glow_grammar.specs.Leaf.{leaf_at}
-use Rattle.glow_steps.specs.declared.Member.{Member}
 use Rattle.glow_steps.specs.declared.Member.TheVariants.{Leaf as Cell-of, Contents, Items, Refused as NoMember}
 use Rattle.glow_steps.specs.declared.Item.TheVariants.{Element}
-use Rattle.glow_steps.specs.Members.{in_order, again, after_listed, column, plain_at, inner_at, listed_at, ruled_at, member_at, kind_of, item_at}
+use Rattle.glow_steps.specs.Members.{in_order, again, after_listed, column, plain_at, inner_at, listed_at, member_at, item_at}
 use Rattle.glow_steps.specs.Brief.{opened_by, tag_in, Pair, Nested, NextRule, Suits, MemberTold, Unlisted, OverTold, KindTold, ItemTold}
 use Rattle.glow_steps.proofs.Laws.{rule-small, member-ruled, ruled-over, ruled-listed, listed_plain, listed-inner, plain-no, plain-kept}
 use Rattle.glow_steps.proofs.Laws.{inner-contents, inner-items, kind-held, item-element}
