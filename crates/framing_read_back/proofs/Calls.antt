@@ -5,9 +5,9 @@ use mathlib.Core.Bool.{false}
 use mathlib.Core.List.{List, [], ◌∷◌, ◌++◌}
 use mathlib.Core.Path.{◌≡◌, refl, sym, subst, ◌∙◌}
 use native.Mathlib.Nat.{zero-add}
-use denote.Ref.{Bor}
+use denote.Ref.{Bor, MutBor}
 use lib.Dec.{leb}
-use lib.ListN.{length, take, drop}
+use lib.ListN.{length, drop}
 use types.Run.{OneOf, hit}
 use Rattle.framing_content.specs.Numbers.{message_limit, store_length}
 use Rattle.framing_session.specs.Rules.{none, State, Said, Happening, begin, ends}
@@ -32,6 +32,10 @@ use Rattle.framing_read_back.specs.Calls.{ReadAs, FrameCall, MessageCall, Reques
 lent : List ℕ → Bor (List ℕ)
 lent xs = record { ref_ptr = (0, 0); now = xs }
 
+-- .. and one that is lent to be written
+lent_out : List ℕ → MutBor (List ℕ)
+lent_out xs = record { ref_ptr = (0, 0); ghost_name = 0; now = xs }
+
 -- What a call gives is what its function's definition says, and nothing else.
 module _ {o : List ℕ} (r : Written) {p : List ℕ} where
   module _ (xs : List ℕ) where
@@ -39,12 +43,12 @@ module _ {o : List ℕ} (r : Written) {p : List ℕ} where
     frame-says c = cc c.ensured
 
     pub frame-called : frame_into xs o ≡ outcome r p → FrameCall xs o r p
-    unfolding lent
+    unfolding lent lent_out
     frame-called e =
         record {
           κs = ([], ([], tt));
-          args = (lent xs, (lent o, tt));
-          exits = (lent xs, (lent p, tt));
+          args = (lent xs, (lent_out o, tt));
+          exits = (lent xs, (lent_out p, tt));
           given_is = refl;
           output-is = refl;
           left_is = refl;
@@ -55,12 +59,12 @@ module _ {o : List ℕ} (r : Written) {p : List ℕ} where
     message-says c = cc c.ensured
 
     pub message-called : message_into xs o ≡ outcome r p → MessageCall xs o r p
-    unfolding lent
+    unfolding lent lent_out
     message-called e =
         record {
           κs = ([], ([], tt));
-          args = (lent xs, (lent o, tt));
-          exits = (lent xs, (lent p, tt));
+          args = (lent xs, (lent_out o, tt));
+          exits = (lent xs, (lent_out p, tt));
           given_is = refl;
           output-is = refl;
           left_is = refl;
@@ -71,17 +75,17 @@ module _ {o : List ℕ} (r : Written) {p : List ℕ} where
   request-says c = cc c.ensured
 
   pub request-called : into (frame request_body) o ≡ outcome r p → RequestCall o r p
-  unfolding lent
+  unfolding lent lent_out
   request-called e =
-      record { κs = ([], tt); args = (lent o, tt); exits = (lent p, tt); output-is = refl; left_is = refl; ensured = e }
+      record { κs = ([], tt); args = (lent_out o, tt); exits = (lent_out p, tt); output-is = refl; left_is = refl; ensured = e }
 
   pub response-says : ResponseCall o r p → into (frame response_body) o ≡ outcome r p
   response-says c = cc c.ensured
 
   pub response-called : into (frame response_body) o ≡ outcome r p → ResponseCall o r p
-  unfolding lent
+  unfolding lent lent_out
   response-called e =
-      record { κs = ([], tt); args = (lent o, tt); exits = (lent p, tt); output-is = refl; left_is = refl; ensured = e }
+      record { κs = ([], tt); args = (lent_out o, tt); exits = (lent_out p, tt); output-is = refl; left_is = refl; ensured = e }
 
 -- ---- there is a call
 

@@ -1,3 +1,2 @@
 // Theorems alone: what calls of the writer wrote, calls of the session read back, in any chunks.
 #![tactic(auto)]
-
