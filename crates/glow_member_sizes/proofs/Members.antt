@@ -1,8 +1,8 @@
 -- A member's size, by its cell.
-use Prim.Native.Nat.{ℕ, ◌+◌, ◌-◌, ◌≤◌, ◌<◌}
+use Prim.Native.Nat.{ℕ, ◌+◌, ◌≤◌, ◌<◌}
 use mathlib.Core.Path.{◌≡◌, refl, sym, ap, subst, ◌∙◌}
 use mathlib.Core.Bool.{Bool, true, false, not}
-use mathlib.Core.List.{List, [], ◌∷◌, ◌++◌}
+use mathlib.Core.List.{List}
 use mathlib.Core.Logic.{◌⊎◌, ⊎_elim, inl, inr}
 use native.Mathlib.Omega.{arith}
 use borrow.Author.Tests.{eq-eqb, ne_eqb, le-leb, lt-leb, lt-ltb, eqb-true}
@@ -18,7 +18,6 @@ use Rattle.glow_rows.specs.Cell.{cell, numbers_cell}
 use Rattle.glow_leaves.proofs.Laws.{leaf-numbers, leaf-value}
 use Rattle.ber_identifiers.specs.Identifier.{Arcs, bad, over, numbers, arcs}
 use Rattle.glow_rows.specs.declared.Cell.{Cell}
-use Rattle.glow_grammar.specs.declared.Leaf.{Leaf}
 use Rattle.glow_grammar.specs.declared.Leaf.TheVariants.{Kept, Refused as Not}
 use Rattle.glow_grammar.specs.Grammar.{any, name, path}
 use Rattle.glow_grammar.specs.Leaf.{expects, is_name, is_path, text_leaf, path_leaf, list_leaf, numbers_at, leaf_at, judged}
