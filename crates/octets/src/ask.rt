@@ -9,74 +9,74 @@ use ber_tags::{Head, Length};
 use ber_values::Flag;
 use program_lines::text::{Decimal, Hex};
 use program_lines::{print, text};
+use std::io;
 
-pub(crate) fn show_int(x: i64) {
+pub(crate) fn show_int(rt: &impl Print, x: i64) -> io::Result<()> {
     let m = ber_integers::magnitude(x);
     if x < 0 {
-        print::say(b"-");
-        print::decimal(m + 1);
+        print::say(rt, b"-")?;
+        print::decimal(rt, m + 1)
     } else {
-        print::decimal(m);
+        print::decimal(rt, m)
     }
 }
 
 // Where in the message content octets and tags are read; what stands around them is left from earlier requests.
 const AT: usize = 3;
 
-fn read_int(s: &[u8], n: usize) {
+fn read_int(rt: &impl Print, s: &[u8], n: usize) -> io::Result<()> {
     match ber_integers::read_int(s, AT, n) {
         Number::Int(x) => {
-            show_int(x);
-            print::end();
+            show_int(rt, x)?;
+            print::end(rt)
         }
-        Number::Refused => print::say(b"30\n"),
+        Number::Refused => print::say(rt, b"30\n"),
     }
 }
 
 // A double's 64 bits. No NaN is read.
-pub(crate) fn show_real(x: f64) {
+pub(crate) fn show_real(rt: &impl Print, x: f64) -> io::Result<()> {
     if x != x {
-        print::say(b"nan");
-        return;
+        return print::say(rt, b"nan");
     }
     let mut room = [0u8; 8];
     let out: &mut [u8] = &mut room;
     ber_integers::write_octets(f64::to_bits(x), 8, out, 0);
-    print::hex(out);
+    print::hex(rt, out)
 }
 
-fn read_real(s: &[u8], n: usize) {
+fn read_real(rt: &impl Print, s: &[u8], n: usize) -> io::Result<()> {
     match ber_reals::read_real(s, AT, n) {
         Read::Real(x) => {
-            show_real(x);
-            print::end();
+            show_real(rt, x)?;
+            print::end(rt)
         }
-        Read::Refused => print::say(b"35\n"),
+        Read::Refused => print::say(rt, b"35\n"),
     }
 }
 
-pub(crate) fn show_bool(b: bool) {
+pub(crate) fn show_bool(rt: &impl Print, b: bool) -> io::Result<()> {
     if b {
-        print::say(b"true");
+        print::say(rt, b"true")
     } else {
-        print::say(b"false");
+        print::say(rt, b"false")
     }
 }
 
-fn read_bool(s: &[u8], n: usize) {
+fn read_bool(rt: &impl Print, s: &[u8], n: usize) -> io::Result<()> {
     match ber_values::read_bool(s, AT, n) {
         Flag::Is(b) => {
-            show_bool(b);
-            print::end();
+            show_bool(rt, b)?;
+            print::end(rt)
         }
-        Flag::Refused => print::say(b"30\n"),
+        Flag::Refused => print::say(rt, b"30\n"),
     }
 }
 
-fn show_length(length: Length) {
+fn show_length(rt: &impl Print, length: Length) -> io::Result<()> {
     match length {
-        Length::Definite(n) => print::decimal(word(n)),
-        Length::Indefinite => print::say(b"indefinite"),
+        Length::Definite(n) => print::decimal(rt, word(n)),
+        Length::Indefinite => print::say(rt, b"indefinite"),
     }
 }
 
@@ -88,7 +88,7 @@ fn from_there(next: usize) -> u64 {
     word(next - AT)
 }
 
-fn read_tag(s: &[u8]) {
+fn read_tag(rt: &impl Print, s: &[u8]) -> io::Result<()> {
     match ber_tags::read_tag(s, AT, usize::MAX) {
         Head::Tag {
             class,
@@ -97,32 +97,32 @@ fn read_tag(s: &[u8]) {
             length,
             next,
         } => {
-            print::decimal(wide(class));
+            print::decimal(rt, wide(class))?;
             if constructed {
-                print::say(b" 1 ");
+                print::say(rt, b" 1 ")?;
             } else {
-                print::say(b" 0 ");
+                print::say(rt, b" 0 ")?;
             }
-            print::decimal(number);
-            print::say(b" ");
-            show_length(length);
-            print::say(b" ");
-            print::decimal(from_there(next));
-            print::say(b"\n");
+            print::decimal(rt, number)?;
+            print::say(rt, b" ")?;
+            show_length(rt, length)?;
+            print::say(rt, b" ")?;
+            print::decimal(rt, from_there(next))?;
+            print::say(rt, b"\n")
         }
-        Head::Refused { place: _ } => print::say(b"30\n"),
+        Head::Refused { place: _ } => print::say(rt, b"30\n"),
     }
 }
 
-fn show_numbers(s: &[u8], end: usize) {
+fn show_numbers(rt: &impl Print, s: &[u8], end: usize) -> io::Result<()> {
     let mut p: usize = AT;
     while p < end {
         match ber_identifiers::read_number(s, p, end) {
             Arc::Number { number, next } => {
                 if AT < p {
-                    print::dot();
+                    print::dot(rt)?;
                 }
-                print::decimal(number);
+                print::decimal(rt, number)?;
                 p = next;
             }
             Arc::Range { next: _ } => {
@@ -133,20 +133,20 @@ fn show_numbers(s: &[u8], end: usize) {
             }
         }
     }
-    print::end();
+    print::end(rt)
 }
 
-fn read_oid(s: &[u8], n: usize) {
+fn read_oid(rt: &impl Print, s: &[u8], n: usize) -> io::Result<()> {
     match ber_identifiers::read_oid(s, AT, n) {
         Oid::Numbers(count) => {
             if count == 0 {
-                print::say(b"-\n");
+                print::say(rt, b"-\n")
             } else {
-                show_numbers(s, end_of(n));
+                show_numbers(rt, s, end_of(n))
             }
         }
-        Oid::Range => print::say(b"range\n"),
-        Oid::Refused => print::say(b"30\n"),
+        Oid::Range => print::say(rt, b"range\n"),
+        Oid::Refused => print::say(rt, b"30\n"),
     }
 }
 
@@ -195,72 +195,70 @@ pub(crate) fn integer(line: &[u8], from: usize) -> Whole {
     }
 }
 
-fn write_int(line: &[u8], from: usize) {
+fn write_int(rt: &impl Print, line: &[u8], from: usize) -> io::Result<()> {
     match integer(line, from) {
-        Whole::Int(x) => put::put_plain(Asked::Int(x), line),
-        Whole::Out => print::out(),
-        Whole::Bad => print::bad_line(),
+        Whole::Int(x) => put::put_plain(rt, Asked::Int(x), line),
+        Whole::Out => print::out(rt),
+        Whole::Bad => print::bad_line(rt),
     }
 }
 
-fn write_real(n: usize, work: &[u8]) {
+fn write_real(rt: &impl Print, n: usize, work: &[u8]) -> io::Result<()> {
     if n != 8 {
-        print::bad_line();
-        return;
+        return print::bad_line(rt);
     }
     match ber_integers::read_unsigned(work, 0, 8) {
-        Natural::Nat(bits) => put::put_plain(Asked::Bits(bits), work),
-        Natural::Refused => print::bad_line(),
+        Natural::Nat(bits) => put::put_plain(rt, Asked::Bits(bits), work),
+        Natural::Refused => print::bad_line(rt),
     }
 }
 
-fn write_tag_of(class: u64, constructed: u64, number: u64, line: &[u8]) {
+fn write_tag_of(
+    rt: &impl Print,
+    class: u64,
+    constructed: u64,
+    number: u64,
+    line: &[u8],
+) -> io::Result<()> {
     if 3 < class {
-        print::bad_line();
-        return;
+        return print::bad_line(rt);
     }
     if 1 < constructed {
-        print::bad_line();
-        return;
+        return print::bad_line(rt);
     }
     let asked = Asked::Tag {
         class: class as u8,
         constructed: constructed == 1,
         number,
     };
-    put::put_plain(asked, line);
+    put::put_plain(rt, asked, line)
 }
 
-fn write_tag(line: &[u8], from: usize) {
+fn write_tag(rt: &impl Print, line: &[u8], from: usize) -> io::Result<()> {
     let a = text::find(line, from, b' ');
     if line.len() <= a {
-        print::bad_line();
-        return;
+        return print::bad_line(rt);
     }
     let b = text::find(line, a + 1, b' ');
     if line.len() <= b {
-        print::bad_line();
-        return;
+        return print::bad_line(rt);
     }
     let Decimal::Number(class) = text::number(line, from, a) else {
-        print::bad_line();
-        return;
+        return print::bad_line(rt);
     };
     let Decimal::Number(constructed) = text::number(line, a + 1, b) else {
-        print::bad_line();
-        return;
+        return print::bad_line(rt);
     };
     let Decimal::Number(number) = text::number(line, b + 1, line.len()) else {
-        print::bad_line();
-        return;
+        return print::bad_line(rt);
     };
-    write_tag_of(class, constructed, number, line);
+    write_tag_of(rt, class, constructed, number, line)
 }
 
-fn write_length(line: &[u8], from: usize) {
+fn write_length(rt: &impl Print, line: &[u8], from: usize) -> io::Result<()> {
     match text::number(line, from, line.len()) {
-        Decimal::Number(n) => put::put_plain(Asked::Length(n), line),
-        Decimal::Bad => print::bad_line(),
+        Decimal::Number(n) => put::put_plain(rt, Asked::Length(n), line),
+        Decimal::Bad => print::bad_line(rt),
     }
 }
 
@@ -286,30 +284,27 @@ fn numbers_of(line: &[u8], from: usize, numbers: &mut [u64]) -> usize {
     0
 }
 
-fn write_oid(line: &[u8], from: usize, numbers: &mut [u64]) {
+fn write_oid(rt: &impl Print, line: &[u8], from: usize, numbers: &mut [u64]) -> io::Result<()> {
     if text::starts(line, b"write oid -") {
         if line.len() == 11 {
-            put::put(Asked::Oid, line, &numbers[..0]);
-            return;
+            return put::put(rt, Asked::Oid, line, &numbers[..0]);
         }
     }
     let n = numbers_of(line, from, numbers);
     if n == 0 {
-        print::bad_line();
-        return;
+        return print::bad_line(rt);
     }
     if numbers.len() < n {
-        print::bad_line();
-        return;
+        return print::bad_line(rt);
     }
-    put::put(Asked::Oid, line, &numbers[..n]);
+    put::put(rt, Asked::Oid, line, &numbers[..n])
 }
 
 // A real's 64 bits, as pairs of digits.
-fn write_bits(line: &[u8], from: usize, work: &mut [u8]) {
+fn write_bits(rt: &impl Print, line: &[u8], from: usize, work: &mut [u8]) -> io::Result<()> {
     match text::octets(line, from, work) {
-        Hex::Octets(n) => write_real(n, work),
-        Hex::Bad => print::bad_line(),
+        Hex::Octets(n) => write_real(rt, n, work),
+        Hex::Bad => print::bad_line(rt),
     }
 }
 
@@ -362,36 +357,45 @@ fn wanted(line: &[u8]) -> Writing {
     Writing::Bad
 }
 
-fn answer_write(line: &[u8], work: &mut [u8], numbers: &mut [u64]) {
+fn answer_write(
+    rt: &impl Print,
+    line: &[u8],
+    work: &mut [u8],
+    numbers: &mut [u64],
+) -> io::Result<()> {
     match wanted(line) {
-        Writing::Value => value::write(line, work),
-        Writing::Int => write_int(line, 10),
-        Writing::Real => write_bits(line, 11, work),
-        Writing::True => put::put_plain(Asked::Bool(true), line),
-        Writing::False => put::put_plain(Asked::Bool(false), line),
-        Writing::Tag => write_tag(line, 10),
-        Writing::Length => write_length(line, 13),
-        Writing::Oid => write_oid(line, 10, numbers),
-        Writing::Bad => print::bad_line(),
+        Writing::Value => value::write(rt, line, work),
+        Writing::Int => write_int(rt, line, 10),
+        Writing::Real => write_bits(rt, line, 11, work),
+        Writing::True => put::put_plain(rt, Asked::Bool(true), line),
+        Writing::False => put::put_plain(rt, Asked::Bool(false), line),
+        Writing::Tag => write_tag(rt, line, 10),
+        Writing::Length => write_length(rt, line, 13),
+        Writing::Oid => write_oid(rt, line, 10, numbers),
+        Writing::Bad => print::bad_line(rt),
     }
 }
 
-pub(crate) fn answer(line: &[u8], work: &mut [u8], numbers: &mut [u64]) {
+pub(crate) fn answer(
+    rt: &impl Print,
+    line: &[u8],
+    work: &mut [u8],
+    numbers: &mut [u64],
+) -> io::Result<()> {
     if text::starts(line, b"read ") {
-        answer_read(line, work);
-        return;
+        return answer_read(rt, line, work);
     }
-    answer_write(line, work, numbers);
+    answer_write(rt, line, work, numbers)
 }
 
 // The octets of a line, read as a kind.
-fn read_as(kind: u8, line: &[u8], from: usize, work: &mut [u8]) {
+fn read_as(rt: &impl Print, kind: u8, line: &[u8], from: usize, work: &mut [u8]) -> io::Result<()> {
     if work.len() < AT {
-        return;
+        return Ok(());
     }
     match text::octets(line, from, &mut work[AT..]) {
-        Hex::Octets(n) => read_kind(kind, work, n),
-        Hex::Bad => print::bad_line(),
+        Hex::Octets(n) => read_kind(rt, kind, work, n),
+        Hex::Bad => print::bad_line(rt),
     }
 }
 
@@ -403,21 +407,22 @@ fn end_of(n: usize) -> usize {
     AT + n
 }
 
-fn read_kind(kind: u8, s: &[u8], n: usize) {
+fn read_kind(rt: &impl Print, kind: u8, s: &[u8], n: usize) -> io::Result<()> {
     match kind {
-        0 => read_int(s, n),
-        1 => read_real(s, n),
-        2 => read_bool(s, n),
-        3 => read_head(s, end_of(n)),
-        _ => read_oid(s, n),
+        0 => read_int(rt, s, n),
+        1 => read_real(rt, s, n),
+        2 => read_bool(rt, s, n),
+        3 => read_head(rt, s, end_of(n)),
+        _ => read_oid(rt, s, n),
     }
 }
 
 // A tag's message ends with its octets.
-fn read_head(s: &[u8], end: usize) {
+fn read_head(rt: &impl Print, s: &[u8], end: usize) -> io::Result<()> {
     if end <= s.len() {
-        read_tag(&s[..end]);
+        read_tag(rt, &s[..end])?;
     }
+    Ok(())
 }
 
 // What a line asks to be read.
@@ -454,14 +459,14 @@ fn asked(line: &[u8]) -> Reading {
     Reading::Bad
 }
 
-fn answer_read(line: &[u8], work: &mut [u8]) {
+fn answer_read(rt: &impl Print, line: &[u8], work: &mut [u8]) -> io::Result<()> {
     match asked(line) {
-        Reading::Value => value::read(line, 11, work),
-        Reading::Int => read_as(0, line, 9, work),
-        Reading::Real => read_as(1, line, 10, work),
-        Reading::Bool => read_as(2, line, 10, work),
-        Reading::Tag => read_as(3, line, 9, work),
-        Reading::Oid => read_as(4, line, 9, work),
-        Reading::Bad => print::bad_line(),
+        Reading::Value => value::read(rt, line, 11, work),
+        Reading::Int => read_as(rt, 0, line, 9, work),
+        Reading::Real => read_as(rt, 1, line, 10, work),
+        Reading::Bool => read_as(rt, 2, line, 10, work),
+        Reading::Tag => read_as(rt, 3, line, 9, work),
+        Reading::Oid => read_as(rt, 4, line, 9, work),
+        Reading::Bad => print::bad_line(rt),
     }
 }

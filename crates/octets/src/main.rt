@@ -20,37 +20,46 @@ mod value;
 
 use program_lines::input::Input;
 use program_lines::{input, print};
+use std::io;
 
 // Answers the line that was found.
-fn finish(found: Input, line: &[u8], work: &mut [u8], numbers: &mut [u64]) {
+fn finish(
+    rt: &impl Print,
+    found: Input,
+    line: &[u8],
+    work: &mut [u8],
+    numbers: &mut [u64],
+) -> io::Result<()> {
     let n = found.len;
     if found.long {
-        print::bad_line();
-        return;
+        return print::bad_line(rt);
     }
     if n <= line.len() {
-        ask::answer(&line[..n], work, numbers);
+        ask::answer(rt, &line[..n], work, numbers)?;
     }
+    Ok(())
 }
 
-fn main() {
+fn main(rt: HostRuntime) -> io::Result<()> {
     let mut space = [0u8; 16384];
     let line: &mut [u8] = &mut space;
     let mut room = [0u8; 8192];
     let work: &mut [u8] = &mut room;
     let mut cells = [0u64; 8192];
     let numbers: &mut [u64] = &mut cells;
-    let mut buffer = io::large_buffer();
+    let mut buffer = [0u8; 65536];
     let block: &mut [u8] = &mut buffer;
     let mut found = input::start();
+    let mut reader = rt.stdin();
     // A proved loop has to end: it counts down from a number that no run uses up.
     let mut turns = u64::MAX;
     while turns > 0 {
         turns = turns - 1;
-        found = input::next(found, block, line);
+        found = input::next(&mut reader, found, block, line)?;
         if found.ended {
             break;
         }
-        finish(found, line, work, numbers);
+        finish(&rt, found, line, work, numbers)?;
     }
+    Ok(())
 }

@@ -3,6 +3,7 @@
 use ber_integers::Wrote;
 use ber_values::Value;
 use program_lines::{print, room};
+use std::io;
 
 // What a request asks to be written. The numbers of an identifier, and a text or octets, are handed in beside it.
 #[derive(Clone, Copy)]
@@ -56,47 +57,52 @@ fn is_short(asked: Asked, src: &[u8], numbers: &[u64], out: &mut [u8], n: usize)
 }
 
 // The octets from AT to an end.
-fn show(w: Wrote, out: &[u8]) {
+fn show(rt: &impl Print, w: Wrote, out: &[u8]) -> io::Result<()> {
     match w {
         Wrote::Next(end) => {
             if AT <= end {
                 if end <= out.len() {
-                    print::octets(&out[AT..end]);
+                    print::octets(rt, &out[AT..end])?;
                 }
             }
+            Ok(())
         }
-        Wrote::Out => print::out(),
+        Wrote::Out => print::out(rt),
     }
 }
 
-fn exactly(asked: Asked, src: &[u8], numbers: &[u64], end: usize) {
+fn exactly(
+    rt: &impl Print,
+    asked: Asked,
+    src: &[u8],
+    numbers: &[u64],
+    end: usize,
+) -> io::Result<()> {
     let mut space = [0u8; 8200];
     let out: &mut [u8] = &mut space;
     if end == 0 {
-        print::say(b"place\n");
-        return;
+        return print::say(rt, b"place\n");
     }
     if !is_short(asked, src, numbers, out, end - 1) {
-        print::say(b"room\n");
-        return;
+        return print::say(rt, b"room\n");
     }
     let w = write_to(asked, src, numbers, out, end);
-    show(w, out);
+    show(rt, w, out)
 }
 
 // Prints what is written in exactly the room that it takes, or 46. One octet less must be 46 and leave the output as it
 // was, else `room` is printed.
-pub(crate) fn put(asked: Asked, src: &[u8], numbers: &[u64]) {
+pub(crate) fn put(rt: &impl Print, asked: Asked, src: &[u8], numbers: &[u64]) -> io::Result<()> {
     let mut space = [0u8; 8200];
     let out: &mut [u8] = &mut space;
     match write(asked, src, numbers, out) {
-        Wrote::Next(end) => exactly(asked, src, numbers, end),
-        Wrote::Out => print::out(),
+        Wrote::Next(end) => exactly(rt, asked, src, numbers, end),
+        Wrote::Out => print::out(rt),
     }
 }
 
 // What needs no numbers.
-pub(crate) fn put_plain(asked: Asked, src: &[u8]) {
+pub(crate) fn put_plain(rt: &impl Print, asked: Asked, src: &[u8]) -> io::Result<()> {
     let none = [0u64; 1];
-    put(asked, src, &none);
+    put(rt, asked, src, &none)
 }
