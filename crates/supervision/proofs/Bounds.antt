@@ -1,12 +1,11 @@
 -- The two bounds of the promise, by the rules: a link with no events is dead in time, and one with an event in every 4,000 ms is not declared dead.
-use Rattle.std.proofs.Common.{◌≡◌, ℕ, ◌+◌, ◌<◌, ◌≤◌, Bool, true, false, List, [], ◌∷◌, refl, arith, leb-false, leb-true}
+use Rattle.std.proofs.Common.{◌≡◌, ℕ, ◌+◌, ◌<◌, ◌≤◌, false, List, [], ◌∷◌, refl, arith, leb-false, leb-true}
 use borrow.Author.Tests.{lt-leb}
 use Rattle.base_choices.proofs.Laws.{pick-by}
-use Rattle.supervision.specs.declared.Answer.{Answer}
 use Rattle.supervision.specs.declared.Happened.{Happened}
 use Rattle.supervision.specs.declared.Happened.TheVariants.{Nothing, Event, Request}
-use Rattle.supervision.specs.Rules.{Showing, State, silent, asked, dead, Step, due, waits, hears, step, answers}
-use Rattle.supervision.specs.Promise.{Often, last, next, is_event, event_at, last_event, DeadBy, here, later, Lively, is_dead, NeverDead}
+use Rattle.supervision.specs.Rules.{Showing, State, silent, asked, Step, due, answers}
+use Rattle.supervision.specs.Promise.{Often, last, next, event_at, last_event, DeadBy, here, later, Lively, NeverDead}
 
 -- ---- dead in time
 

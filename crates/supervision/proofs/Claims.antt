@@ -1,5 +1,5 @@
 -- What the rules come to, for every link and every showing: requests are answered, a silence asks once, dead is for good, an event counts first.
-use Rattle.std.proofs.Common.{◌≡◌, ℕ, ◌+◌, ◌≤◌, Bool, true, false, List, [], ◌∷◌, map, refl, ap, ◌∙◌, arith}
+use Rattle.std.proofs.Common.{◌≡◌, ℕ, ◌+◌, ◌≤◌, false, List, [], ◌∷◌, map, refl, ◌∙◌, arith}
 use Rattle.framing_content.specs.declared.Content.TheVariants as content
 use Rattle.framing_session.specs.declared.Event.{Event as SessionEvent}
 use Rattle.framing_session.specs.declared.Event.TheVariants as ev
@@ -14,7 +14,7 @@ use Rattle.supervision.specs.declared.Happened.{Happened}
 use Rattle.supervision.specs.declared.Happened.TheVariants.{Nothing, Event, Request}
 use Rattle.supervision.specs.declared.Link.{Link}
 use Rattle.supervision.specs.Events.{happened_by}
-use Rattle.supervision.specs.Rules.{Showing, State, silent, asked, dead, Step, due, hears, step, answers, after}
+use Rattle.supervision.specs.Rules.{Showing, silent, asked, dead, Step, due, step, answers, after}
 use Rattle.supervision.specs.Supervisor.{shows}
 use Rattle.supervision.specs.Promise.{is_event}
 use Rattle.supervision.proofs.Bounds.{not-due}

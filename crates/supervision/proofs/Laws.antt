@@ -1,5 +1,5 @@
 -- Laws of the supervisor over ticks, at plain variables.
-use Rattle.std.proofs.Common.{◌≡◌, ℕ, ◌<◌, ◌≤◌, [], refl, le-leb}
+use Rattle.std.proofs.Common.{◌≡◌, ℕ, ◌<◌, ◌≤◌, refl, le-leb}
 use borrow.Author.Tests.{lt-leb}
 use Rattle.framing_content.specs.declared.Fault.{Fault}
 use Rattle.framing_content.specs.declared.Fault.TheVariants as fault
@@ -9,7 +9,6 @@ use Rattle.supervision.specs.declared.Happened.{Happened}
 use Rattle.supervision.specs.declared.Happened.TheVariants as happened
 use Rattle.supervision.specs.declared.Link.{Link}
 use Rattle.supervision.specs.declared.Link.TheVariants.{Silent, Asked, Dead}
-use Rattle.supervision.specs.declared.Shown.{Shown}
 use Rattle.supervision.specs.Events.{happened_by}
 use Rattle.supervision.specs.Supervisor.{elapsed, gone, waited, heard, shows}
 

@@ -1,10 +1,10 @@
 -- Ticks that come out of order are shown as those of the latest time so far, and the promise holds of these.
-use Rattle.std.proofs.Common.{◌≡◌, ℕ, ◌+◌, ◌<◌, ◌≤◌, Bool, true, false, ltb, leb, List, [], ◌∷◌, sym, refl, ap, ◌∙◌, subst, arith, le-ltb, lt-ltb, leb-false, leb-true}
+use Rattle.std.proofs.Common.{◌≡◌, ℕ, ◌+◌, ◌<◌, ◌≤◌, Bool, true, false, ltb, leb, List, sym, refl, ap, ◌∙◌, subst, arith, le-ltb, lt-ltb, leb-false, leb-true}
 use Rattle.base_choices.specs.Choices.{pick}
 use Rattle.supervision.specs.declared.Answer.{Answer}
 use Rattle.supervision.specs.declared.Link.{Link}
 use Rattle.supervision.specs.Rules.{Showing}
-use Rattle.supervision.specs.Supervisor.{wrap, elapsed, begun, shows}
+use Rattle.supervision.specs.Supervisor.{elapsed, begun, shows}
 use Rattle.supervision.specs.Promise.{tick_at, Often, Calls, Promised}
 use Rattle.supervision.specs.Promise as said
 use Rattle.supervision.specs.Order.{half, later_of, later_time, ordered, Near, LaterCalls, none, call}

@@ -1,7 +1,7 @@
 -- THE PROMISE of request 01, over every list of showings. It rests on what `start` and `show` give by their contracts; that there are such calls for
 -- every list is shown
 -- at the end.
-use Rattle.std.proofs.Common.{◌≡◌, ℕ, ◌+◌, ◌<◌, ◌≤◌, List, [], ◌∷◌, sym, refl, ap, ◌∙◌, subst, arith}
+use Rattle.std.proofs.Common.{◌≡◌, ℕ, ◌+◌, List, [], ◌∷◌, sym, refl, ap, ◌∙◌, subst, arith}
 use contract.Lifetimes.{Lfts}
 use denote.Triple.Clauses as Clauses
 use borrow.Fn.World as World
@@ -16,10 +16,10 @@ use Rattle.supervision.specs.declared.Answer.{Answer}
 use Rattle.supervision.specs.declared.Happened.{Happened}
 use Rattle.supervision.specs.declared.Link.{Link}
 use Rattle.supervision.specs.declared.Shown.{Shown}
-use Rattle.supervision.specs.Rules.{Showing, State, silent, Step, begins, step, answers}
+use Rattle.supervision.specs.Rules.{Showing, State, step, answers}
 use Rattle.supervision.specs.Supervisor.{begun, shows}
-use Rattle.supervision.specs.Promise.{tick_at, Often, last, next, Calls, none, call, last_event, DeadBy, Lively, NeverDead, Promised}
-use Rattle.supervision.proofs.Ticks.{Holds, still, Same, same_step}
+use Rattle.supervision.specs.Promise.{tick_at, Often, last, next, Calls, none, call, last_event, DeadBy, NeverDead, Promised}
+use Rattle.supervision.proofs.Ticks.{Holds, still, same_step}
 use Rattle.supervision.proofs.Bounds.{quiet, in-time, never}
 
 -- ---- the promise

@@ -1,16 +1,15 @@
 -- Under the premise the wrapping difference is the true gap, and so the supervisor does what the rules do.
-use Rattle.std.proofs.Common.{◌≡◌, ℕ, ◌+◌, ◌-◌, ◌%◌, ◌<◌, ◌≤◌, Bool, true, false, leb, List, [], ◌∷◌, sym, refl, ap, ◌∙◌, subst, arith, le-leb, leb-false, leb-true}
+use Rattle.std.proofs.Common.{◌≡◌, ℕ, ◌+◌, ◌-◌, ◌<◌, ◌≤◌, Bool, true, false, leb, sym, refl, ◌∙◌, arith, le-leb, leb-false, leb-true}
 use borrow.Author.Tests.{lt-leb}
 use Rattle.base_choices.specs.Choices.{pick}
-use Rattle.supervision.specs.declared.Answer.{Answer}
 use Rattle.supervision.specs.declared.Happened.{Happened}
 use Rattle.supervision.specs.declared.Happened.TheVariants.{Nothing, Event, Request}
 use Rattle.supervision.specs.declared.Link.{Link}
 use Rattle.supervision.specs.declared.Link.TheVariants.{Silent, Asked, Dead}
 use Rattle.supervision.specs.declared.Shown.{Shown}
-use Rattle.supervision.specs.Rules.{Showing, State, silent, asked, dead, Step, begins, due, waits, hears, step, answers, after}
-use Rattle.supervision.specs.Supervisor.{wrap, elapsed, begun, is_due, waited, heard, shows}
-use Rattle.supervision.specs.Promise.{tick_at, Often, last, next, Calls, none, call}
+use Rattle.supervision.specs.Rules.{State, silent, asked, dead, Step, due, waits, hears, step}
+use Rattle.supervision.specs.Supervisor.{wrap, elapsed, is_due, waited, heard, shows}
+use Rattle.supervision.specs.Promise.{tick_at}
 
 -- "shown equal to the true gap under the shown-often premise" (document 01, "Forms"): of two times less than 2^32 ms apart the ticks' wrapping
 -- difference is the

@@ -8,7 +8,7 @@ use Rattle.supervision.specs.declared.Happened.TheVariants.{Nothing, Event, Requ
 use Rattle.supervision.specs.declared.Link.{Link}
 use Rattle.supervision.specs.declared.Shown.{Shown}
 use Rattle.supervision.specs.Rules.{Showing, begins, answers}
-use Rattle.supervision.specs.Supervisor.{wrap, begun, shows}
+use Rattle.supervision.specs.Supervisor.{wrap, shows}
 
 -- ---- "if its state comes back as left, every event is shown with its tick, the tick never goes back but at its wrap, and it is shown at least once in every
 -- 1,000 ms"

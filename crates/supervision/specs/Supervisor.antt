@@ -1,7 +1,6 @@
 -- The supervisor over ticks: what a showing gives, for every state and tick.
 use Rattle.std.specs.Prelude.{ℕ, ◌+◌, ◌-◌, ◌%◌, Bool, nat_le}
 use Rattle.base_choices.specs.Choices.{pick}
-use Rattle.supervision.specs.declared.Answer.{Answer}
 use Rattle.supervision.specs.declared.Answer.TheVariants as say
 use Rattle.supervision.specs.declared.Happened.{Happened}
 use Rattle.supervision.specs.declared.Happened.TheVariants.{Nothing, Event, Request}

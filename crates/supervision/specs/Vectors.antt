@@ -1,6 +1,5 @@
 -- Samples of the rules and of what counts, by computation: both sides of every bound.
-use Rattle.std.specs.Prelude.{◌≡◌, ℕ, List, [], ◌∷◌, map, refl}
-use Rattle.supervision.specs.declared.Answer.{Answer}
+use Rattle.std.specs.Prelude.{◌≡◌, ℕ, [], ◌∷◌, map, refl}
 use Rattle.supervision.specs.declared.Answer.TheVariants as say
 use Rattle.supervision.specs.declared.Happened.{Happened}
 use Rattle.supervision.specs.declared.Happened.TheVariants.{Nothing, Event, Request}
