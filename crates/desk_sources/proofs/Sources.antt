@@ -11,14 +11,12 @@ use lib.Dec.{eqb}
 use Rattle.base_choices.specs.Choices.{pick}
 use Rattle.desk_crosspoints.specs.Figures.{side}
 use Rattle.desk_crosspoints.specs.Crosspoints.{Cells, count, clear, legal}
-use Rattle.desk_crosspoints.specs.Desk.{Desk}
-use Rattle.desk_requests.specs.Request.{request, marked, named, requested}
+use Rattle.desk_requests.specs.Request.{request, marked, named}
 use Rattle.desk_requests.proofs.Answers.{request-legal-not}
 use Rattle.desk_crosspoints.proofs.Legal.{legal-fit}
 use Rattle.desk_crosspoints.proofs.Laws.{bit-set, bit-clear, count-le, fit-sources-le}
 use Rattle.desk_crosspoints.proofs.Counts.{clear-cell, clear-count}
 use Rattle.desk_requests.proofs.Rows.{named-length}
-use Rattle.glow_paths.specs.Paths.{numbers_in}
 use Rattle.desk_requests.specs.Lists.{has, once}
 use Rattle.desk_sources.specs.Gathered.{Kept, Handed}
 use Rattle.desk_requests.proofs.Sets.{has-held, has-not, has-out, out-request, set-request}
