@@ -18,7 +18,7 @@ use Rattle.glow_grammar.specs.Leaf.{expects}
 use Rattle.glow_trees.specs.Content.{Content, nothing, word, bytes, wrong, is_part, is_word, Item, item}
 use Rattle.glow_trees.specs.Trees.{Trees, none, tree, count, flat, stands_in}
 use Rattle.glow_trees.specs.Legal.{rule_at, suits, suited, complete, path_of, path_after, length_of, legal, legal_root, is_none, is_root, empty, inner}
-use Rattle.glow_paths.specs.Paths.{number_of, octets_of, list_of, numbers_in, is_qualified, nobody, path_up, full_path}
+use Rattle.glow_paths.specs.Paths.{number_of, octets_of, list_of, numbers_in, is_qualified, nobody, path_up}
 use Rattle.desk_connections.specs.Connections.{Ask, ask, ask_of, asks_in, asks_of}
 use Rattle.glow_paths.proofs.Items.{up_root, up-qualified, up-number}
 

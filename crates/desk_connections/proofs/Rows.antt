@@ -3,19 +3,16 @@ use Prim.Native.Nat.{ℕ, ◌≤◌, ◌<◌, ◌^◌}
 use mathlib.Core.Path.{◌≡◌, refl, sym, ap, subst, ◌∙◌}
 use mathlib.Core.List.{List, []}
 use native.Mathlib.Omega.{arith}
-use lib.IntN.{ℤ}
 use lib.ListN.{length, get_or, get_or-eq_default}
 use Rattle.glow_rows.specs.declared.Cell.{Cell}
-use Rattle.glow_rows.specs.Cell.{numbers, word_of, number_in, octets_in}
+use Rattle.glow_rows.specs.Cell.{numbers, number_in, octets_in}
 use Rattle.glow_rows.specs.Entry.{Rows}
 use Rattle.glow_rows.specs.Row.{cell_in, cells_from, row_cell}
 use Rattle.glow_trees.specs.Content.{Item, content_of}
 use Rattle.glow_trees.specs.Rows.{items_in}
-use Rattle.glow_entries.specs.declared.Number.{Number}
-use Rattle.glow_entries.specs.declared.Part.{Part}
 use Rattle.glow_entries.specs.declared.Connection.{Connection}
-use Rattle.glow_entries.specs.Member.{number_cell, part_cell, part_of}
-use Rattle.glow_entries.specs.Record.{connection_of, ConnectionWords}
+use Rattle.glow_entries.specs.Member.{part_cell}
+use Rattle.glow_entries.specs.Record.{connection_of}
 use Rattle.glow_entries.proofs.Words.{part-octets}
 use Rattle.glow_paths.specs.Paths.{number_of, octets_of, numbers_in, nobody, full_path, member_of}
 use Rattle.glow_paths.proofs.Items.{in-first, in-second, in-third, number-content, octets-content}
