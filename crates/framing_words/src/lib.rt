@@ -39,6 +39,7 @@ pub fn word_at(words: &[u64], i: usize) -> u64
     0
 }
 
+#[tactic(auto, unfolding(crate::specs::Words::frame_at))]
 fn frame_at(place: u64, length: usize) -> Frame
     ensures { result ≡ frame_at place length }
 {
@@ -57,6 +58,7 @@ fn frame_at(place: u64, length: usize) -> Frame
     }
 }
 
+#[tactic(auto, unfolding(crate::specs::Words::pending_at))]
 fn pending_at(pending: u64, length: usize) -> Pending
     ensures { result ≡ pending_at pending length }
 {
@@ -67,6 +69,7 @@ fn pending_at(pending: u64, length: usize) -> Pending
     }
 }
 
+#[tactic(auto, unfolding(crate::specs::Words::is_frame))]
 fn is_frame(place: u64, length: u64) -> bool
     ensures { result ≡ is_frame place length }
 {
@@ -76,6 +79,7 @@ fn is_frame(place: u64, length: u64) -> bool
     place <= 5
 }
 
+#[tactic(auto, unfolding(crate::specs::Words::is_pending))]
 fn is_pending(pending: u64, length: u64) -> bool
     ensures { result ≡ is_pending pending length }
 {
