@@ -27,7 +27,7 @@ use Rattle.glow_walk.specs.declared.Walked.TheVariants.{Read, Refused as NotRead
 use Rattle.glow_steps.specs.Members.{due, member_at, item_at}
 use Rattle.glow_steps.proofs.Laws.{member-due, member-done}
 use Rattle.glow_walk.specs.Tree.{Out, out, closed, MembersGive, ItemsGive}
-use Rattle.glow_walk.specs.Progress.{counted, cursor, onward_of, ended_of, WalkedOnward, TurnOnward, Closes, Fills, FillsIn, Held, Turns}
+use Rattle.glow_walk.specs.Progress.{cursor, onward_of, ended_of, WalkedOnward, TurnOnward, Closes, Fills, FillsIn, Held, Turns}
 use Rattle.glow_walk.specs.Progress.{MembersLeft, ItemsLeft, MembersFill, ItemsFill, ContentsFill, ListFill, EntryFill, MembersTurn, ItemsTurn}
 use Rattle.glow_walk.proofs.Ways.{members-done, members-no, members-over, members-leaf, contents-no, contents-in, list-no, list-in}
 use Rattle.glow_walk.proofs.Ways.{items-done, items-no, element-no, element-in, counted-no, counted-read}

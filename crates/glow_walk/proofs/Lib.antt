@@ -2,3 +2,4 @@
 pub mod Ways
 pub mod Rooted
 pub mod Held
+pub mod Loops
