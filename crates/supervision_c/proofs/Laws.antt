@@ -13,9 +13,9 @@ use Rattle.supervision.specs.declared.Link.{Link}
 use Rattle.supervision.specs.declared.Link.TheVariants.{Silent, Asked, Dead}
 use Rattle.supervision.specs.declared.Shown.{Shown}
 use Rattle.supervision.specs.Events.{happened_by}
-use Rattle.supervision.specs.Supervisor.{wrap, begun, shows}
-use Rattle.supervision_c.specs.Words.{place_word, tick_word, words_of, link_from, link_at, is_pair, is_link, number_of}
-use Rattle.supervision_c.specs.Calls.{starts, calls}
+use Rattle.supervision.specs.Supervisor.{wrap, shows}
+use Rattle.supervision_c.specs.Words.{tick_word, words_of, link_from, link_at, is_pair, is_link, number_of}
+use Rattle.supervision_c.specs.Calls.{calls}
 
 -- ---- states and words
 

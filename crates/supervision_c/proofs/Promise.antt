@@ -8,7 +8,7 @@ use mathlib.Core.Path.{◌≡◌, refl, sym, ap, subst, ◌∙◌}
 use native.Mathlib.Omega.{arith}
 use borrow.Author.Tests.{eq-eqb, eqb-true, ltb-true}
 use contract.Lifetimes.{Lfts}
-use denote.Ref.{Bor}
+use denote.Ref.{MutBor}
 use denote.Triple.Clauses as Clauses
 use borrow.Fn.World as World
 use borrow.Fn.Kinds as K
@@ -125,6 +125,7 @@ never-numbers [] h = tt
 never-numbers (r ∷ rs) h = (dead-number r h.0, never-numbers rs h.1)
 
 by-numbers : {t : ℕ} (xs : List Seen) (rs : List Answer) → rules.DeadBy t (showings xs) rs → DeadBy t xs (map number_of rs)
+by-numbers {t = t} [] rs x' = elim x' [ ]
 by-numbers (x ∷ xs) rs (rules.here h) = here h
 by-numbers (x ∷ xs) (r ∷ rs) (rules.later k) = later (by-numbers xs rs k)
 
@@ -296,9 +297,9 @@ pub record Call (ws : List ℕ) (tick n : ℕ) (r : Called) : Type 0 where
   pub left-are : exits.0.now ≡ r.link
   pub ensured : show-reads.Post κs args r.number exits
 
--- a lent slice that holds xs
-lent : List ℕ → Bor (List ℕ)
-lent xs = record { ref_ptr = (0, 0); now = xs }
+-- a slice that holds xs, lent to be written
+lent : List ℕ → MutBor (List ℕ)
+lent xs = record { ref_ptr = (0, 0); ghost_name = 0; now = xs }
 
 -- What the calls give is what `starts` and `calls` say, and nothing else.
 pub start-says : {ws : List ℕ} {tick n : ℕ} {ws' : List ℕ} → Started ws tick n ws' → starts ws tick ≡ record { number = n; link = ws' }
