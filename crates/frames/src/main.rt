@@ -2,14 +2,15 @@
 // each event and one at the end.
 #![tactic(auto)]
 
-ghost use Rattle.std.specs.Prelude.{◌≡◌, ◌+◌, ◌≤◌, min, length};
+ghost use Rattle.std.specs.Prelude.{◌≡◌, ◌+◌, ◌≤◌, min, length, IfOk};
 ghost use Rattle.framing_session.specs.Session.{said_by};
 ghost use Rattle.base_output.specs.Output.{wrote};
 ghost use Rattle.framing_lines.specs.Text.{bad_line_text, event_text, end_text, line_room};
 
 use framing::{Event, Session};
 use framing_digits::{Line, Stop};
-use libc::{STDERR_FILENO, STDIN_FILENO, STDOUT_FILENO};
+use std::io;
+use std::io::Read;
 
 // What is kept from chunk to chunk: the session, the count of bytes consumed, how many bytes of output wait, and
 // whether all is done.
@@ -28,23 +29,23 @@ struct Run {
     line: Line,
 }
 
-// Writes the output that waits. A write that fails is not told: there is no place to tell it.
-fn write_out(out: &[u8], waiting: usize)
+// Writes the output that waits.
+fn write_out(rt: &impl Print, out: &[u8], waiting: usize) -> io::Result<()>
     requires { waiting ≤ length out.now }
 {
-    io::write_all(STDOUT_FILENO, &out[..waiting]);
+    rt.write_all(&out[..waiting])
 }
 
 // Writes the output that waits, where less than a line's room is left, and answers how much waits then.
-fn make_room(out: &[u8], waiting: usize) -> usize
+fn make_room(rt: &impl Print, out: &[u8], waiting: usize) -> io::Result<usize>
     requires { waiting ≤ length out.now }
-    ensures { result ≤ 30000 }
+    ensures { IfOk result (λ n. n ≤ 30000) }
 {
     if waiting <= 30000 {
-        return waiting;
+        return Ok(waiting);
     }
-    write_out(out, waiting);
-    0
+    write_out(rt, out, waiting)?;
+    Ok(0)
 }
 
 // An event's line, which has room.
@@ -73,15 +74,22 @@ fn put_end(out: &mut [u8], at: usize, offset: u64, session: Session) -> usize
 }
 
 // Puts an event's line to the output that waits.
-fn report(out: &mut [u8], waiting: usize, offset: u64, event: Event, store: &[u8]) -> usize
+fn report(
+    rt: &impl Print,
+    out: &mut [u8],
+    waiting: usize,
+    offset: u64,
+    event: Event,
+    store: &[u8],
+) -> io::Result<usize>
     requires { (length out.old ≡ 65536) × ((waiting ≤ 65536) × (length store.now ≤ 17408)) }
-    ensures { result ≤ 65536 }
+    ensures { IfOk result (λ n. n ≤ 65536) }
 {
     if let Event::More = event {
-        return waiting;
+        return Ok(waiting);
     }
-    let at = make_room(out, waiting);
-    put_event(out, at, offset, event, store)
+    let at = make_room(rt, out, waiting)?;
+    Ok(put_event(out, at, offset, event, store))
 }
 
 // The sum, or the largest number of 64 bits where it is more.
@@ -95,9 +103,15 @@ fn sum(a: u64, b: u64) -> u64
 }
 
 // Offers a chunk until it is consumed.
-fn offer(reader: Reader, store: &mut [u8], chunk: &[u8], out: &mut [u8]) -> Reader
+fn offer(
+    rt: &impl Print,
+    reader: Reader,
+    store: &mut [u8],
+    chunk: &[u8],
+    out: &mut [u8],
+) -> io::Result<Reader>
     requires { (length store.old ≡ 17408) × ((length out.old ≡ 65536) × (reader.waiting ≤ 65536)) }
-    ensures { result.waiting ≤ 65536 }
+    ensures { IfOk result (λ last. last.waiting ≤ 65536) }
 {
     let mut session = reader.session;
     let mut offset = reader.offset;
@@ -111,60 +125,67 @@ fn offer(reader: Reader, store: &mut [u8], chunk: &[u8], out: &mut [u8]) -> Read
         let total = sum(offset, consumed as u64);
         // Only 1 SETUP consumes nothing, and no stream has 2^64 bytes: neither comes here, and either would end the run.
         if consumed == 0 || total == u64::MAX {
-            return Reader {
+            return Ok(Reader {
                 session,
                 offset,
                 waiting,
                 done: true,
-            };
+            });
         }
         from += consumed;
         offset = total;
         session = next;
-        waiting = report(out, waiting, offset, event, store);
+        waiting = report(rt, out, waiting, offset, event, store)?;
     }
-    Reader {
+    Ok(Reader {
         session,
         offset,
         waiting,
         done: false,
-    }
+    })
 }
 
 // The run ends at a bad line.
-fn refuse(reader: Reader, out: &mut [u8]) -> Reader
+fn refuse(rt: &impl Print, reader: Reader, out: &mut [u8]) -> io::Result<Reader>
     requires { (length out.old ≡ 65536) × (reader.waiting ≤ 65536) }
-    ensures { result.waiting ≤ 65536 }
+    ensures { IfOk result (λ last. last.waiting ≤ 65536) }
 {
-    let at = make_room(out, reader.waiting);
+    let at = make_room(rt, out, reader.waiting)?;
     let mut last = reader;
     last.waiting = put_bad_line(out, at);
     last.done = true;
-    last
+    Ok(last)
 }
 
 // The run ends at the input's end.
-fn finish(run: Run, out: &mut [u8]) -> Reader
+fn finish(rt: &impl Print, run: Run, out: &mut [u8]) -> io::Result<Reader>
     requires { (length out.old ≡ 65536) × (run.reader.waiting ≤ 65536) }
-    ensures { result.waiting ≤ 65536 }
+    ensures { IfOk result (λ last. last.waiting ≤ 65536) }
 {
     let line = run.line;
     let mut last = run.reader;
     if line.high != 16 {
-        return refuse(last, out);
+        return refuse(rt, last, out);
     }
-    let at = make_room(out, last.waiting);
+    let at = make_room(rt, out, last.waiting)?;
     let session = last.session;
     last.waiting = put_end(out, at, last.offset, session);
     last.done = true;
-    last
+    Ok(last)
 }
 
 // Takes a block of the input, line by line.
-fn take_block(run: Run, block: &[u8], chunk: &mut [u8], store: &mut [u8], out: &mut [u8]) -> Run
+fn take_block(
+    rt: &impl Print,
+    run: Run,
+    block: &[u8],
+    chunk: &mut [u8],
+    store: &mut [u8],
+    out: &mut [u8],
+) -> io::Result<Run>
     requires block_in_bounds { (length block.now ≤ length chunk.old) × ((length store.old ≡ 17408) × (length out.old ≡ 65536)) }
     requires waiting_bound { (run.reader.waiting ≤ 65536) × (run.line.high ≤ 16) }
-    ensures { (result.reader.waiting ≤ 65536) × (result.line.high ≤ 16) }
+    ensures { IfOk result (λ next. (next.reader.waiting ≤ 65536) × (next.line.high ≤ 16)) }
 {
     let mut reader = run.reader;
     let mut line = run.line;
@@ -176,61 +197,69 @@ fn take_block(run: Run, block: &[u8], chunk: &mut [u8], store: &mut [u8], out: &
         let stop = s.stop;
         from = s.next;
         line = next;
-        reader = offer(reader, store, &chunk[..count], out);
+        reader = offer(rt, reader, store, &chunk[..count], out)?;
         if reader.done {
-            return Run { reader, line };
+            return Ok(Run { reader, line });
         }
         if let Stop::Fault = stop {
-            let last = refuse(reader, out);
-            return Run { reader: last, line };
+            let last = refuse(rt, reader, out)?;
+            return Ok(Run { reader: last, line });
         }
     }
-    Run { reader, line }
+    Ok(Run { reader, line })
 }
 
 // Reads a block and takes it.
-fn turn(run: Run, input: &mut [u8], chunk: &mut [u8], store: &mut [u8], out: &mut [u8]) -> Run
+fn turn(
+    rt: &(impl Print + Eprint),
+    from: &mut impl Read,
+    run: Run,
+    input: &mut [u8],
+    chunk: &mut [u8],
+    store: &mut [u8],
+    out: &mut [u8],
+) -> io::Result<Run>
     requires input_in_bounds { (length input.old ≤ length chunk.old) × ((length store.old ≡ 17408) × (length out.old ≡ 65536)) }
     requires waiting_bound { (run.reader.waiting ≤ 65536) × (run.line.high ≤ 16) }
-    ensures { (result.reader.waiting ≤ 65536) × (result.line.high ≤ 16) }
+    ensures { IfOk result (λ next. (next.reader.waiting ≤ 65536) × (next.line.high ≤ 16)) }
 {
-    let got = libc::read(STDIN_FILENO, input);
     let line = run.line;
-    if got < 0 {
-        io::write_all(STDERR_FILENO, b"frames: the input cannot be read\n");
+    let Ok(n) = from.read(input) else {
+        rt.eprint("frames: the input cannot be read\n")?;
         let mut reader = run.reader;
         reader.done = true;
-        return Run { reader, line };
+        return Ok(Run { reader, line });
+    };
+    if n == 0 {
+        let reader = finish(rt, run, out)?;
+        return Ok(Run { reader, line });
     }
-    if got == 0 {
-        let reader = finish(run, out);
-        return Run { reader, line };
-    }
-    let n = io::count(got, input);
-    take_block(run, &input[..n], chunk, store, out)
+    take_block(rt, run, &input[..n], chunk, store, out)
 }
 
 // A turn on the program's own arrays.
 fn next(
+    rt: &(impl Print + Eprint),
+    from: &mut impl Read,
     run: Run,
     input: &mut [u8; 65536],
     chunk: &mut [u8; 65536],
     store: &mut [u8; 17408],
     out: &mut [u8; 65536],
-) -> Run
+) -> io::Result<Run>
     requires { (run.reader.waiting ≤ 65536) × (run.line.high ≤ 16) }
-    ensures { (result.reader.waiting ≤ 65536) × (result.line.high ≤ 16) }
+    ensures { IfOk result (λ next. (next.reader.waiting ≤ 65536) × (next.line.high ≤ 16)) }
 {
-    turn(run, input, chunk, store, out)
+    turn(rt, from, run, input, chunk, store, out)
 }
 
-fn write_rest(out: &[u8; 65536], waiting: usize)
+fn write_rest(rt: &impl Print, out: &[u8; 65536], waiting: usize) -> io::Result<()>
     requires { waiting ≤ 65536 }
 {
-    write_out(out, waiting)
+    write_out(rt, out, waiting)
 }
 
-fn main() {
+fn main(rt: HostRuntime) -> io::Result<()> {
     let mut input = [0u8; 65536];
     let mut chunk = [0u8; 65536];
     let mut out = [0u8; 65536];
@@ -242,6 +271,7 @@ fn main() {
         done: false,
     };
     let mut line = framing_digits::start();
+    let mut stdin = rt.stdin();
     // A proved loop has to end, and nothing says that an input does: it counts down from a number that no run uses up.
     let mut turns = u64::MAX;
     while turns > 0 {
@@ -249,15 +279,17 @@ fn main() {
             break;
         }
         let run = next(
+            &rt,
+            &mut stdin,
             Run { reader, line },
             &mut input,
             &mut chunk,
             &mut store,
             &mut out,
-        );
+        )?;
         reader = run.reader;
         line = run.line;
         turns -= 1;
     }
-    write_rest(&out, reader.waiting);
+    write_rest(&rt, &out, reader.waiting)
 }
