@@ -12,6 +12,7 @@
 use program_lines::input::Input;
 use program_lines::text::Decimal;
 use program_lines::{input, print, text};
+use std::io;
 use supervision::{Answer, Happened, Link};
 
 #[derive(Clone, Copy)]
@@ -108,76 +109,78 @@ fn read(line: &[u8]) -> Line {
     Line::Bad
 }
 
-fn say(answer: Answer) {
+fn say(rt: &impl Print, answer: Answer) -> io::Result<()> {
     match answer {
-        Answer::Nothing => print::say(b"-\n"),
-        Answer::Ask => print::say(b"ask\n"),
-        Answer::Respond => print::say(b"answer\n"),
-        Answer::Dead => print::say(b"dead\n"),
+        Answer::Nothing => print::say(rt, b"-\n"),
+        Answer::Ask => print::say(rt, b"ask\n"),
+        Answer::Respond => print::say(rt, b"answer\n"),
+        Answer::Dead => print::say(rt, b"dead\n"),
     }
 }
 
-fn refuse(watch: Watch) -> Watch {
-    print::bad_line();
-    watch
+fn refuse(rt: &impl Print, watch: Watch) -> io::Result<Watch> {
+    print::bad_line(rt)?;
+    Ok(watch)
 }
 
-fn begin(watch: Watch, tick: u32) -> Watch {
+fn begin(rt: &impl Print, watch: Watch, tick: u32) -> io::Result<Watch> {
     match watch {
-        Watch::Before => Watch::Since(supervision::start(tick)),
-        Watch::Since(_) => refuse(watch),
+        Watch::Before => Ok(Watch::Since(supervision::start(tick))),
+        Watch::Since(_) => refuse(rt, watch),
     }
 }
 
-fn show(watch: Watch, tick: u32, happened: Happened) -> Watch {
+fn show(rt: &impl Print, watch: Watch, tick: u32, happened: Happened) -> io::Result<Watch> {
     match watch {
-        Watch::Before => refuse(watch),
+        Watch::Before => refuse(rt, watch),
         Watch::Since(link) => {
             let shown = supervision::show(link, tick, happened);
             let answer = shown.answer;
             let next = shown.link;
-            say(answer);
-            Watch::Since(next)
+            say(rt, answer)?;
+            Ok(Watch::Since(next))
         }
     }
 }
 
-fn answer(watch: Watch, line: Line) -> Watch {
+fn answer(rt: &impl Print, watch: Watch, line: Line) -> io::Result<Watch> {
     match line {
-        Line::Start(tick) => begin(watch, tick),
-        Line::Showing(tick, happened) => show(watch, tick, happened),
-        Line::Bad => refuse(watch),
+        Line::Start(tick) => begin(rt, watch, tick),
+        Line::Showing(tick, happened) => show(rt, watch, tick, happened),
+        Line::Bad => refuse(rt, watch),
     }
 }
 
 // Answers the line that was found.
-fn finish(watch: Watch, found: Input, line: &[u8]) -> Watch {
+fn finish(rt: &impl Print, watch: Watch, found: Input, line: &[u8]) -> io::Result<Watch> {
     let n = found.len;
     if found.long {
-        return refuse(watch);
+        return refuse(rt, watch);
     }
     if n <= line.len() {
-        return answer(watch, read(&line[..n]));
+        return answer(rt, watch, read(&line[..n]));
     }
-    watch
+    Ok(watch)
 }
 
-fn main() {
+fn main(rt: HostRuntime) -> io::Result<()> {
     // No line that is taken is longer.
     let mut space = [0u8; 64];
     let line: &mut [u8] = &mut space;
-    let mut buffer = io::large_buffer();
+    let mut buffer = [0u8; 65536];
     let block: &mut [u8] = &mut buffer;
     let mut found = input::start();
+    let mut reader = rt.stdin();
     let mut watch = Watch::Before;
     // A proved loop has to end: it counts down from a number that no run uses up.
     let mut turns = u64::MAX;
     while turns > 0 {
         turns = turns - 1;
-        found = input::next(found, block, line);
+        found = input::next(&mut reader, found, block, line)?;
         if found.ended {
             break;
         }
-        watch = finish(watch, found, line);
+        watch = finish(&rt, watch, found, line)?;
     }
+    Ok(())
 }
