@@ -10,7 +10,7 @@ use Rattle.ber_values.specs.Value.{boolean, bool_at, is_listed, kind_at, content
 use Rattle.ber_containers.specs.Ends.{zero_at, closing_at, standing_at, deep, enter_at, first_at, last_at, is_tag}
 use Rattle.ber_containers.specs.Passing.{skipped, cross_at, through_by, passed_at}
 use Rattle.glow_rows.specs.Cell.{cell}
-use Rattle.glow_rows.specs.Entry.{Entry, Entries, Rows, blanks, blank, with_cell, put_cell, words, row, overlay}
+use Rattle.glow_rows.specs.Entry.{Entry, Entries, Rows, blanks, blank, with_cell, put_cell, words, overlay}
 use Rattle.glow_grammar.specs.Grammar.{members, rule_of, requirements, required, is_set, contents_rows, contents_of, applications, holds, kind_among, kind_in}
 use Rattle.glow_grammar.specs.Grammar.{inner_class, inner_number, collection_of, root_of}
 use Rattle.glow_grammar.specs.Leaf.{expects, least, most, in_range, is_letter, no_slash, is_name, all_positive, is_path, number_leaf, text_leaf, numbers_at, leaf_at}

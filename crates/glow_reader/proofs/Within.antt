@@ -28,7 +28,7 @@ use Rattle.glow_steps.specs.declared.Item.TheVariants.{Done as NoMore, Element, 
 use Rattle.glow_steps.specs.declared.Top.{Top}
 use Rattle.glow_steps.specs.declared.Top.TheVariants.{Root, Refused as NoRoot}
 use Rattle.glow_steps.specs.Members.{member_at, item_at}
-use Rattle.glow_walk.specs.Tree.{Out, out, closed, on_next, then_closed, on_member, on_item, members_by, items_by}
+use Rattle.glow_walk.specs.Tree.{Out, closed, on_next, then_closed, on_member, on_item, members_by, items_by}
 use Rattle.glow_steps.specs.Root.{unbounded, root_kind, root_in, top_of, top_at}
 use Rattle.glow_walk.specs.Walk.{finished, walk_of, walk}
 use Rattle.glow_reader.specs.Message.{refusals}
