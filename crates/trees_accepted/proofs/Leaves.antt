@@ -39,7 +39,6 @@ use Rattle.base_choices.specs.Choices.{both}
 use Rattle.base_choices.proofs.Laws.{pick-by, pick-false, both-make}
 use Rattle.glow_grammar.specs.declared.Leaf.{Leaf}
 use Rattle.glow_grammar.specs.declared.Leaf.TheVariants.{Kept, Refused as Not}
-use Rattle.glow_grammar.specs.Grammar.{path}
 use Rattle.glow_grammar.specs.Leaf.{expects, in_range, is_name, is_path}
 use Rattle.glow_grammar.specs.Leaf.{number_leaf, text_leaf, judged, path_leaf, list_leaf, numbers_at, leaf_at}
 use Rattle.glow_grammar.proofs.Tables.{expects-step, expects-text, expects-numbers}

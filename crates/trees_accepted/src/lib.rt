@@ -1,3 +1,2 @@
 // What the reader accepts is a legal tree: theorems alone.
 #![tactic(auto)]
-
