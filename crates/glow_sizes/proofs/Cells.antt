@@ -1,22 +1,21 @@
 -- An entry's cells: their rules, and the sum of their sizes.
-use Prim.Native.Nat.{ℕ, zero, suc, ◌+◌, ◌-◌, ◌*◌, ◌≤◌, ◌<◌}
-use mathlib.Core.Path.{◌≡◌, refl, sym, ap, subst, ◌∙◌}
-use mathlib.Core.Bool.{Bool, true, false, not}
-use mathlib.Core.List.{List, [], ◌∷◌, ◌++◌}
-use mathlib.Core.Logic.{◌⊎◌, ⊎_elim, inl, inr}
+use Prim.Native.Nat.{ℕ, suc, ◌+◌, ◌-◌, ◌≤◌, ◌<◌}
+use mathlib.Core.Path.{◌≡◌, refl, sym, ap, ◌∙◌}
+use mathlib.Core.Bool.{Bool, true, false}
+use mathlib.Core.List.{List}
 use native.Mathlib.Omega.{arith}
-use borrow.Author.Tests.{eq-eqb, ne_eqb, le-leb, lt-leb, leb-true}
-use lib.Dec.{T, leb, eqb}
-use lib.ListN.{length, take, drop, get_or, length-append}
+use borrow.Author.Tests.{eq-eqb, ne_eqb, leb-true}
+use lib.Dec.{leb}
+use lib.ListN.{length}
 use Rattle.base_choices.specs.Choices.{pick}
 use Rattle.glow_rows.specs.declared.Cell.{Cell}
-use Rattle.glow_trees.specs.Content.{Content, nothing, word, bytes, wrong, content_of, contents_of}
+use Rattle.glow_trees.specs.Content.{Content, content_of, contents_of}
 use Rattle.glow_trees.specs.Rows.{cell_at, cells_from}
-use Rattle.glow_trees.specs.Legal.{suits, rule_at, suited}
-use Rattle.glow_trees.specs.Written.{tagged, member_octets, members_octets}
+use Rattle.glow_trees.specs.Legal.{suits, rule_at}
+use Rattle.glow_trees.specs.Written.{member_octets}
 use Rattle.glow_member_sizes.specs.Sizes.{cap, tagged_size, member_size}
 use Rattle.glow_sizes.specs.Sizes.{cells_size, wrapped_size}
-use Rattle.glow_member_sizes.proofs.Caps.{cap-in, cap-over, cap-left, cap-right}
+use Rattle.glow_member_sizes.proofs.Caps.{cap-in, cap-right}
 use Rattle.glow_member_sizes.proofs.Members.{twice}
 
 -- ---- an outer tag that may be left out

@@ -1,16 +1,15 @@
 -- An entry's size: its own members, and its contents in their outer tag.
-use Prim.Native.Nat.{ℕ, zero, suc, ◌+◌, ◌-◌, ◌*◌, ◌≤◌, ◌<◌}
+use Prim.Native.Nat.{ℕ, zero, suc, ◌+◌, ◌-◌, ◌≤◌, ◌<◌}
 use mathlib.Core.Path.{◌≡◌, refl, sym, ap, subst, ◌∙◌}
 use mathlib.Core.Bool.{Bool, true, false, not}
 use mathlib.Core.List.{List, [], ◌∷◌, ◌++◌}
-use mathlib.Core.Logic.{◌⊎◌, ⊎_elim, inl, inr}
 use native.Mathlib.Omega.{arith}
-use borrow.Author.Tests.{eq-eqb, ne_eqb, le-leb, lt-leb, lt-ltb, eqb-true}
+use borrow.Author.Tests.{ne_eqb, le-leb, lt-leb}
 use lib.Dec.{T, leb, ltb, eqb}
-use lib.ListN.{length, take, drop, get_or, length-append}
+use lib.ListN.{length, length-append}
 use Rattle.base_choices.specs.Choices.{pick, both}
 use Rattle.base_choices.proofs.Laws.{both_left, both_right}
-use Rattle.ber_tags.specs.Write.{tag_octets, length_octets}
+use Rattle.ber_tags.specs.Write.{tag_octets}
 use Rattle.glow_grammar.specs.Grammar.{required}
 use Rattle.glow_grammar.specs.Grammar as grammar
 use Rattle.glow_trees.specs.Content.{Content, nothing, word, bytes, wrong, content_of, contents_of}
@@ -18,7 +17,7 @@ use Rattle.glow_trees.specs.Rows.{cell_at, cells_from}
 use Rattle.glow_trees.specs.Legal.{suits, rule_at, suited, present, complete, path_after, empty, inner}
 use Rattle.glow_trees.specs.Written.{tagged, spelled, member_octets, members_octets, wrapped, own}
 use Rattle.glow_sizes.specs.declared.Entered.{Entered}
-use Rattle.glow_member_sizes.specs.Sizes.{cap, tagged_size, member_size}
+use Rattle.glow_member_sizes.specs.Sizes.{cap, member_size}
 use Rattle.glow_sizes.specs.Sizes.{cells_size, wrapped_size, is_entry, entry_octets, entered, split}
 use Rattle.glow_member_sizes.proofs.Caps.{cap-in, cap-over, cap-left, cap-right}
 use Rattle.glow_member_sizes.proofs.Members.{tagged-length, outer-length}

@@ -1,11 +1,11 @@
 -- Where a kind may stand, what it must have, and the path's numbers.
-use Prim.Native.Nat.{ℕ, zero, suc, ◌+◌, ◌-◌, ◌≤◌, ◌<◌}
+use Prim.Native.Nat.{ℕ, zero, suc, ◌+◌, ◌≤◌, ◌<◌}
 use mathlib.Core.Path.{◌≡◌, refl, sym, ap, subst, ◌∙◌}
 use mathlib.Core.Bool.{Bool, true, false, not}
 use mathlib.Core.List.{List, [], ◌∷◌}
-use mathlib.Core.Logic.{◌⊎◌, ⊎_elim, inl, inr}
+use mathlib.Core.Logic.{⊎_elim}
 use native.Mathlib.Omega.{arith}
-use borrow.Author.Tests.{eq-eqb, ne_eqb, le-leb, lt-leb, lt-ltb, eqb-true, eqb-false, leb-true}
+use borrow.Author.Tests.{eq-eqb, ne_eqb, le-leb, lt-leb, eqb-true, eqb-false}
 use lib.Dec.{T, leb, ltb, eqb}
 use lib.ListN.{length, take, drop, get_or}
 use Rattle.base_choices.specs.Choices.{pick}
@@ -17,10 +17,10 @@ use Rattle.ber_identifiers.specs.Identifier as oid
 use Rattle.glow_rows.specs.declared.Cell.{Cell}
 use Rattle.glow_grammar.specs.Grammar.{holds, required, requirements}
 use Rattle.glow_grammar.specs.Grammar as grammar
-use Rattle.glow_grammar.specs.Leaf.{expects, is_path}
+use Rattle.glow_grammar.specs.Leaf.{expects}
 use Rattle.glow_trees.specs.Content.{Content, nothing, word, bytes, wrong, is_part, is_word, content_of}
 use Rattle.glow_trees.specs.Trees.{among, stands_in}
-use Rattle.glow_trees.specs.Legal.{suits, word_suits, part_suits, path_suits, present, length_of, path_of}
+use Rattle.glow_trees.specs.Legal.{suits, word_suits, part_suits, present, length_of, path_of}
 use Rattle.ber_integers.proofs.Radix.{lt-or-le}
 use Rattle.ber_identifiers.proofs.Laws.{oid-within}
 use Rattle.glow_sizes.specs.Sizes.{path_cap, split, keyed}

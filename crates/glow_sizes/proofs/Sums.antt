@@ -2,12 +2,12 @@
 use Prim.Native.Nat.{ℕ, zero, suc, ◌+◌, ◌-◌, ◌*◌, ◌≤◌, ◌<◌}
 use mathlib.Core.Path.{◌≡◌, refl, sym, ap, subst, ◌∙◌}
 use mathlib.Core.Bool.{Bool, true, false, not}
-use mathlib.Core.List.{List, [], ◌∷◌, ◌++◌}
+use mathlib.Core.List.{List, [], ◌∷◌}
 use mathlib.Core.Logic.{◌⊎◌, ⊎_elim, inl, inr}
 use native.Mathlib.Omega.{arith}
-use borrow.Author.Tests.{eq-eqb, ne_eqb, le-leb, lt-leb, lt-ltb, eqb-true, eqb-false, leb-false}
-use lib.Dec.{T, leb, ltb, eqb}
-use lib.ListN.{length, take, drop, get_or, length-append}
+use borrow.Author.Tests.{ne_eqb, eqb-true, eqb-false, leb-false}
+use lib.Dec.{T, leb, eqb}
+use lib.ListN.{length, get_or}
 use Rattle.base_choices.specs.Choices.{pick, both}
 use Rattle.base_choices.proofs.Laws.{both_left, both_right}
 use Rattle.ber_integers.proofs.Radix.{lt-or-le}
@@ -17,10 +17,10 @@ use Rattle.glow_rows.specs.declared.Cell.{Cell}
 use Rattle.glow_trees.specs.Content.{Content, nothing, word, bytes, wrong, content_of, contents_of}
 use Rattle.glow_trees.specs.Rows.{cell_at, cells_from}
 use Rattle.glow_trees.specs.Legal.{suits, rule_at, suited, present, complete, path_of, path_after, empty, inner}
-use Rattle.glow_trees.specs.Written.{member_octets, members_octets, wrapped, own}
+use Rattle.glow_trees.specs.Written.{members_octets, own}
 use Rattle.glow_sizes.specs.declared.Entered.{Entered}
 use Rattle.glow_member_sizes.specs.Sizes.{cap, tagged_size}
-use Rattle.glow_sizes.specs.Sizes.{cells_size, wrapped_size, path_cap, is_entry, entry_octets, entered, split, keyed, entered_at}
+use Rattle.glow_sizes.specs.Sizes.{cells_size, wrapped_size, path_cap, entry_octets, entered, split, keyed, entered_at}
 use Rattle.glow_member_sizes.proofs.Caps.{cap-in, cap-over, cap-right}
 use Rattle.glow_sizes.proofs.Places.{kind-present, kind-absent, cap-few, cap-many}
 use Rattle.glow_sizes.proofs.Entry.{sized, cells-sized, wrapped-length, members-empty, own_is, inner-is, suited-is, cells-length, not-suited}

@@ -2,7 +2,7 @@
 use Rattle.std.specs.Prelude.{ℕ, List, [], ◌∷◌, Bool, true, false, length, leb}
 use Rattle.base_choices.specs.Choices.{pick, both}
 use Rattle.glow_trees.specs.Content.{Item}
-use Rattle.glow_trees.specs.Trees.{Trees, Taken, trees_of}
+use Rattle.glow_trees.specs.Trees.{trees_of}
 use Rattle.glow_trees.specs.Legal.{legal_root}
 use Rattle.glow_trees.specs.Written.{message_octets}
 use Rattle.glow_member_sizes.specs.Spelling.{least_real}

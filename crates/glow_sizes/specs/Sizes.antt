@@ -1,5 +1,5 @@
 -- Sizes of entries and trees. A size over the longest message's is no_size, and so is the size of what is not legal.
-use Rattle.std.specs.Prelude.{ℕ, zero, suc, ◌+◌, ◌-◌, ◌<◌, ◌≡◌, List, [], ◌∷◌, Bool, true, false, not, length, drop, get_or, leb, eqb}
+use Rattle.std.specs.Prelude.{ℕ, suc, ◌+◌, ◌-◌, ◌<◌, ◌≡◌, List, [], ◌∷◌, Bool, true, false, not, length, drop, get_or, leb, eqb}
 use Rattle.base_choices.specs.Choices.{pick, both}
 use Rattle.glow_grammar.specs.Grammar.{required, universal, contents_member, set}
 use Rattle.glow_grammar.specs.Grammar as grammar
