@@ -7,7 +7,7 @@ use mathlib.Core.Path.{◌≡◌, refl, sym, ap, subst, ◌∙◌}
 use native.Mathlib.Omega.{arith}
 use borrow.Author.Tests.{eq-eqb}
 use contract.Lifetimes.{Lfts}
-use denote.Ref.{Bor}
+use denote.Ref.{Bor, MutBor}
 use denote.Triple.Clauses as Clauses
 use borrow.Fn.World as World
 use borrow.Fn.Kinds as K
@@ -22,7 +22,7 @@ use Rattle.base_choices.proofs.Laws.{pick-by}
 use Rattle.framing_content.specs.Numbers.{store_length, message_limit, feed_numbers}
 use Rattle.framing.specs.Offers as offers
 use Rattle.framing_session.specs.Rules.{begin, happens, after}
-use Rattle.framing_session.specs.Session.{said_by, state_of, session_of, legal, Legal, Whole, answers, feeds}
+use Rattle.framing_session.specs.Session.{said_by, state_of, session_of, Legal, Whole, answers, feeds}
 use Rattle.framing_session.proofs.Laws.{true-legal}
 use Rattle.framing.proofs.Sayable.{legal-answered}
 use Rattle.framing.proofs.Chunks as chunks
@@ -50,9 +50,7 @@ use Rattle.framing_c.proofs.framing_write_frame.Reads as frame-reads
 use Rattle.framing_c.specs.contracts.framing_write_request
 use Rattle.framing_c.proofs.framing_write_request.Kinds as request-kinds
 use Rattle.framing_c.proofs.framing_write_request.Reads as request-reads
-use Rattle.framing_c.specs.contracts.framing_write_response
 use Rattle.framing_c.proofs.framing_write_response.Reads as response-reads
-use Rattle.framing_c.specs.contracts.framing_write_message
 use Rattle.framing_c.proofs.framing_write_message.Reads as message-reads
 
 -- ---- the contracts
@@ -129,14 +127,18 @@ ResponseWrite out count r = KeepAlive response-reads.Post out count r
 lent : {A : Type 0} → A → Bor A
 lent x = record { ref_ptr = (0, 0); now = x }
 
+-- .. and one that is lent to be written
+lent_out : {A : Type 0} → A → MutBor A
+lent_out x = record { ref_ptr = (0, 0); ghost_name = 0; now = x }
+
 -- What the calls give is what `starts` and `calls` say, and nothing else.
 pub start-says : {ws : List ℕ} {n : ℕ} {ws' : List ℕ} → Start ws n ws' → starts ws ≡ record { number = n; session = ws' }
 start-says k = cc k.ensured
 
 pub start-called : (ws : List ℕ) {n : ℕ} {ws' : List ℕ} → starts ws ≡ record { number = n; session = ws' } → Start ws n ws'
-unfolding lent
+unfolding lent lent_out
 start-called ws {n} {ws'} e =
-    record { κs = ([], tt); args = (lent ws, tt); exits = (lent ws', tt); words_are = refl; left-are = refl; ensured = e }
+    record { κs = ([], tt); args = (lent_out ws, tt); exits = (lent_out ws', tt); words_are = refl; left-are = refl; ensured = e }
 
 pub feed-says : {ws t c a : List ℕ} {r : Called} → Feed ws t c a r → calls ws t c a ≡ r
 feed-says {ws} {t} {c} {a} {r} k =
@@ -144,12 +146,12 @@ feed-says {ws} {t} {c} {a} {r} k =
     e
 
 pub feed-called : (ws t c a : List ℕ) {r : Called} → calls ws t c a ≡ r → Feed ws t c a r
-unfolding lent
+unfolding lent lent_out
 feed-called ws t c a {r} e =
     record {
       κs = ([], ([], ([], ([], tt))));
-      args = (lent ws, (lent t, (lent c, (lent a, tt))));
-      exits = (lent r.session, (lent r.store, (lent c, (lent r.answer, tt))));
+      args = (lent_out ws, (lent_out t, (lent c, (lent_out a, tt))));
+      exits = (lent_out r.session, (lent_out r.store, (lent c, (lent_out r.answer, tt))));
       words_are = refl;
       store_is = refl;
       chunk-is = refl;
@@ -180,13 +182,13 @@ module _ {out : List ℕ} {count : ℕ} {r : Put} where
 -- There is such a call for everything that can be handed in.
 module _ (out : List ℕ) (count : ℕ) where
   pub some-frame-write : (xs : List ℕ) → FrameWrite xs out count (puts (frame_into xs out) count)
-  unfolding lent
+  unfolding lent lent_out
   some-frame-write xs =
       let r = puts (frame_into xs out) count in
       record {
         κs = ([], ([], ([], tt)));
-        args = (lent xs, (lent out, (lent count, tt)));
-        exits = (lent xs, (lent r.output, (lent r.count, tt)));
+        args = (lent xs, (lent_out out, (lent_out count, tt)));
+        exits = (lent xs, (lent_out r.output, (lent_out r.count, tt)));
         given_is = refl;
         output-is = refl;
         count-is = refl;
@@ -196,13 +198,13 @@ module _ (out : List ℕ) (count : ℕ) where
       }
 
   pub some-message-write : (m : List ℕ) → MessageWrite m out count (puts (message_into m out) count)
-  unfolding lent
+  unfolding lent lent_out
   some-message-write m =
       let r = puts (message_into m out) count in
       record {
         κs = ([], ([], ([], tt)));
-        args = (lent m, (lent out, (lent count, tt)));
-        exits = (lent m, (lent r.output, (lent r.count, tt)));
+        args = (lent m, (lent_out out, (lent_out count, tt)));
+        exits = (lent m, (lent_out r.output, (lent_out r.count, tt)));
         given_is = refl;
         output-is = refl;
         count-is = refl;

@@ -19,7 +19,7 @@ use Rattle.framing_content.specs.Numbers.{store_length}
 use Rattle.framing.specs.Offers as offers
 use Rattle.framing.specs.Offers.{EndsWith}
 use Rattle.framing_session.specs.Rules.{State, Said, Happening, quiet, begin, noted, happens, after}
-use Rattle.framing_session.specs.Session.{said_by, state_of, session_of, legal, Legal, Whole, answers, feeds}
+use Rattle.framing_session.specs.Session.{said_by, state_of, session_of, Legal, Whole, answers, feeds}
 use Rattle.framing_session.proofs.Laws.{true-legal, legal-true}
 use Rattle.framing.proofs.Sayable.{legal-answered}
 use Rattle.framing.proofs.Chunks as chunks

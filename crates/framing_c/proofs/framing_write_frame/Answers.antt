@@ -1,0 +1,7 @@
+use Rattle.framing_c.proofs.Laws.{puts-told}
+use Rattle.framing_c.proofs.framing_write_frame.Goals as goal
+
+pub returns : goal.returns
+returns c =
+    puts-told _ c.write_frame-result.result _ _ c.write_frame-result.ensures
+    c.tell.ensures
