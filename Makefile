@@ -8,6 +8,9 @@ LIBDIR = $(PREFIX)/lib
 INCLUDEDIR = $(PREFIX)/include
 DOCDIR = $(PREFIX)/share/doc/ember
 
+# The processor that the libraries are compiled for: x86-64 is all of them, and x86-64-v2 and v3 are those with more.
+CPU = x86-64
+
 NAMES = ember framing supervision
 CRATE_ember = ember
 CRATE_framing = framing_c
@@ -22,7 +25,7 @@ OUT = target/install
 LIBRARIES = $(NAMES:%=$(OUT)/lib%.a)
 HEADERS = $(foreach name,$(NAMES),$(wildcard crates/$(CRATE_$(name))/include/*.h*))
 DOCS = docs/GLOW.md examples/sample.bin examples/sample.pcap $(wildcard examples/*/*.c examples/*/*.cpp)
-SOURCES := $(shell find crates -name '*.rt' -o -name '*.antt')
+SOURCES := $(shell find crates -name out -prune -o \( -name '*.rt' -o -name '*.antt' \) -print)
 
 all: $(LIBRARIES)
 
@@ -39,9 +42,12 @@ $(OUT)/lib%.a: target/staticlib/lib$$(CRATE_$$*).a Makefile crates/ember/include
 	$(LD) -r $(OUT)/$*/*.o -o $(OUT)/$*.o
 	rm -f $@ && $(AR) rcs $@ $(OUT)/$*.o
 
+# The library as it is proved and built, with its names as they are: the static library crate of each C interface (framing_archive for framing_c, and so on).
+# `make target/staticlib/libember.a` makes one alone; libglow_c.a, the tree by itself, is not installed.
 target/staticlib/lib%.a: crates.txt $(SOURCES)
-	rt staticlib $*
-	touch $@
+	cd crates/$(*:_c=)_archive && rt lib --cpu $(CPU)
+	mkdir -p target/staticlib
+	cp crates/$(*:_c=)_archive/out/lib$(*:_c=)_archive.a $@
 
 $(NAMES:%=$(OUT)/%.pc): $(OUT)/%.pc: always
 	mkdir -p $(OUT)

@@ -1,4 +1,4 @@
-# The C prototype of each `#[no_mangle] pub extern "C" fn` in the Rattle sources given: a lent slice is a pointer
+# The C prototype of each `#[unsafe(no_mangle)] pub extern "C" fn` in the Rattle sources given: a lent slice is a pointer
 # and its length. A type that is not known here stays as it is, so that the C compiler refuses it.
 
 function trim(text) {
@@ -63,7 +63,7 @@ function prototype(text,    name, list, result, count, part, i, out) {
     print plain(trim(result)) " " trim(name) "(" (out == "" ? "void" : out) ");"
 }
 
-/^#\[no_mangle\]/ { wanted = 1; next }
+/^#\[unsafe\(no_mangle\)\]/ { wanted = 1; next }
 wanted && /extern "C" fn/ { collecting = 1; text = "" }
 collecting {
     line = $0

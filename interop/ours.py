@@ -11,8 +11,8 @@ MEMBER = re.compile(r' ([a-z-]+)=((?:text:)?"[^"]*"|[^ ]*)')
 
 
 def run(program, requests):
-    """The lines that target/bin/PROGRAM prints for these lines."""
-    path = os.path.join(ROOT, "target", "bin", program)
+    """The lines that crates/PROGRAM/out/PROGRAM prints for these lines."""
+    path = os.path.join(ROOT, "crates", program, "out", program)
     text = "".join(request + "\n" for request in requests)
     done = subprocess.run([path], input=text.encode(), stdout=subprocess.PIPE, check=True)
     return done.stdout.decode("ascii").splitlines()

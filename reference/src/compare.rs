@@ -11,7 +11,7 @@ use std::sync::mpsc;
 use std::time::{Duration, Instant};
 
 const USAGE: &str = "usage: reference compare ROOT NAME... [--seed S] [--count N] [--seconds T] [--program PATH] [--write]
-NAME is frames, octets, packets, tree, listing, desk, sheet or watch; the program is ROOT/target/bin/NAME unless --program names it
+NAME is frames, octets, packets, tree, listing, desk, sheet or watch; the program is ROOT/crates/NAME/out/NAME unless --program names it
 --write: the program tree is also asked to write
 ";
 
@@ -80,7 +80,7 @@ pub fn command(words: &[&str]) -> i32 {
     }
     let mut code = 0;
     for name in names {
-        let path = program.clone().unwrap_or_else(|| root.join("target/bin").join(name));
+        let path = program.clone().unwrap_or_else(|| root.join("crates").join(name).join("out").join(name));
         let plan = Plan { seed, count, until: Instant::now() + Duration::from_secs(seconds), writes };
         code = code.max(one(name, &path, &plan));
     }

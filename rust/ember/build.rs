@@ -1,4 +1,4 @@
-//! Where libember.a is: the folder that EMBER_LIB names, or target/staticlib of the repository (`rt staticlib ember`).
+//! Where libember.a is: the folder that EMBER_LIB names, or target/staticlib of the repository (`make target/staticlib/libember.a` there).
 use std::path::PathBuf;
 
 fn main() {
@@ -8,7 +8,7 @@ fn main() {
     );
     if !folder.join("libember.a").exists() {
         println!(
-            "cargo:warning=no libember.a in {}: `rt staticlib ember` in the repository, or name its folder in EMBER_LIB",
+            "cargo:warning=no libember.a in {}: `make target/staticlib/libember.a` in the repository, or name its folder in EMBER_LIB",
             folder.display()
         );
     }

@@ -1,8 +1,8 @@
 /* Ember+ for C and C++: the session that reads a stream in chunks, the writer of frames, the reader and the writer of
  * the Glow tree, the routing desk, a whole turn of all of them, and route sheets.
  *
- * Link libember.a, which `rt staticlib ember` proves and builds (x86-64 Linux; `make install` puts it where a compiler
- * finds it). Each call is proved for every content of what is lent to it: it always ends, never traps, and answers a
+ * Link libember.a, which `make target/staticlib/libember.a` proves and builds (x86-64 Linux; `make install` puts it where a
+ * compiler finds it). Each call is proved for every content of what is lent to it: it always ends, never traps, and answers a
  * wrong length or a word out of range with EMBER_SETUP. No call of this library allocates, keeps anything between calls (no
  * pointer either), reads a clock, starts a thread or calls anything but memcpy, memmove and memset: all memory is lent by the
  * caller, and two calls that share no memory may run at once. Measured, 32 KB of stack are enough for every call but
@@ -102,7 +102,7 @@ enum ember_answer {
 
 /* The names of the library are for the program or plugin that it is linked into: in an installed library they are hidden, and here
  * they are declared so, so that two plugins with two versions never meet in one host. Who makes a shared library of it takes the
- * one that `rt staticlib ember` left, and defines EMBER_VISIBLE before this header is taken in. */
+ * one in target/staticlib, and defines EMBER_VISIBLE before this header is taken in. */
 #if defined __GNUC__ && !defined EMBER_VISIBLE
 #pragma GCC visibility push(hidden)
 #endif
@@ -450,7 +450,7 @@ uint64_t ember_sheet_read(const uint8_t *text, size_t text_bytes, uint8_t *store
                           size_t crosspoint_bytes, uint64_t *answer, size_t answer_words);
 
 /* ---- The version of the installed library: 100 times major, and minor; EMBER_VERSION_NUMBER is this header's.
- * Never there in a library that `rt staticlib ember` left: `make install` puts it in. */
+ * Never there in target/staticlib/libember.a: `make install` puts it in. */
 #define EMBER_VERSION_NUMBER (100 * EMBER_VERSION_MAJOR + EMBER_VERSION_MINOR)
 uint64_t ember_version(void);
 

@@ -1,7 +1,7 @@
 /* S101 framing for C: the session that reads a stream in chunks, the writer of frames, and what a gateway needs.
  *
- * Link libframing_c.a, which `rt staticlib framing_c` proves and builds (x86-64 Linux), or the installed libframing.a
- * (pkg-config: framing). The library keeps nothing between calls, allocates nothing and calls nothing but memmove: all
+ * Link libframing_c.a, which `make target/staticlib/libframing_c.a` proves and builds (x86-64 Linux), or the installed
+ * libframing.a (pkg-config: framing). The library keeps nothing between calls, allocates nothing and calls nothing but memmove: all
  * memory is lent by the caller. Each call is proved for every content of what is lent to it, and answers a wrong length or
  * a word out of range; it cannot test a pointer. So a pointer and its count name memory of the caller's that is as long as
  * the count says, aligned for its type, and shared by no other argument of the call that is written to; where the count is
@@ -137,7 +137,7 @@ uint64_t framing_write_message(const uint8_t *message, size_t message_bytes, uin
                                uint64_t *count);
 
 /* The version of the installed library.
- * Never there in a library that `rt staticlib framing_c` left: `make install` puts it in. */
+ * Never there in target/staticlib/libframing_c.a: `make install` puts it in. */
 uint64_t framing_version(void);
 
 #if defined __GNUC__ && !defined FRAMING_VISIBLE

@@ -1,6 +1,6 @@
 /* The Glow tree for C: reads a message into the rows of a lent table, and writes the message of such rows.
  *
- * Link libglow_c.a, which `rt staticlib glow_c` proves and builds (x86-64 Linux). The library keeps nothing between
+ * Link libglow_c.a, which `make target/staticlib/libglow_c.a` proves and builds (x86-64 Linux). The library keeps nothing between
  * calls, allocates nothing and calls nothing but memset: all memory is lent by the caller. A call is proved for every
  * message, every length and every content of the table, and always ends; it cannot test a pointer. So a pointer and its
  * count name memory of the caller's that is as long as the count says, aligned for its type, and shared by no other

@@ -1,8 +1,8 @@
 /* The supervisor of an S101 connection for C: it asks for a keep-alive request in a silence, says which requests are to
  * be answered, and declares a silent link dead.
  *
- * Link libsupervision_c.a, which `rt staticlib supervision_c` proves and builds (x86-64 Linux), or the installed
- * libsupervision.a (pkg-config: supervision). The library keeps nothing between calls, allocates nothing and calls
+ * Link libsupervision_c.a, which `make target/staticlib/libsupervision_c.a` proves and builds (x86-64 Linux), or the
+ * installed libsupervision.a (pkg-config: supervision). The library keeps nothing between calls, allocates nothing and calls
  * nothing: all memory is lent by the caller, and it reads no clock.
  * Each call is proved for every content of what is lent to it; it cannot test a pointer. So a pointer and its count
  * name memory of the caller's that is as long as the count says and aligned for its type; where the count is 0 the
@@ -107,7 +107,7 @@ uint64_t supervision_show(uint64_t *link, size_t link_words, uint32_t tick, uint
 uint32_t supervision_later(uint32_t latest, uint32_t tick);
 
 /* The version of the installed library.
- * Never there in a library that `rt staticlib supervision_c` left: `make install` puts it in. */
+ * Never there in target/staticlib/libsupervision_c.a: `make install` puts it in. */
 uint64_t supervision_version(void);
 
 #if defined __GNUC__ && !defined SUPERVISION_VISIBLE
