@@ -1,3 +1,2 @@
 // Choices by a test: definitions and laws alone.
 #![tactic(auto)]
-

@@ -15,7 +15,6 @@ use Rattle.framing_session.specs.Steps.{gives, Reaches}
 use Rattle.framing.proofs.runs.Goals.{After-step-t, After-strides-p, Start}
 use Rattle.framing.proofs.runs.Goals as goal
 
--- The invariant: the call has come to byte i with no event.
 -- the second arm of the `if let`: an event that has a number
 loud : (e : Event) (t : List ℕ) → (e ≡ More → ⊥) → eqb (said_by e t).number 0 ≡ false
 loud More t h = absurd (h refl)

@@ -8,7 +8,6 @@ use lib.Seq.{drop-cons}
 use Rattle.framing_checksum.specs.Checksum.{crc_step, crc_from}
 use Rattle.framing_checksum.proofs.crc_bytes.Goals as goal
 
--- The invariant: what is left of the slice, from here, gives what the whole gives.
 turn : (s : List ℕ) (c i : ℕ) → i < length s → crc_from c (drop i s) ≡ crc_from (crc_step c (get_or s i 0)) (drop (i + 1) s)
 unfolding crc_from
 turn s c i h = rw (drop-cons s i 0 h, add-one i)

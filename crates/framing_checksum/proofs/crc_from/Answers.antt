@@ -8,7 +8,6 @@ use lib.Seq.{drop-cons, take-length}
 use Rattle.framing_checksum.specs.Checksum.{crc_from}
 use Rattle.framing_checksum.proofs.crc_from.Goals as goal
 
--- The invariant: what is left of the slice, from here, gives what the whole gives.
 next : (s : List ℕ) (i j : ℕ) → j ≡ i + 1 → i < length s → drop i s ≡ get_or s i 0 ∷ drop j s
 next s i j e h = drop-cons s i 0 h ∙ ap (λ (k : ℕ). get_or s i 0 ∷ drop k s) (sym (add-one i) ∙ sym e)
 

@@ -8,7 +8,6 @@ use lib.Seq.{sets, length-sets, take-suc, get_or-drop}
 use Rattle.framing_session.proofs.Lists.{sets-append, length_part, drop-sets-le}
 use Rattle.framing_pieces.proofs.copies.Goals as goal
 
--- The invariant: the first i bytes of the payload are copied. The bytes that are read lie behind those that are written.
 -- one byte more is copied
 turn : (t : List ℕ) (at n i : ℕ) → at + n ≤ 16384 → 16393 + n ≤ length t → i < n
     → set (sets t at (take i (drop 16393 t))) (at + i) (get_or (sets t at (take i (drop 16393 t))) (16393 + i) 0) ≡ sets t at (take (i + 1) (drop 16393 t))
