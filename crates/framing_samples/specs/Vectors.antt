@@ -1,15 +1,13 @@
 -- Calls at literal words, by computation: what 1 leaves, and which bytes of the store a call writes.
-use Rattle.std.specs.Prelude.{ℕ, Bool, true, false, ◌≡◌, refl, List, [], ◌∷◌, ◌++◌, map, replicate}
+use Rattle.std.specs.Prelude.{ℕ, true, false, ◌≡◌, refl, List, [], ◌∷◌, ◌++◌, map, replicate}
 use Rattle.framing_checksum.specs.Checksum.{table, crc_step, crc_from, checksum}
 use Rattle.framing_content.specs.Content.{packet_of, command_of, body_of, content_of}
 use Rattle.framing_session.specs.Rules.{adds, pieces, ends, faulted, cuts, in_place, step}
 use Rattle.framing_session.specs.Session.{kept, run, feeds}
-use Rattle.framing_packets.specs.Written.{Outcome}
-use Rattle.framing_packets.specs.declared.Written.{Written}
 use Rattle.framing_packets.specs.declared.Written.TheVariants.{Done, Out}
 use Rattle.framing_words.specs.Words.{frame_at, pending_at, is_frame, is_pending, is_session}
-use Rattle.framing_answers.specs.Answers.{accepts, Told, tells}
-use Rattle.framing_c.specs.Calls.{Started, starts, Called, called_of, calls, Put, puts}
+use Rattle.framing_answers.specs.Answers.{accepts, tells}
+use Rattle.framing_c.specs.Calls.{starts, called_of, calls, puts}
 
 abbrev four : ℕ → ℕ → ℕ → ℕ → List ℕ
 four a b c d = a ∷ b ∷ c ∷ d ∷ []
