@@ -10,7 +10,7 @@ use lib.ListN.{length, drop, length-append}
 use lib.Seq.{get_or-append_seam, set-append_seam}
 use lib.Dec.{eqb}
 use Rattle.glow_rows.specs.declared.Cell.{Cell}
-use Rattle.glow_rows.specs.Cell.{cell, absent}
+use Rattle.glow_rows.specs.Cell.{absent}
 use Rattle.glow_rows.specs.Entry.{Entry, Entries, blank, blanks, with_cell, put_cell}
 use Rattle.glow_grammar.specs.Grammar.{rule_of, required}
 use Rattle.glow_steps.specs.Members.{after_listed, column}

@@ -1,3 +1,2 @@
 // What a tree's message is read as: theorems alone.
 #![tactic(auto)]
-
