@@ -1,11 +1,12 @@
 /* S101 framing for C: the session that reads a stream in chunks, the writer of frames, and what a gateway needs.
  *
  * Link libframing_c.a, which `make target/staticlib/libframing_c.a` proves and builds (x86-64 Linux), or the installed
- * libframing.a (pkg-config: framing). The library keeps nothing between calls, allocates nothing and calls nothing but memmove: all
- * memory is lent by the caller. Each call is proved for every content of what is lent to it, and answers a wrong length or
- * a word out of range; it cannot test a pointer. So a pointer and its count name memory of the caller's that is as long as
- * the count says, aligned for its type, and shared by no other argument of the call that is written to; where the count is
- * 0 the pointer may be anything. Most hosts begin with struct framing_line, at the end of this header. */
+ * libframing.a (pkg-config: framing). The library keeps nothing between calls, allocates nothing and calls nothing but
+ * memmove: all memory is lent by the caller. Each call is proved for every content of what is lent to it, and answers
+ * a wrong length or a word out of range; it cannot test a pointer. So a pointer and its count name memory of the
+ * caller's that is as long as the count says, aligned for its type, and shared by no other argument of the call that
+ * is written to; where the count is 0 the pointer may be anything. Most hosts begin with struct framing_line, at the
+ * end of this header. */
 #ifndef FRAMING_H
 #define FRAMING_H
 
