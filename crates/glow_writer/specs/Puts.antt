@@ -1,15 +1,15 @@
 -- What the functions that write leave in a lent output, for the functions of this crate.
-use Rattle.std.specs.Prelude.{ℕ, suc, ◌+◌, ◌-◌, ◌*◌, ◌≤◌, ◌<◌, ◌≡◌, List, [], ◌∷◌, ◌++◌, true, eqb, length, drop, get_or}
+use Rattle.std.specs.Prelude.{ℕ, suc, ◌+◌, ◌-◌, ◌*◌, ◌≤◌, ◌<◌, ◌≡◌, List, [], ◌∷◌, ◌++◌, true, eqb, length, get_or}
 use Rattle.ber_integers.specs.declared.Wrote.TheVariants.{Next}
 use Rattle.base_choices.specs.Choices.{pick}
 use Rattle.ber_integers.specs.Digits.{put, outcome}
 use Rattle.ber_tags.specs.Write.{length_octets}
 use Rattle.glow_rows.specs.Cell.{boolean, integer}
-use Rattle.glow_grammar.specs.Grammar.{children, connections, universal, context, contents_member, set, octet_of}
+use Rattle.glow_grammar.specs.Grammar.{universal, context, contents_member, set, octet_of}
 use Rattle.glow_rows.specs.Entry.{Rows}
 use Rattle.glow_trees.specs.Content.{Content, Item, contents_of}
 use Rattle.glow_trees.specs.Rows.{cells_from, items_in}
-use Rattle.glow_trees.specs.Trees.{Trees, none, tree, taken_by, count}
+use Rattle.glow_trees.specs.Trees.{Trees, none, tree, count}
 use Rattle.glow_trees.specs.Legal.{is_real, suits, suited, inner, legal}
 use Rattle.glow_trees.specs.Written.{spelled, member_octets, members_octets, wrapped, own, trees_octets, written_real}
 use Rattle.glow_member_sizes.specs.Sizes.{tagged_size}
