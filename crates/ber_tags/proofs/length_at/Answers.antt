@@ -10,7 +10,7 @@ use Rattle.ber_integers.proofs.Laws.{unsigned_is}
 use Rattle.ber_tags.specs.declared.Sized.TheVariants.{Refused}
 use Rattle.ber_tags.specs.Tag.{stop, sized}
 use Rattle.ber_tags.proofs.Laws.{length_cut, length-short, length-80, length-80-primitive, length_over, length-cut-long, length-long}
-use Rattle.ber_tags.proofs.length_at.Goals.{After-index-n, After-shared_slice_known-2-1, Else-b-gt132, Else-end-from}
+use Rattle.ber_tags.proofs.length_at.Goals.{After-index-n, After-shared_slice_known-2-1, Else-end-from}
 use Rattle.ber_tags.proofs.length_at.Goals as goal
 
 same : {x y : ℕ} → Nat x ≡ Nat y → x ≡ y
@@ -25,12 +25,6 @@ inside : (c : After-shared_slice_known-2-1) → c.args.p < stop
 inside c = rw c.stop_of-end.ensures.value at c.if-end-p.false
 
 -- a long length: its first octet is in range
-above : (c : Else-b-gt132) → 128 < (get_or c.args.s.now c.args.p 0)
-above c = omega (arith, c.if-b.false)
-
-below : (c : Else-b-gt132) → (get_or c.args.s.now c.args.p 0) ≤ 132
-below c = omega arith
-
 counted : (c : After-index-n) → c.index-n.result ≡ (get_or c.args.s.now c.args.p 0) - 128
 counted c = c.index-n.ensures ∙ c.wide-2.ensures.value
 
@@ -67,7 +61,7 @@ returns-then-end-from c =
     let n = counted (goal.at.returns-then-end-from c).After-index-n in
     let e = c.stop_of-end.ensures.value in
     ap Refused c.cut_of-place.ensures
-    ∙ length-cut-long _ _ _ _ _ (inside (goal.at.returns-then-end-from c).After-shared_slice_known-2-1) (above (goal.at.returns-then-end-from c).Else-b-gt132) (below (goal.at.returns-then-end-from c).Else-b-gt132) (omega arith)
+    ∙ length-cut-long _ _ _ _ _ (inside (goal.at.returns-then-end-from c).After-shared_slice_known-2-1) (omega (arith, c.if-b.false)) (omega arith) (omega arith)
 
 pub returns-in-Nat : goal.returns-in-Nat
 returns-in-Nat c =
@@ -78,7 +72,7 @@ returns-in-Nat c =
     ≡ natural (take ((get_or c.args.s.now c.args.p 0) - 128) (drop (c.args.p + 1) c.args.s.now)) = same (sym c.in-Nat.is ∙ u) in
     rw (c.index-in-Nat.ensures, n) at c.fitted-in-Nat.ensures
     ∙ ap (λ (x : ℕ). sized c.args.at c.args.bound x (c.args.p + 1 + ((get_or c.args.s.now c.args.p 0) - 128))) v
-    ∙ length-long _ _ _ _ _ (inside (goal.at.returns-in-Nat c).After-shared_slice_known-2-1) (above (goal.at.returns-in-Nat c).Else-b-gt132) (below (goal.at.returns-in-Nat c).Else-b-gt132) (omega arith)
+    ∙ length-long _ _ _ _ _ (inside (goal.at.returns-in-Nat c).After-shared_slice_known-2-1) (omega (arith, c.if-b.false)) (omega arith) (omega arith)
 
 pub returns-in-Refused : goal.returns-in-Refused
 returns-in-Refused c = absurd (apart (sym c.in-Refused.is ∙ read (goal.at.returns-in-Refused c).Else-end-from c.read_unsigned.ensures.is))
