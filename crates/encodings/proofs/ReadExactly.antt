@@ -9,7 +9,7 @@ use native.Mathlib.Omega.{arith}
 use borrow.Author.Tests.{le-ltb, lt-ltb}
 use types.Run.{OneOf, miss}
 use contract.Lifetimes.{Lfts}
-use denote.Ref.{Bor}
+use denote.Ref.{Bor, MutBor}
 use denote.Triple.Clauses as Clauses
 use borrow.Fn.World as World
 use borrow.Fn.Kinds as K
@@ -153,6 +153,10 @@ pub record ReadCall (s : List ℕ) (table : Rows) (a : Answer) (table' : Rows) :
 lent_slice : {A : Type 0} → List A → Bor (List A)
 lent_slice xs = record { ref_ptr = (0, 0); now = xs }
 
+-- the same, lent to be written
+lent_out : {A : Type 0} → List A → MutBor (List A)
+lent_out xs = record { ref_ptr = (0, 0); ghost_name = 0; now = xs }
+
 abbrev Whole : Result → Type 0
 Whole y = y ≡ read_result y.answer y.rows
 
@@ -167,11 +171,11 @@ whole s rows =
 
 -- There is such a call for every message and every table.
 pub call-there : (s : List ℕ) (table : Rows) → ReadCall s table (read_at s table).answer (read_at s table).rows
-unfolding lent_slice
+unfolding lent_slice lent_out
 call-there s table = record {
   κs = ([], ([], tt));
-  args = (lent_slice s, (lent_slice table, tt));
-  exits = (lent_slice s, (lent_slice (read_at s table).rows, tt));
+  args = (lent_slice s, (lent_out table, tt));
+  exits = (lent_slice s, (lent_out (read_at s table).rows, tt));
   message-is = refl;
   table_is = refl;
   left_is = refl;
