@@ -2,7 +2,6 @@
 use Prim.Native.Nat.{ℕ, zero, suc}
 use mathlib.Core.Path.{◌≡◌, refl}
 use mathlib.Core.List.{List, [], ◌∷◌}
-use mathlib.Core.Bool.{true, false}
 use Rattle.glow_trees.specs.Content.{Content, nothing, word, bytes, Item, item, items_of}
 use Rattle.glow_trees.specs.Rows.{entries_of, items_in}
 use Rattle.glow_rows.specs.Entry.{Rows}
@@ -17,7 +16,7 @@ use Rattle.desk_crosspoints.specs.Desk.{desk_at, path_fits, all_numbers, desk_le
 use Rattle.desk_requests.specs.Request.{marked, named, all_below, replaces, becomes, takes, others, row_after, result_of}
 use Rattle.desk_requests.specs.Request.{first_of, many, over_total, checks, judged, asked, requested}
 use Rattle.glow_paths.specs.Paths.{numbers_in, is_qualified, path_up, full_path, same}
-use Rattle.desk_connections.specs.Connections.{ask, ask_of, asks_in}
+use Rattle.desk_connections.specs.Connections.{ask_of, asks_in}
 use Rattle.desk_calls.specs.Calls.{answered, answers, served, handled, outcome, filled, laid, called}
 use Rattle.desk_setup.specs.Ready.{is_ready}
 
