@@ -16,6 +16,7 @@ fn legal_words(session: &[u64], n: usize) -> bool
 }
 
 // Whether a call is no SETUP: of the session's words, a store of n bytes, and an answer of k words.
+#[tactic(auto, unfolding(crate::specs::Answers::accepts))]
 pub fn accepts(session: &[u64], n: usize, k: usize) -> bool
     ensures { result ≡ is_accepted session.now n k }
 {

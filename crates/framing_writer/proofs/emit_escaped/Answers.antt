@@ -6,11 +6,11 @@ use Rattle.framing_writer.proofs.emit_escaped.Goals as goal
 
 pub returns-then-b-ge248 : goal.returns-then-b-ge248
 returns-then-b-ge248 c =
-    let h = c.if-b-ge248.true in record {
-      b_value = rw (escape-high _ h) (wrote_then _ _ _ _ (c.put-next.ensures.b_value (omega arith))
+    record {
+      b_value = rw (escape-high c.args.b (omega arith)) (wrote_then _ _ _ _ (c.put-next.ensures.b_value (omega arith))
           ∙ c.put.ensures.b_value (omega arith));
       upper_bound = omega arith;
     }
 
 pub returns-else-b-ge248 : goal.returns-else-b-ge248
-returns-else-b-ge248 c = record { b_value = rw (escape-plain _ c.if-b-ge248.false) (c.put-else-b-ge248.ensures.b_value (omega arith)); upper_bound = omega arith }
+returns-else-b-ge248 c = record { b_value = rw (escape-plain c.args.b (omega arith)) (c.put-else-b-ge248.ensures.b_value (omega arith)); upper_bound = omega arith }

@@ -12,7 +12,7 @@ emit_frame-length-requires c = omega arith
 pub returns-then-out-length : goal.returns-then-out-length
 returns-then-out-length c =
     limited-fits _ _ _ _ c.if-body-gt-BODY_LIMIT.false
-    ∙ into-short _ _ c.emit_frame-length.ensures.rest_value c.if-out-length.true
+    ∙ into-short _ _ c.emit_frame-length.ensures.rest_value (omega arith)
 
 pub emit_frame-requires : goal.emit_frame-requires
 emit_frame-requires c = omega arith
@@ -21,4 +21,4 @@ pub returns : goal.returns
 returns c =
     limited-fits _ _ _ _ c.if-body-gt-BODY_LIMIT.false
     ∙ into-done _ _ c.emit_frame-length.ensures.rest_value
-    c.if-out-length.false c.emit_frame.ensures.rest_value
+    (omega arith) c.emit_frame.ensures.rest_value
