@@ -1,6 +1,6 @@
 -- Laws of the C interface, at plain variables.
 use Prim.Native.Nat.{ℕ}
-use mathlib.Core.Path.{◌≡◌, refl, sym, ap, ◌∙◌}
+use mathlib.Core.Path.{◌≡◌, refl, ap, ◌∙◌}
 use mathlib.Core.List.{List, [], ◌∷◌}
 use native.Mathlib.Omega.{arith}
 use borrow.Author.Tests.{eq-eqb, ne_eqb}
@@ -11,12 +11,12 @@ use Rattle.glow_reader.specs.declared.Answer.TheVariants.{Refused, Room, Read}
 use Rattle.glow_reader.specs.Message.{reply_by, read_result, read_at}
 use Rattle.ber_integers.specs.declared.Wrote.{Wrote}
 use Rattle.ber_integers.specs.declared.Wrote.TheVariants.{Next, Out}
-use Rattle.ber_integers.specs.Digits.{Put, wrote, outcome}
+use Rattle.ber_integers.specs.Digits.{wrote, outcome}
 use Rattle.glow_trees.specs.Rows.{items_in}
 use Rattle.glow_member_sizes.specs.Spelling.{least_real}
 use Rattle.glow_sizes.specs.Accepted.{fits}
 use Rattle.glow_writer.specs.Writes.{writes}
-use Rattle.glow_c.specs.Calls.{Call, call, words_of, called, calls, Writing, writing, length_word, wrote_as, write_calls, accept_calls}
+use Rattle.glow_c.specs.Calls.{call, words_of, called, calls, writing, length_word, wrote_as, write_calls, accept_calls}
 use mathlib.Core.Bool.{Bool, true, false}
 
 pub set-three : (xs : List ℕ) (a b c : ℕ) → length xs ≡ 3 → set (set (set xs 0 a) 1 b) 2 c ≡ a ∷ b ∷ c ∷ []

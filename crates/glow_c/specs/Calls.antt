@@ -11,7 +11,7 @@ use Rattle.glow_sizes.specs.Accepted.{fits}
 use Rattle.glow_writer.specs.Writes.{writes}
 use Rattle.glow_reader.specs.declared.Answer.{Answer}
 use Rattle.glow_reader.specs.declared.Answer.TheVariants.{Setup, Refused, Room, Read}
-use Rattle.glow_reader.specs.Message.{Reply, reply_by, Result, read_at}
+use Rattle.glow_reader.specs.Message.{Result, read_at}
 
 pub record Call : Type 0 where
   pub number : ℕ

@@ -1,10 +1,9 @@
 -- Each answer's words, those that say nothing among them, and what 1 leaves, by computation.
 use Rattle.std.specs.Prelude.{ℕ, ◌≡◌, refl, List, [], ◌∷◌, map}
-use Rattle.ber_integers.specs.declared.Wrote.{Wrote}
 use Rattle.ber_integers.specs.declared.Wrote.TheVariants.{Next, Out}
 use Rattle.glow_reader.specs.declared.Answer.{Answer}
 use Rattle.glow_reader.specs.declared.Answer.TheVariants.{Setup, Refused, Room, Read}
-use Rattle.glow_c.specs.Calls.{Call, call, words_of, calls, Writing, writing, length_word, write_calls}
+use Rattle.glow_c.specs.Calls.{call, words_of, calls, writing, length_word, write_calls}
 
 abbrev three : ℕ → ℕ → ℕ → List ℕ
 three place count root = place ∷ count ∷ root ∷ []
