@@ -6,6 +6,7 @@ ghost use Rattle.framing_packets.specs.Written.{frame, request_body, response_bo
 ghost use Rattle.framing_c.specs.Calls.{starts, calls, puts};
 
 // A fresh session. 0, or 1 where the session has not four words.
+#[tactic(auto, unfolding(crate::specs::Calls::starts))]
 #[unsafe(no_mangle)]
 pub extern "C" fn framing_start(session: &mut [u64]) -> u64
     ensures { starts session.old ≡ record { number = result; session = session.new } }
