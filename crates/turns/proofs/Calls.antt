@@ -3,13 +3,12 @@ use Prim.Native.Nat.{ℕ, suc}
 use mathlib.Core.List.{List, [], ◌∷◌, ◌++◌}
 use mathlib.Core.Path.{◌≡◌, refl, ap}
 use contract.Lifetimes.{Lfts}
-use denote.Ref.{Bor}
+use denote.Ref.{Bor, MutBor}
 use denote.Triple.Clauses as Clauses
 use borrow.Fn.World as World
 use borrow.Fn.Kinds as K
 use lib.ListN.{length, take, drop}
 use Rattle.framing_session.specs.declared.Event.{Event}
-use Rattle.framing_session.specs.declared.Fed.{Fed}
 use Rattle.framing_session.specs.declared.Session.{Session}
 use Rattle.framing_session.specs.Session.{answers, feeds}
 use Rattle.framing.specs.Offers as offers
@@ -36,16 +35,20 @@ use Rattle.turns.proofs.turn.Reads as turn-reads
 lent_slice : {A : Type 0} → List A → Bor (List A)
 lent_slice xs = record { ref_ptr = (0, 0); now = xs }
 
+-- the same, lent to be written
+lent_out : {A : Type 0} → List A → MutBor (List A)
+lent_out xs = record { ref_ptr = (0, 0); ghost_name = 0; now = xs }
+
 pub read-says : {s : List ℕ} {table : Rows} {a : Answer} {table' : Rows} → ReadCall s table a table' → read_at s table ≡ read_result a table'
 read-says k = cc k.ensured
 
 pub read-called : {s : List ℕ} {table : Rows} (a : Answer) {table' : Rows} → read_at s table ≡ read_result a table' → ReadCall s table a table'
-unfolding lent_slice
+unfolding lent_slice lent_out
 read-called {s} {table} a {table'} e =
     record {
       κs = ([], ([], tt));
-      args = (lent_slice s, (lent_slice table, tt));
-      exits = (lent_slice s, (lent_slice table', tt));
+      args = (lent_slice s, (lent_out table, tt));
+      exits = (lent_slice s, (lent_out table', tt));
       message-is = refl;
       table_is = refl;
       left_is = refl;
@@ -59,12 +62,12 @@ call-says {d} {rows} {n} {root} {s} {r} {cells'} k =
 
 module _ (d : Desk) (rows : Rows) (n root : ℕ) (s : List ℕ) (r : Called) (cells' : Cells) where
   pub desk-called : called d root rows n s ≡ answered r cells' → DeskCall d rows n root s r cells'
-  unfolding lent_slice
+  unfolding lent_slice lent_out
   desk-called e =
       record {
         κs = ([], ([], ([], ([], tt))));
-        args = (d.figures, (lent_slice d.path, (lent_slice rows, (n, (root, (lent_slice s, (lent_slice d.crosspoints, tt)))))));
-        exits = (d.figures, (lent_slice d.path, (lent_slice rows, (n, (root, (lent_slice s, (lent_slice cells', tt)))))));
+        args = (d.figures, (lent_slice d.path, (lent_slice rows, (n, (root, (lent_slice s, (lent_out d.crosspoints, tt)))))));
+        exits = (d.figures, (lent_slice d.path, (lent_slice rows, (n, (root, (lent_slice s, (lent_out cells', tt)))))));
         figures-are = refl;
         path-is = refl;
         rows_are = refl;
@@ -136,12 +139,12 @@ module _ {s : Session} {t c : List ℕ} {table : Rows} {d : Desk} {r : Turned} {
 module _ (s : Session) (t c : List ℕ) (table : Rows) (d : Desk) (r : Turned) (t' : List ℕ) (table' : Rows) (cells' : Cells) where
   pub turn-called : feeds s t c ≡ answers r.fed t' → later_at d r.fed.event t' table ≡ gave r.after r.answers table' cells'
       → TurnCall s t c table d r t' table' cells'
-  unfolding lent_slice
+  unfolding lent_slice lent_out
   turn-called e q =
       record {
         κs = ([], ([], ([], ([], ([], tt)))));
-        args = (s, (lent_slice t, (lent_slice c, (lent_slice table, (d.figures, (lent_slice d.path, (lent_slice d.crosspoints, tt)))))));
-        exits = (s, (lent_slice t', (lent_slice c, (lent_slice table', (d.figures, (lent_slice d.path, (lent_slice cells', tt)))))));
+        args = (s, (lent_out t, (lent_slice c, (lent_out table, (d.figures, (lent_slice d.path, (lent_out d.crosspoints, tt)))))));
+        exits = (s, (lent_out t', (lent_slice c, (lent_out table', (d.figures, (lent_slice d.path, (lent_out cells', tt)))))));
         session-is = refl;
         store_is = refl;
         chunk-is = refl;

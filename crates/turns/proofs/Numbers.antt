@@ -3,7 +3,7 @@ use Prim.Native.Nat.{ℕ, zero, suc, ◌-◌, ◌≤◌}
 use mathlib.Core.Path.{◌≡◌, refl, sym, ap, subst, ◌∙◌}
 use mathlib.Core.List.{List, [], ◌∷◌, ◌++◌}
 use mathlib.Core.Bool.{Bool, true, false, true≢false}
-use mathlib.Core.Logic.{◌⊎◌, inl, inr, ⊎_elim}
+use mathlib.Core.Logic.{inl, inr, ⊎_elim}
 use borrow.Author.Tests.{eqb-false, le-ltb}
 use types.Run.{OneOf, hit, miss}
 use lib.ListN.{length, take}
@@ -18,13 +18,12 @@ use Rattle.glow_reader.specs.Message.{refusals, Result, Reply, setup, read_at, r
 use Rattle.glow_reader.proofs.Answers.{said-is, refusal-numbers, read-numbers, read-setup}
 use Rattle.glow_trees.specs.Content.{Item}
 use Rattle.glow_trees.specs.Rows.{items_in}
-use Rattle.glow_trees.specs.Trees.{flat, trees_of}
-use Rattle.glow_member_sizes.specs.Spelling.{least_real}
-use Rattle.glow_sizes.specs.Accepted.{accepted, is_whole, octets_of}
+use Rattle.glow_trees.specs.Trees.{trees_of}
+use Rattle.glow_sizes.specs.Accepted.{accepted, is_whole}
 use Rattle.trees_round_trip.proofs.Writing.{made}
 use Rattle.desk_crosspoints.specs.Crosspoints.{clear}
 use Rattle.desk_crosspoints.specs.Desk.{Desk}
-use Rattle.desk_connections.specs.Connections.{Ask, asks_of}
+use Rattle.desk_connections.specs.Connections.{asks_of}
 use Rattle.desk_connections.proofs.Paths.{right, asks-down}
 use Rattle.desk_connections.proofs.Operations.{Operations, legal-operations}
 use Rattle.desk_calls.specs.Calls.{Outcome, Served, handled, filled, laid, called}
