@@ -20,7 +20,7 @@ serve-answered-requires c =
     let h = the-is-ready.ensures ∙ the-if1.false in
     let d = (ready-tells _ _ _ _ _ h).0 in
     let l = ready-lengths _ _ _ _ _ h in
-    (desk-legal _ d, (path-short _ (desk-fits _ d), (l.1, omega (arith, l.0, l.1))))
+    (desk-legal _ d, (path-short _ (desk-fits _ d), (omega (arith, l.1), omega (arith, l.0, l.1))))
 
 pub returns : goal.returns
 unfolding clear

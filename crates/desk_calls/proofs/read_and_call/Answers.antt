@@ -18,7 +18,7 @@ serve-answered-requires c =
     let g = c.desk_is_legal-fit.ensures ∙ c.if-not-fit.false in
     let k = count-rows _ _ the-read.result _ the-read.ensures _ _ c.in-Read.is in
     let l = count-few _ _ the-read.result _ the-read.ensures _ _ c.in-Read.is in
-    (desk-legal _ g, (path-short _ (desk-fits _ g), (k, l)))
+    (desk-legal _ g, (path-short _ (desk-fits _ g), (omega (arith, k), omega (arith, l))))
 
 pub returns-clause-table_after : goal.returns-clause-table_after
 unfolding clear
