@@ -5,13 +5,14 @@ use glow_entries::{
     ReadNode, ReadParameter, ReadStream, Stream,
 };
 use program_lines::print;
+use std::io;
 
 // A row that is none of its kind's.
-fn other() {
-    print::say(b" ?");
+fn other(rt: &impl Print) -> io::Result<()> {
+    print::say(rt, b" ?")
 }
 
-fn parameter_members(s: &[u8], e: Parameter) {
+fn parameter_members(rt: &impl Print, s: &[u8], e: Parameter) -> io::Result<()> {
     let key = e.key;
     let identifier = e.identifier;
     let description = e.description;
@@ -23,47 +24,47 @@ fn parameter_members(s: &[u8], e: Parameter) {
     let online = e.online;
     let step = e.step;
     let stream = e.stream;
-    members::key(s, key);
-    members::text(b" identifier=", s, identifier);
-    members::text(b" description=", s, description);
-    members::any(b" value=", s, value);
-    members::any(b" minimum=", s, minimum);
-    members::any(b" maximum=", s, maximum);
-    members::number(b" access=", access);
-    members::number(b" factor=", factor);
-    members::flag(b" online=", online);
-    members::number(b" step=", step);
-    members::number(b" stream=", stream);
+    members::key(rt, s, key)?;
+    members::text(rt, b" identifier=", s, identifier)?;
+    members::text(rt, b" description=", s, description)?;
+    members::any(rt, b" value=", s, value)?;
+    members::any(rt, b" minimum=", s, minimum)?;
+    members::any(rt, b" maximum=", s, maximum)?;
+    members::number(rt, b" access=", access)?;
+    members::number(rt, b" factor=", factor)?;
+    members::flag(rt, b" online=", online)?;
+    members::number(rt, b" step=", step)?;
+    members::number(rt, b" stream=", stream)
 }
 
-pub(crate) fn parameter(s: &[u8], row: &[u64; 50]) {
+pub(crate) fn parameter(rt: &impl Print, s: &[u8], row: &[u64; 50]) -> io::Result<()> {
     match glow_entries::parameter_of(row) {
-        ReadParameter::Entry(e) => parameter_members(s, e),
-        ReadParameter::Other => other(),
+        ReadParameter::Entry(e) => parameter_members(rt, s, e),
+        ReadParameter::Other => other(rt),
     }
 }
 
-fn node_members(s: &[u8], e: Node) {
+fn node_members(rt: &impl Print, s: &[u8], e: Node) -> io::Result<()> {
     let key = e.key;
     let identifier = e.identifier;
     let description = e.description;
     let root = e.root;
     let online = e.online;
-    members::key(s, key);
-    members::text(b" identifier=", s, identifier);
-    members::text(b" description=", s, description);
-    members::flag(b" root=", root);
-    members::flag(b" online=", online);
+    members::key(rt, s, key)?;
+    members::text(rt, b" identifier=", s, identifier)?;
+    members::text(rt, b" description=", s, description)?;
+    members::flag(rt, b" root=", root)?;
+    members::flag(rt, b" online=", online)
 }
 
-pub(crate) fn node(s: &[u8], row: &[u64; 50]) {
+pub(crate) fn node(rt: &impl Print, s: &[u8], row: &[u64; 50]) -> io::Result<()> {
     match glow_entries::node_of(row) {
-        ReadNode::Entry(e) => node_members(s, e),
-        ReadNode::Other => other(),
+        ReadNode::Entry(e) => node_members(rt, s, e),
+        ReadNode::Other => other(rt),
     }
 }
 
-fn matrix_members(s: &[u8], e: Matrix) {
+fn matrix_members(rt: &impl Print, s: &[u8], e: Matrix) -> io::Result<()> {
     let key = e.key;
     let identifier = e.identifier;
     let description = e.description;
@@ -73,64 +74,64 @@ fn matrix_members(s: &[u8], e: Matrix) {
     let sources = e.sources;
     let total_limit = e.total_limit;
     let target_limit = e.target_limit;
-    members::key(s, key);
-    members::text(b" identifier=", s, identifier);
-    members::text(b" description=", s, description);
-    members::number(b" type=", matrix_type);
-    members::number(b" mode=", mode);
-    members::number(b" targets=", targets);
-    members::number(b" sources=", sources);
-    members::number(b" total-limit=", total_limit);
-    members::number(b" target-limit=", target_limit);
+    members::key(rt, s, key)?;
+    members::text(rt, b" identifier=", s, identifier)?;
+    members::text(rt, b" description=", s, description)?;
+    members::number(rt, b" type=", matrix_type)?;
+    members::number(rt, b" mode=", mode)?;
+    members::number(rt, b" targets=", targets)?;
+    members::number(rt, b" sources=", sources)?;
+    members::number(rt, b" total-limit=", total_limit)?;
+    members::number(rt, b" target-limit=", target_limit)
 }
 
-pub(crate) fn matrix(s: &[u8], row: &[u64; 50]) {
+pub(crate) fn matrix(rt: &impl Print, s: &[u8], row: &[u64; 50]) -> io::Result<()> {
     match glow_entries::matrix_of(row) {
-        ReadMatrix::Entry(e) => matrix_members(s, e),
-        ReadMatrix::Other => other(),
+        ReadMatrix::Entry(e) => matrix_members(rt, s, e),
+        ReadMatrix::Other => other(rt),
     }
 }
 
-fn command_members(e: Command) {
+fn command_members(rt: &impl Print, e: Command) -> io::Result<()> {
     let number = e.number;
     let mask = e.mask;
-    members::integer(b" number=", number);
-    members::number(b" mask=", mask);
+    members::integer(rt, b" number=", number)?;
+    members::number(rt, b" mask=", mask)
 }
 
-pub(crate) fn command(row: &[u64; 50]) {
+pub(crate) fn command(rt: &impl Print, row: &[u64; 50]) -> io::Result<()> {
     match glow_entries::command_of(row) {
-        ReadCommand::Entry(e) => command_members(e),
-        ReadCommand::Other => other(),
+        ReadCommand::Entry(e) => command_members(rt, e),
+        ReadCommand::Other => other(rt),
     }
 }
 
-fn connection_members(s: &[u8], e: Connection) {
+fn connection_members(rt: &impl Print, s: &[u8], e: Connection) -> io::Result<()> {
     let target = e.target;
     let sources = e.sources;
     let operation = e.operation;
-    members::integer(b" target=", target);
-    members::list(b" sources=", s, sources);
-    members::number(b" operation=", operation);
+    members::integer(rt, b" target=", target)?;
+    members::list(rt, b" sources=", s, sources)?;
+    members::number(rt, b" operation=", operation)
 }
 
-pub(crate) fn connection(s: &[u8], row: &[u64; 50]) {
+pub(crate) fn connection(rt: &impl Print, s: &[u8], row: &[u64; 50]) -> io::Result<()> {
     match glow_entries::connection_of(row) {
-        ReadConnection::Entry(e) => connection_members(s, e),
-        ReadConnection::Other => other(),
+        ReadConnection::Entry(e) => connection_members(rt, s, e),
+        ReadConnection::Other => other(rt),
     }
 }
 
-fn stream_members(s: &[u8], e: Stream) {
+fn stream_members(rt: &impl Print, s: &[u8], e: Stream) -> io::Result<()> {
     let identifier = e.identifier;
     let value = e.value;
-    members::integer(b" stream=", identifier);
-    members::any(b" value=", s, value);
+    members::integer(rt, b" stream=", identifier)?;
+    members::any(rt, b" value=", s, value)
 }
 
-pub(crate) fn stream(s: &[u8], row: &[u64; 50]) {
+pub(crate) fn stream(rt: &impl Print, s: &[u8], row: &[u64; 50]) -> io::Result<()> {
     match glow_entries::stream_of(row) {
-        ReadStream::Entry(e) => stream_members(s, e),
-        ReadStream::Other => other(),
+        ReadStream::Entry(e) => stream_members(rt, s, e),
+        ReadStream::Other => other(rt),
     }
 }

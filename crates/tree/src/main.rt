@@ -27,77 +27,96 @@ use glow_reader::Answer;
 use program_lines::input::Input;
 use program_lines::text::{Decimal, Hex};
 use program_lines::{input, print, text};
+use std::io;
 
-fn read(s: &[u8], table: &mut [[u64; 50]]) {
+fn read(rt: &impl Print, s: &[u8], table: &mut [[u64; 50]]) -> io::Result<()> {
     let found = glow_reader::read(s, table);
-    show::answer(s, table, found);
+    show::answer(rt, s, table, found)
 }
 
 // What was written, or 46.
-fn written(w: Wrote, out: &[u8]) {
+fn written(rt: &impl Print, w: Wrote, out: &[u8]) -> io::Result<()> {
     match w {
         Wrote::Next(n) => {
-            print::say(b"0 ");
+            print::say(rt, b"0 ")?;
             if n <= out.len() {
-                print::hex(&out[..n]);
+                print::hex(rt, &out[..n])?;
             }
         }
         Wrote::Out => {
-            print::say(b"46");
+            print::say(rt, b"46")?;
         }
     }
-    print::end();
+    print::end(rt)
 }
 
 // Reads with the table and writes what was read.
-fn write(s: &[u8], table: &mut [[u64; 50]], out: &mut [u8]) {
+fn write(rt: &impl Print, s: &[u8], table: &mut [[u64; 50]], out: &mut [u8]) -> io::Result<()> {
     let found = glow_reader::read(s, table);
     match found {
         Answer::Read { root, count } => {
             let w = glow_writer::write::write(table, count, root, s, out);
-            written(w, out);
+            written(rt, w, out)
         }
-        _ => {
-            show::answer(s, table, found);
-        }
+        _ => { show::answer(rt, s, table, found) }
     }
 }
 
 // Reads with the table's first n rows; more than there are make a bad line.
-fn read_with(s: &[u8], n: usize, table: &mut [[u64; 50]]) {
+fn read_with(rt: &impl Print, s: &[u8], n: usize, table: &mut [[u64; 50]]) -> io::Result<()> {
     if n <= table.len() {
-        read(s, &mut table[..n]);
-        return;
+        return read(rt, s, &mut table[..n]);
     }
-    print::bad_line();
+    print::bad_line(rt)
 }
 
-fn write_with(s: &[u8], n: usize, table: &mut [[u64; 50]], out: &mut [u8]) {
+fn write_with(
+    rt: &impl Print,
+    s: &[u8],
+    n: usize,
+    table: &mut [[u64; 50]],
+    out: &mut [u8],
+) -> io::Result<()> {
     if n <= table.len() {
-        write(s, &mut table[..n], out);
+        write(rt, s, &mut table[..n], out)?;
     }
+    Ok(())
 }
 
 // The message whose bytes a line has from a position on.
-fn message(line: &[u8], from: usize, n: usize, work: &mut [u8], table: &mut [[u64; 50]]) {
+fn message(
+    rt: &impl Print,
+    line: &[u8],
+    from: usize,
+    n: usize,
+    work: &mut [u8],
+    table: &mut [[u64; 50]],
+) -> io::Result<()> {
     let Hex::Octets(end) = text::octets(line, from, work) else {
-        print::bad_line();
-        return;
+        return print::bad_line(rt);
     };
     if end <= work.len() {
-        read_with(&work[..end], n, table);
+        read_with(rt, &work[..end], n, table)?;
     }
+    Ok(())
 }
 
 // The same for a message to be written again.
-fn rewrite(line: &[u8], from: usize, work: &mut [u8], table: &mut [[u64; 50]], out: &mut [u8]) {
+fn rewrite(
+    rt: &impl Print,
+    line: &[u8],
+    from: usize,
+    work: &mut [u8],
+    table: &mut [[u64; 50]],
+    out: &mut [u8],
+) -> io::Result<()> {
     let Hex::Octets(end) = text::octets(line, from, work) else {
-        print::bad_line();
-        return;
+        return print::bad_line(rt);
     };
     if end <= work.len() {
-        write_with(&work[..end], 256, table, out);
+        write_with(rt, &work[..end], 256, table, out)?;
     }
+    Ok(())
 }
 
 // The table's length that a line has from a position up to an end: digits, the first of several not 0. The largest for none.
@@ -117,36 +136,46 @@ fn length_of(line: &[u8], from: usize, end: usize) -> usize {
     }
 }
 
-fn answer(line: &[u8], work: &mut [u8], table: &mut [[u64; 50]], out: &mut [u8]) {
+fn answer(
+    rt: &impl Print,
+    line: &[u8],
+    work: &mut [u8],
+    table: &mut [[u64; 50]],
+    out: &mut [u8],
+) -> io::Result<()> {
     if text::starts(line, b"write ") {
-        rewrite(line, 6, work, table, out);
-        return;
+        return rewrite(rt, line, 6, work, table, out);
     }
     if !text::starts(line, b"read ") {
-        print::bad_line();
-        return;
+        return print::bad_line(rt);
     }
     let space = text::find(line, 5, b' ');
     if line.len() <= space {
-        message(line, 5, 256, work, table);
-        return;
+        return message(rt, line, 5, 256, work, table);
     }
-    message(line, space + 1, length_of(line, 5, space), work, table);
+    message(rt, line, space + 1, length_of(line, 5, space), work, table)
 }
 
 // Answers the line that was found.
-fn finish(found: Input, line: &[u8], work: &mut [u8], table: &mut [[u64; 50]], out: &mut [u8]) {
+fn finish(
+    rt: &impl Print,
+    found: Input,
+    line: &[u8],
+    work: &mut [u8],
+    table: &mut [[u64; 50]],
+    out: &mut [u8],
+) -> io::Result<()> {
     let n = found.len;
     if found.long {
-        print::bad_line();
-        return;
+        return print::bad_line(rt);
     }
     if n <= line.len() {
-        answer(&line[..n], work, table, out);
+        answer(rt, &line[..n], work, table, out)?;
     }
+    Ok(())
 }
 
-fn main() {
+fn main(rt: HostRuntime) -> io::Result<()> {
     let mut space = [0u8; 32790];
     let line: &mut [u8] = &mut space;
     let mut room = [0u8; 16385];
@@ -155,17 +184,19 @@ fn main() {
     let table: &mut [[u64; 50]] = &mut rows;
     let mut message = [0u8; 16384];
     let out: &mut [u8] = &mut message;
-    let mut buffer = io::large_buffer();
+    let mut buffer = [0u8; 65536];
     let block: &mut [u8] = &mut buffer;
     let mut found = input::start();
+    let mut reader = rt.stdin();
     // A proved loop has to end: it counts down from a number that no run uses up.
     let mut turns = u64::MAX;
     while turns > 0 {
         turns = turns - 1;
-        found = input::next(found, block, line);
+        found = input::next(&mut reader, found, block, line)?;
         if found.ended {
             break;
         }
-        finish(found, line, work, table, out);
+        finish(&rt, found, line, work, table, out)?;
     }
+    Ok(())
 }

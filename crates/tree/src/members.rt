@@ -3,67 +3,68 @@ use crate::value;
 use ber_values::Value;
 use glow_entries::{Flag, Key, Number, Part};
 use program_lines::print;
+use std::io;
 
-pub(crate) fn integer(name: &[u8], z: i64) {
-    print::say(name);
-    value::integer(z);
+pub(crate) fn integer(rt: &impl Print, name: &[u8], z: i64) -> io::Result<()> {
+    print::say(rt, name)?;
+    value::integer(rt, z)
 }
 
-pub(crate) fn number(name: &[u8], n: Number) {
+pub(crate) fn number(rt: &impl Print, name: &[u8], n: Number) -> io::Result<()> {
     match n {
-        Number::Absent => {}
-        Number::Is(z) => integer(name, z),
+        Number::Absent => Ok(()),
+        Number::Is(z) => integer(rt, name, z),
     }
 }
 
-pub(crate) fn flag(name: &[u8], f: Flag) {
+pub(crate) fn flag(rt: &impl Print, name: &[u8], f: Flag) -> io::Result<()> {
     match f {
-        Flag::Absent => {}
+        Flag::Absent => Ok(()),
         Flag::Is(b) => {
-            print::say(name);
-            value::flag(b);
+            print::say(rt, name)?;
+            value::flag(rt, b)
         }
     }
 }
 
-pub(crate) fn text(name: &[u8], s: &[u8], p: Part) {
+pub(crate) fn text(rt: &impl Print, name: &[u8], s: &[u8], p: Part) -> io::Result<()> {
     match p {
-        Part::Absent => {}
+        Part::Absent => Ok(()),
         Part::At { start, len } => {
-            print::say(name);
-            value::text(s, start, len);
+            print::say(rt, name)?;
+            value::text(rt, s, start, len)
         }
     }
 }
 
-pub(crate) fn list(name: &[u8], s: &[u8], p: Part) {
+pub(crate) fn list(rt: &impl Print, name: &[u8], s: &[u8], p: Part) -> io::Result<()> {
     match p {
-        Part::Absent => {}
+        Part::Absent => Ok(()),
         Part::At { start, len } => {
-            print::say(name);
-            value::list(s, start, len);
+            print::say(rt, name)?;
+            value::list(rt, s, start, len)
         }
     }
 }
 
 // A member of any kind, with its kind before it.
-pub(crate) fn any(name: &[u8], s: &[u8], v: Value) {
+pub(crate) fn any(rt: &impl Print, name: &[u8], s: &[u8], v: Value) -> io::Result<()> {
     match v {
-        Value::Absent => {}
+        Value::Absent => Ok(()),
         _ => {
-            print::say(name);
-            value::any(s, v);
+            print::say(rt, name)?;
+            value::any(rt, s, v)
         }
     }
 }
 
 // An element's number or path.
-pub(crate) fn key(s: &[u8], k: Key) {
+pub(crate) fn key(rt: &impl Print, s: &[u8], k: Key) -> io::Result<()> {
     match k {
-        Key::Number(z) => integer(b" number=", z),
+        Key::Number(z) => integer(rt, b" number=", z),
         Key::Path { start, len } => {
-            print::say(b" path=");
-            value::list(s, start, len);
+            print::say(rt, b" path=")?;
+            value::list(rt, s, start, len)
         }
     }
 }

@@ -1,26 +1,27 @@
 // Words for Root's kinds, kinds of entry and kinds of value.
 use glow_rows::kinds;
 use program_lines::print;
+use std::io;
 
-pub(crate) fn root(which: u64) {
+pub(crate) fn root(rt: &impl Print, which: u64) -> io::Result<()> {
     if which == 0 {
-        print::say(b"0 elements ");
+        print::say(rt, b"0 elements ")
     } else {
-        print::say(b"0 streams ");
+        print::say(rt, b"0 streams ")
     }
 }
 
-pub(crate) fn kind(kind: u64) {
+pub(crate) fn kind(rt: &impl Print, kind: u64) -> io::Result<()> {
     match kind {
-        kinds::PARAMETER => print::say(b"parameter"),
-        kinds::COMMAND => print::say(b"command"),
-        kinds::NODE => print::say(b"node"),
-        kinds::MATRIX => print::say(b"matrix"),
-        kinds::QUALIFIED_PARAMETER => print::say(b"qualified-parameter"),
-        kinds::QUALIFIED_NODE => print::say(b"qualified-node"),
-        kinds::QUALIFIED_MATRIX => print::say(b"qualified-matrix"),
-        kinds::CONNECTION => print::say(b"connection"),
-        kinds::STREAM_ENTRY => print::say(b"stream"),
-        _ => print::say(b"?"),
+        kinds::PARAMETER => print::say(rt, b"parameter"),
+        kinds::COMMAND => print::say(rt, b"command"),
+        kinds::NODE => print::say(rt, b"node"),
+        kinds::MATRIX => print::say(rt, b"matrix"),
+        kinds::QUALIFIED_PARAMETER => print::say(rt, b"qualified-parameter"),
+        kinds::QUALIFIED_NODE => print::say(rt, b"qualified-node"),
+        kinds::QUALIFIED_MATRIX => print::say(rt, b"qualified-matrix"),
+        kinds::CONNECTION => print::say(rt, b"connection"),
+        kinds::STREAM_ENTRY => print::say(rt, b"stream"),
+        _ => print::say(rt, b"?"),
     }
 }

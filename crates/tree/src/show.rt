@@ -4,76 +4,77 @@ use base_casts::word;
 use glow_reader::Answer;
 use glow_rows::{KIND, PARENT, kinds, word_at};
 use program_lines::print;
+use std::io;
 
-fn space() {
-    print::say(b" ");
+fn space(rt: &impl Print) -> io::Result<()> {
+    print::say(rt, b" ")
 }
 
 // The parent's place; a row has it and 1.
-fn parent(x: u64) {
+fn parent(rt: &impl Print, x: u64) -> io::Result<()> {
     if x == 0 {
-        print::say(b"-");
-        return;
+        return print::say(rt, b"-");
     }
-    print::decimal(x - 1);
+    print::decimal(rt, x - 1)
 }
 
 // The entry of a row, by the struct of its kind.
-fn of_kind(s: &[u8], row: &[u64; 50]) {
+fn of_kind(rt: &impl Print, s: &[u8], row: &[u64; 50]) -> io::Result<()> {
     match row[KIND] {
-        kinds::PARAMETER => entry::parameter(s, row),
-        kinds::QUALIFIED_PARAMETER => entry::parameter(s, row),
-        kinds::NODE => entry::node(s, row),
-        kinds::QUALIFIED_NODE => entry::node(s, row),
-        kinds::MATRIX => entry::matrix(s, row),
-        kinds::QUALIFIED_MATRIX => entry::matrix(s, row),
-        kinds::COMMAND => entry::command(row),
-        kinds::CONNECTION => entry::connection(s, row),
-        kinds::STREAM_ENTRY => entry::stream(s, row),
-        _ => print::say(b" ?"),
+        kinds::PARAMETER => entry::parameter(rt, s, row),
+        kinds::QUALIFIED_PARAMETER => entry::parameter(rt, s, row),
+        kinds::NODE => entry::node(rt, s, row),
+        kinds::QUALIFIED_NODE => entry::node(rt, s, row),
+        kinds::MATRIX => entry::matrix(rt, s, row),
+        kinds::QUALIFIED_MATRIX => entry::matrix(rt, s, row),
+        kinds::COMMAND => entry::command(rt, row),
+        kinds::CONNECTION => entry::connection(rt, s, row),
+        kinds::STREAM_ENTRY => entry::stream(rt, s, row),
+        _ => print::say(rt, b" ?"),
     }
 }
 
 // The line of the entry i.
-fn line(s: &[u8], table: &[[u64; 50]], i: usize) {
+fn line(rt: &impl Print, s: &[u8], table: &[[u64; 50]], i: usize) -> io::Result<()> {
     if table.len() <= i {
-        return;
+        return Ok(());
     }
-    print::decimal(word(i));
-    space();
-    parent(word_at(table, i, PARENT));
-    space();
-    names::kind(word_at(table, i, KIND));
-    of_kind(s, &table[i]);
-    print::end();
+    print::decimal(rt, word(i))?;
+    space(rt)?;
+    parent(rt, word_at(table, i, PARENT))?;
+    space(rt)?;
+    names::kind(rt, word_at(table, i, KIND))?;
+    of_kind(rt, s, &table[i])?;
+    print::end(rt)
 }
 
-fn entries(s: &[u8], table: &[[u64; 50]], count: usize) {
+fn entries(rt: &impl Print, s: &[u8], table: &[[u64; 50]], count: usize) -> io::Result<()> {
     let mut i: usize = 0;
     while i < count {
-        line(s, table, i);
+        line(rt, s, table, i)?;
         i = i + 1;
     }
+    Ok(())
 }
 
 // Two numbers, a line.
-fn two(a: u64, b: usize) {
-    print::decimal(a);
-    space();
-    print::decimal(word(b));
-    print::end();
+fn two(rt: &impl Print, a: u64, b: usize) -> io::Result<()> {
+    print::decimal(rt, a)?;
+    space(rt)?;
+    print::decimal(rt, word(b))?;
+    print::end(rt)
 }
 
-pub(crate) fn answer(s: &[u8], table: &[[u64; 50]], a: Answer) {
+pub(crate) fn answer(rt: &impl Print, s: &[u8], table: &[[u64; 50]], a: Answer) -> io::Result<()> {
     match a {
-        Answer::Setup => print::say(b"1\n"),
-        Answer::Refused { number, place } => two(number, place),
-        Answer::Room { count } => two(38, count),
+        Answer::Setup => print::say(rt, b"1\n"),
+        Answer::Refused { number, place } => two(rt, number, place),
+        Answer::Room { count } => two(rt, 38, count),
         Answer::Read { root, count } => {
-            names::root(root);
-            print::decimal(word(count));
-            print::end();
-            entries(s, table, count);
+            names::root(rt, root)?;
+            print::decimal(rt, word(count))?;
+            print::end(rt)?;
+            entries(rt, s, table, count)
         }
     }
 }

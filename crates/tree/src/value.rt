@@ -1,47 +1,47 @@
 // What a member holds, as text.
-ghost use Rattle.std.specs.Prelude.{◌≤◌};
+ghost use Rattle.std.specs.Prelude.{◌≤◌, IfOk};
 
 use ber_identifiers::Arc;
 use ber_values::Value;
 use glow_rows::tags;
 use program_lines::print;
+use std::io;
 
-pub(crate) fn flag(x: bool) {
+pub(crate) fn flag(rt: &impl Print, x: bool) -> io::Result<()> {
     if x {
-        print::say(b"true");
+        print::say(rt, b"true")
     } else {
-        print::say(b"false");
+        print::say(rt, b"false")
     }
 }
 
-pub(crate) fn integer(z: i64) {
+pub(crate) fn integer(rt: &impl Print, z: i64) -> io::Result<()> {
     let x = glow_entries::int_word(z);
     if x < 0x8000_0000_0000_0000 {
-        print::decimal(x);
-        return;
+        return print::decimal(rt, x);
     }
-    print::say(b"-");
-    print::decimal(0xFFFF_FFFF_FFFF_FFFF - x + 1);
+    print::say(rt, b"-")?;
+    print::decimal(rt, 0xFFFF_FFFF_FFFF_FFFF - x + 1)
 }
 
 // A double's 64 bits.
-fn real(x: f64) {
+fn real(rt: &impl Print, x: f64) -> io::Result<()> {
     let cell = glow_rows::cell_of(Value::Real(x));
     let bits = cell.first;
     let mut room = [0u8; 8];
     let out: &mut [u8] = &mut room;
     ber_integers::write_octets(bits, 8, out, 0);
-    print::hex(out);
+    print::hex(rt, out)
 }
 
-fn quote() {
-    print::say(b"\"");
+fn quote(rt: &impl Print) -> io::Result<()> {
+    print::say(rt, b"\"")
 }
 
-fn escaped(b: u8) {
-    print::say(b"\\");
+fn escaped(rt: &impl Print, b: u8) -> io::Result<()> {
+    print::say(rt, b"\\")?;
     let one = [b];
-    print::hex(&one);
+    print::hex(rt, &one)
 }
 
 fn is_plain(b: u8) -> bool {
@@ -71,44 +71,44 @@ fn plain_end(text: &[u8], from: usize) -> usize
     i
 }
 
-fn plain(text: &[u8], from: usize, end: usize) {
+fn plain(rt: &impl Print, text: &[u8], from: usize, end: usize) -> io::Result<()> {
     if from <= end {
         if end <= text.len() {
-            print::say(&text[from..end]);
+            print::say(rt, &text[from..end])?;
         }
     }
+    Ok(())
 }
 
 // The plain bytes from a position on and the one after them, if there is one; where it stands.
-fn run(text: &[u8], from: usize) -> usize
-    ensures { from ≤ result }
+fn run(rt: &impl Print, text: &[u8], from: usize) -> io::Result<usize>
+    ensures { IfOk result (λ end. from ≤ end) }
 {
     let end = plain_end(text, from);
-    plain(text, from, end);
+    plain(rt, text, from, end)?;
     if end < text.len() {
-        escaped(text[end]);
+        escaped(rt, text[end])?;
     }
-    end
+    Ok(end)
 }
 
-fn quoted(text: &[u8]) {
-    quote();
+fn quoted(rt: &impl Print, text: &[u8]) -> io::Result<()> {
+    quote(rt)?;
     let mut p: usize = 0;
     while p < text.len() {
-        let end = run(text, p);
+        let end = run(rt, text, p)?;
         if text.len() <= end {
             break;
         }
         p = end + 1;
     }
-    quote();
+    quote(rt)
 }
 
 // Numbers with dots between, `-` for none.
-fn numbers(octets: &[u8]) {
+fn numbers(rt: &impl Print, octets: &[u8]) -> io::Result<()> {
     if octets.len() == 0 {
-        print::say(b"-");
-        return;
+        return print::say(rt, b"-");
     }
     let end = octets.len();
     let mut p: usize = 0;
@@ -116,9 +116,9 @@ fn numbers(octets: &[u8]) {
         match ber_identifiers::read_number(octets, p, end) {
             Arc::Number { number, next } => {
                 if 0 < p {
-                    print::dot();
+                    print::dot(rt)?;
                 }
-                print::decimal(number);
+                print::decimal(rt, number)?;
                 p = next;
             }
             Arc::Range { next: _ } => {
@@ -129,59 +129,60 @@ fn numbers(octets: &[u8]) {
             }
         }
     }
+    Ok(())
 }
 
-fn part(tag: u64, octets: &[u8]) {
+fn part(rt: &impl Print, tag: u64, octets: &[u8]) -> io::Result<()> {
     match tag {
-        tags::OCTETS => print::hex(octets),
-        tags::TEXT => quoted(octets),
-        _ => numbers(octets),
+        tags::OCTETS => print::hex(rt, octets),
+        tags::TEXT => quoted(rt, octets),
+        _ => numbers(rt, octets),
     }
 }
 
 // The len octets of the message at a start.
-fn part_of(s: &[u8], tag: u64, start: usize, len: usize) {
+fn part_of(rt: &impl Print, s: &[u8], tag: u64, start: usize, len: usize) -> io::Result<()> {
     if s.len() < len {
-        return;
+        return Ok(());
     }
     if s.len() - len < start {
-        return;
+        return Ok(());
     }
     let end = start + len;
-    part(tag, &s[start..end]);
+    part(rt, tag, &s[start..end])
 }
 
-pub(crate) fn text(s: &[u8], start: usize, len: usize) {
-    part_of(s, tags::TEXT, start, len);
+pub(crate) fn text(rt: &impl Print, s: &[u8], start: usize, len: usize) -> io::Result<()> {
+    part_of(rt, s, tags::TEXT, start, len)
 }
 
-pub(crate) fn list(s: &[u8], start: usize, len: usize) {
-    part_of(s, tags::NUMBERS, start, len);
+pub(crate) fn list(rt: &impl Print, s: &[u8], start: usize, len: usize) -> io::Result<()> {
+    part_of(rt, s, tags::NUMBERS, start, len)
 }
 
 // A value with its kind before it.
-pub(crate) fn any(s: &[u8], v: Value) {
+pub(crate) fn any(rt: &impl Print, s: &[u8], v: Value) -> io::Result<()> {
     match v {
-        Value::Absent => {}
+        Value::Absent => Ok(()),
         Value::Int(z) => {
-            print::say(b"int:");
-            integer(z);
+            print::say(rt, b"int:")?;
+            integer(rt, z)
         }
         Value::Real(x) => {
-            print::say(b"real:");
-            real(x);
+            print::say(rt, b"real:")?;
+            real(rt, x)
         }
         Value::Text { start, len } => {
-            print::say(b"text:");
-            text(s, start, len);
+            print::say(rt, b"text:")?;
+            text(rt, s, start, len)
         }
         Value::Bool(b) => {
-            print::say(b"bool:");
-            flag(b);
+            print::say(rt, b"bool:")?;
+            flag(rt, b)
         }
         Value::Octets { start, len } => {
-            print::say(b"octets:");
-            part_of(s, tags::OCTETS, start, len);
+            print::say(rt, b"octets:")?;
+            part_of(rt, s, tags::OCTETS, start, len)
         }
     }
 }
