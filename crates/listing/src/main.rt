@@ -9,9 +9,10 @@ ghost use Rattle.std.specs.Prelude.{◌≤◌};
 
 use framing::{Event, Session};
 use glow_reader::Answer;
-use libc::{STDERR_FILENO, STDIN_FILENO};
 use line::Line;
 use program_lines::print;
+use std::io;
+use std::io::Read;
 
 // What is kept from chunk to chunk: the session, the count of events, and whether all is done.
 #[derive(Clone, Copy)]
@@ -56,22 +57,27 @@ fn tree(store: &[u8], n: usize, table: &mut [[u64; 50]]) -> u64 {
     1
 }
 
-fn head(count: u64, event: Event) {
-    print::decimal(count);
-    print::say(b" ");
-    print::decimal(framing_events::number(event));
+fn head(rt: &impl Print, count: u64, event: Event) -> io::Result<()> {
+    print::decimal(rt, count)?;
+    print::say(rt, b" ")?;
+    print::decimal(rt, framing_events::number(event))
 }
 
 // An event's line. Only a finished message goes on to the tree reader.
-fn show(count: u64, event: Event, store: &[u8], table: &mut [[u64; 50]]) {
-    head(count, event);
+fn show(
+    rt: &impl Print,
+    count: u64,
+    event: Event,
+    store: &[u8],
+    table: &mut [[u64; 50]],
+) -> io::Result<()> {
+    head(rt, count, event)?;
     let Event::Message { length, .. } = event else {
-        print::end();
-        return;
+        return print::end(rt);
     };
-    print::say(b" ");
-    print::decimal(tree(store, length, table));
-    print::end();
+    print::say(rt, b" ")?;
+    print::decimal(rt, tree(store, length, table))?;
+    print::end(rt)
 }
 
 // No run has 2^64 events.
@@ -83,13 +89,19 @@ fn more(count: u64) -> u64 {
 }
 
 // Shows an event, and answers how many there were. A call that used up its chunk without an event shows nothing.
-fn report(count: u64, event: Event, store: &[u8], table: &mut [[u64; 50]]) -> u64 {
+fn report(
+    rt: &impl Print,
+    count: u64,
+    event: Event,
+    store: &[u8],
+    table: &mut [[u64; 50]],
+) -> io::Result<u64> {
     if let Event::More = event {
-        return count;
+        return Ok(count);
     }
     let next = more(count);
-    show(next, event, store, table);
-    next
+    show(rt, next, event, store, table)?;
+    Ok(next)
 }
 
 // A call consumes no more than it is offered.
@@ -104,7 +116,13 @@ fn least(consumed: usize, offered: usize) -> usize
 }
 
 // Offers a chunk until it is consumed.
-fn offer(run: Run, chunk: &[u8], store: &mut [u8], table: &mut [[u64; 50]]) -> Run {
+fn offer(
+    rt: &impl Print,
+    run: Run,
+    chunk: &[u8],
+    store: &mut [u8],
+    table: &mut [[u64; 50]],
+) -> io::Result<Run> {
     let mut session = run.session;
     let mut count = run.count;
     let mut from = 0;
@@ -115,51 +133,52 @@ fn offer(run: Run, chunk: &[u8], store: &mut [u8], table: &mut [[u64; 50]]) -> R
         let consumed = least(fed.consumed, chunk.len() - from);
         // Only 1 SETUP consumes nothing. It does not come here, and would end the run.
         if consumed == 0 {
-            return Run {
+            return Ok(Run {
                 session,
                 count,
                 done: true,
-            };
+            });
         }
         from += consumed;
         session = next;
-        count = report(count, event, store, table);
+        count = report(rt, count, event, store, table)?;
     }
-    Run {
+    Ok(Run {
         session,
         count,
         done: false,
-    }
+    })
 }
 
 // The run ends at a bad line.
-fn refuse(run: Run) -> Run {
-    print::bad_line();
+fn refuse(rt: &impl Print, run: Run) -> io::Result<Run> {
+    print::bad_line(rt)?;
     let mut last = run;
     last.done = true;
-    last
+    Ok(last)
 }
 
 // The run ends at the input's end.
-fn finish(run: Run, line: Line) -> Run {
+fn finish(rt: &impl Print, run: Run, line: Line) -> io::Result<Run> {
     if line.high < 16 {
-        return refuse(run);
+        return refuse(rt, run);
     }
-    print::say(b"end ");
-    print::decimal(run.count);
-    print::end();
+    print::say(rt, b"end ")?;
+    print::decimal(rt, run.count)?;
+    print::end(rt)?;
     let mut last = run;
     last.done = true;
-    last
+    Ok(last)
 }
 
 // Takes a block of the input, line by line, and answers the run and the line that is open at the block's end.
 fn take_block(
+    rt: &impl Print,
     progress: Progress,
     block: &mut [u8],
     store: &mut [u8],
     table: &mut [[u64; 50]],
-) -> Progress {
+) -> io::Result<Progress> {
     let mut run = progress.run;
     let mut line = progress.line;
     let mut from = 0;
@@ -168,58 +187,60 @@ fn take_block(
         let end = s.end;
         let next = s.next;
         line = s.line;
-        run = offer(run, &block[from..end], store, table);
+        run = offer(rt, run, &block[from..end], store, table)?;
         if run.done {
-            return Progress { run, line };
+            return Ok(Progress { run, line });
         }
         if s.bad {
-            let last = refuse(run);
-            return Progress { run: last, line };
+            let last = refuse(rt, run)?;
+            return Ok(Progress { run: last, line });
         }
         from = next;
     }
-    Progress { run, line }
+    Ok(Progress { run, line })
 }
 
 // Reads a block and takes it.
 fn turn(
+    rt: &(impl Print + Eprint),
+    reader: &mut impl Read,
     progress: Progress,
     block: &mut [u8],
     store: &mut [u8],
     table: &mut [[u64; 50]],
-) -> Progress {
-    let got = libc::read(STDIN_FILENO, block);
+) -> io::Result<Progress> {
     let line = progress.line;
-    if got < 0 {
-        io::write_all(STDERR_FILENO, b"listing: the input cannot be read\n");
+    let Ok(n) = reader.read(block) else {
+        rt.eprint("listing: the input cannot be read\n")?;
         let mut run = progress.run;
         run.done = true;
-        return Progress { run, line };
+        return Ok(Progress { run, line });
+    };
+    if n == 0 {
+        let run = finish(rt, progress.run, line)?;
+        return Ok(Progress { run, line });
     }
-    if got == 0 {
-        let run = finish(progress.run, line);
-        return Progress { run, line };
-    }
-    let n = io::count(got, block);
-    take_block(progress, &mut block[..n], store, table)
+    take_block(rt, progress, &mut block[..n], store, table)
 }
 
-fn main() {
-    let mut input = io::large_buffer();
+fn main(rt: HostRuntime) -> io::Result<()> {
+    let mut input = [0u8; 65536];
     let block: &mut [u8] = &mut input;
     let mut bytes = [0u8; 17408];
     let store: &mut [u8] = &mut bytes;
     let mut rows = [[0u64; 50]; 256];
     let table: &mut [[u64; 50]] = &mut rows;
     let mut progress = start();
+    let mut reader = rt.stdin();
     // A proved loop has to end: it counts down from a number that no run uses up.
     let mut turns = u64::MAX;
     while turns > 0 {
         turns = turns - 1;
-        progress = turn(progress, block, store, table);
+        progress = turn(&rt, &mut reader, progress, block, store, table)?;
         let run = progress.run;
         if run.done {
             break;
         }
     }
+    Ok(())
 }
