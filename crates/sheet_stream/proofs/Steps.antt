@@ -3,15 +3,11 @@ use Prim.Native.Nat.{ℕ, ◌≤◌, ◌<◌}
 use mathlib.Core.Path.{◌≡◌, refl, sym, ap, subst, ◌∙◌}
 use mathlib.Core.List.{List, [], ◌∷◌}
 use mathlib.Core.Bool.{Bool, true, false, true≢false}
-use mathlib.Core.Logic.{⊎_elim}
 use native.Mathlib.Omega.{arith}
 use borrow.Author.Tests.{eqb-true, eq-eqb, ne_eqb, le-leb, lt-leb}
-use types.Run.{OneOf}
-use denote.Enum.Declared.{tag_of}
 use lib.ListN.{length, take, length-take}
 use lib.Seq.{sets}
 use lib.Dec.{leb, eqb}
-use Rattle.framing_session.specs.contracts.Event as event
 use Rattle.framing_session.specs.declared.Event.{Event}
 use Rattle.framing_session.specs.declared.Event.TheVariants as ev
 use Rattle.framing_session.specs.declared.Fed.{Fed}
@@ -49,13 +45,11 @@ said-any ev.Response t = refl
 said-any (ev.Refused f d) t = refl
 
 -- the `else` of a `let .. else`
-pub no-message : (e : Event) → OneOf (0 ∷ 1 ∷ 2 ∷ 4 ∷ 5 ∷ 6 ∷ []) (tag_of event.the_type e) → (said_by e []).number < 10 → eqb (said_by e []).number 3 ≡ false
+pub no-message : (e : Event) → ((n : ℕ) (d : Bool) → e ≡ ev.Message n d → ⊥) → (said_by e []).number < 10 → eqb (said_by e []).number 3 ≡ false
 no-message ev.More k h = refl
 no-message ev.Setup k h = refl
 no-message (ev.Piece d) k h = refl
-no-message (ev.Message n d) k h =
-    absurd (⊎_elim (λ (q : 3 ≡ 0). omega arith) (⊎_elim (λ (q : 3 ≡ 1). omega arith) (⊎_elim (λ (q : 3 ≡ 2). omega arith)
-    (⊎_elim (λ (q : 3 ≡ 4). omega arith) (⊎_elim (λ (q : 3 ≡ 5). omega arith) (λ (q : 3 ≡ 6). omega arith))))) k)
+no-message (ev.Message n d) k h = absurd (k n d refl)
 no-message ev.Request k h = refl
 no-message ev.Response k h = refl
 no-message (ev.Refused f d) k h = absurd (omega (arith, number-high f, h))
