@@ -1,5 +1,5 @@
 use native.Mathlib.Omega.{arith}
-use mathlib.Core.Path.{sym, ◌∙◌}
+use mathlib.Core.Path.{◌∙◌}
 use Rattle.desk_requests.proofs.Totals.{limit-less, limit-many, limit-in, limit-over}
 use Rattle.desk_requests.proofs.limit_told.Goals as goal
 
@@ -8,25 +8,22 @@ returns-then-operation-eq-DISCONNECT c = limit-less c.args.operation _ (omega ar
 
 pub returns-then-is_many : goal.returns-then-is_many
 returns-then-is_many c =
-    let the-if1 = c.if-operation-eq-DISCONNECT in
     let the-is-many = c.is_many in
     let the-if2 = c.if-is_many in
-    limit-many c.args.f _ _ _ (λ z. the-if1.false (sym z)) (the-is-many.ensures ∙ the-if2.true)
+    limit-many c.args.f _ _ _ (λ z. omega arith) (the-is-many.ensures ∙ the-if2.true)
 
 pub returns-then-in_total : goal.returns-then-in_total
 returns-then-in_total c =
-    let the-if1 = c.if-operation-eq-DISCONNECT in
     let the-is-many = c.is_many in
     let the-if2 = c.if-is_many in
     let the-in-total = c.in_total in
     let the-if3 = c.if-in_total in
-    limit-in c.args.f _ _ _ (λ z. the-if1.false (sym z)) (the-is-many.ensures ∙ the-if2.false) (the-in-total.ensures ∙ the-if3.true)
+    limit-in c.args.f _ _ _ (λ z. omega arith) (the-is-many.ensures ∙ the-if2.false) (the-in-total.ensures ∙ the-if3.true)
 
 pub returns : goal.returns
 returns c =
-    let the-if1 = c.if-operation-eq-DISCONNECT in
     let the-is-many = c.is_many in
     let the-if2 = c.if-is_many in
     let the-in-total = c.in_total in
     let the-if3 = c.if-in_total in
-    limit-over c.args.f _ _ _ (λ z. the-if1.false (sym z)) (the-is-many.ensures ∙ the-if2.false) (the-in-total.ensures ∙ the-if3.false)
+    limit-over c.args.f _ _ _ (λ z. omega arith) (the-is-many.ensures ∙ the-if2.false) (the-in-total.ensures ∙ the-if3.false)
