@@ -2,6 +2,7 @@
 use base_casts::{index, word};
 use desk_crosspoints::{Figures, SIDE};
 use program_lines::print;
+use std::io;
 
 // A line of the picture: three bytes, and a byte for each source.
 const LINE: usize = SIDE + 3;
@@ -34,47 +35,55 @@ fn is_set(cells: &[u8], sources: usize, t: usize, s: usize) -> bool {
 }
 
 // A source that is set, after a dot where one stands before it. Whether one stands there then.
-fn source(cells: &[u8], sources: usize, t: usize, s: usize, begun: bool) -> bool {
+fn source(
+    rt: &impl Print,
+    cells: &[u8],
+    sources: usize,
+    t: usize,
+    s: usize,
+    begun: bool,
+) -> io::Result<bool> {
     if !is_set(cells, sources, t, s) {
-        return begun;
+        return Ok(begun);
     }
     if begun {
-        print::dot();
+        print::dot(rt)?;
     }
-    print::decimal(word(s));
-    true
+    print::decimal(rt, word(s))?;
+    Ok(true)
 }
 
 // The sources of a target, `-` for none.
-fn row(cells: &[u8], t: usize, sources: usize) {
+fn row(rt: &impl Print, cells: &[u8], t: usize, sources: usize) -> io::Result<()> {
     let mut begun = false;
     let mut s: usize = 0;
     while s < sources {
-        begun = source(cells, sources, t, s, begun);
+        begun = source(rt, cells, sources, t, s, begun)?;
         s = s + 1;
     }
     if !begun {
-        print::say(b"-");
+        print::say(rt, b"-")?;
     }
+    Ok(())
 }
 
-fn target(cells: &[u8], t: usize, sources: usize) {
+fn target(rt: &impl Print, cells: &[u8], t: usize, sources: usize) -> io::Result<()> {
     if 0 < t {
-        print::say(b";");
+        print::say(rt, b";")?;
     }
-    row(cells, t, sources);
+    row(rt, cells, t, sources)
 }
 
 // The sources of each target, a line.
-pub(crate) fn show(f: Figures, cells: &[u8]) {
+pub(crate) fn show(rt: &impl Print, f: Figures, cells: &[u8]) -> io::Result<()> {
     let targets = side(f.targets);
     let sources = side(f.sources);
     let mut t: usize = 0;
     while t < targets {
-        target(cells, t, sources);
+        target(rt, cells, t, sources)?;
         t = t + 1;
     }
-    print::end();
+    print::end(rt)
 }
 
 fn digit(n: usize) -> u8 {
@@ -145,41 +154,54 @@ fn marks(out: &mut [u8], cells: &[u8], t: usize, sources: usize) {
 }
 
 // A line of the picture: its first three bytes and a byte a source.
-fn flush(out: &[u8], sources: usize) {
+fn flush(rt: &impl Print, out: &[u8], sources: usize) -> io::Result<()> {
     if sources <= SIDE {
         let n = 3 + sources;
         if n <= out.len() {
-            print::say(&out[..n]);
+            print::say(rt, &out[..n])?;
         }
     }
-    print::end();
+    print::end(rt)
 }
 
-fn heading(out: &mut [u8], sources: usize, high: bool) {
+fn heading(rt: &impl Print, out: &mut [u8], sources: usize, high: bool) -> io::Result<()> {
     head(out, b' ', b' ');
     numbers(out, sources, high);
-    flush(out, sources);
+    flush(rt, out, sources)
 }
 
-fn drawn(out: &mut [u8], cells: &[u8], t: usize, sources: usize) {
+fn drawn(
+    rt: &impl Print,
+    out: &mut [u8],
+    cells: &[u8],
+    t: usize,
+    sources: usize,
+) -> io::Result<()> {
     head(out, tens(t), ones(t));
     marks(out, cells, t, sources);
-    flush(out, sources);
+    flush(rt, out, sources)
 }
 
-fn draw(out: &mut [u8], cells: &[u8], targets: usize, sources: usize) {
-    heading(out, sources, true);
-    heading(out, sources, false);
+fn draw(
+    rt: &impl Print,
+    out: &mut [u8],
+    cells: &[u8],
+    targets: usize,
+    sources: usize,
+) -> io::Result<()> {
+    heading(rt, out, sources, true)?;
+    heading(rt, out, sources, false)?;
     let mut t: usize = 0;
     while t < targets {
-        drawn(out, cells, t, sources);
+        drawn(rt, out, cells, t, sources)?;
         t = t + 1;
     }
+    Ok(())
 }
 
 // The crosspoints as a picture: targets down, sources across.
-pub(crate) fn grid(f: Figures, cells: &[u8]) {
+pub(crate) fn grid(rt: &impl Print, f: Figures, cells: &[u8]) -> io::Result<()> {
     let mut room = [0u8; LINE];
     let out: &mut [u8] = &mut room;
-    draw(out, cells, side(f.targets), side(f.sources));
+    draw(rt, out, cells, side(f.targets), side(f.sources))
 }

@@ -5,46 +5,47 @@ use desk_crosspoints::Figures;
 use framing::{Event, Fed, Session};
 use glow_reader::Answer;
 use program_lines::print;
+use std::io;
 use turns::{After, Turned};
 
-fn space() {
-    print::say(b" ");
+fn space(rt: &impl Print) -> io::Result<()> {
+    print::say(rt, b" ")
 }
 
 // An answer, after a comma where one stands before it.
-fn one(n: u8, i: usize) {
+fn one(rt: &impl Print, n: u8, i: usize) -> io::Result<()> {
     if 0 < i {
-        print::say(b",");
+        print::say(rt, b",")?;
     }
-    print::decimal(n as u64);
+    print::decimal(rt, n as u64)
 }
 
 // The desk's answers with commas between.
-fn list(answers: &[u8]) {
+fn list(rt: &impl Print, answers: &[u8]) -> io::Result<()> {
     let mut i: usize = 0;
     while i < answers.len() {
-        one(answers[i], i);
+        one(rt, answers[i], i)?;
         i = i + 1;
     }
+    Ok(())
 }
 
-fn first(answers: &[u8], n: usize) {
+fn first(rt: &impl Print, answers: &[u8], n: usize) -> io::Result<()> {
     if n == 0 {
-        print::say(b"-");
-        return;
+        return print::say(rt, b"-");
     }
     if n <= answers.len() {
-        list(&answers[..n]);
+        list(rt, &answers[..n])?;
     }
+    Ok(())
 }
 
 // What the desk's call gave. 1 does not come here: the desk is legal, and the entries are as read.
-fn called(number: u64, answers: &[u8], n: usize) {
+fn called(rt: &impl Print, number: u64, answers: &[u8], n: usize) -> io::Result<()> {
     if number != 0 {
-        print::decimal(number);
-        return;
+        return print::decimal(rt, number);
     }
-    first(answers, n);
+    first(rt, answers, n)
 }
 
 // The tree's number.
@@ -58,12 +59,12 @@ fn number(answer: Answer) -> u64 {
 }
 
 // What came after the session's call.
-fn after(a: After, answers: &[u8]) {
+fn after(rt: &impl Print, a: After, answers: &[u8]) -> io::Result<()> {
     match a {
-        After::Nothing => (),
+        After::Nothing => Ok(()),
         After::Refused { answer } => {
-            space();
-            print::decimal(number(answer));
+            space(rt)?;
+            print::decimal(rt, number(answer))
         }
         After::Served {
             root: _,
@@ -71,25 +72,25 @@ fn after(a: After, answers: &[u8]) {
             number: n,
             answered,
         } => {
-            print::say(b" 0 ");
-            called(n, answers, answered);
+            print::say(rt, b" 0 ")?;
+            called(rt, n, answers, answered)
         }
     }
 }
 
 // An event's line. A call that used up its chunk without an event has none.
-fn report(t: Turned) {
+fn report(rt: &impl Print, t: Turned) -> io::Result<()> {
     let fed = t.fed;
     let event = fed.event;
     if let Event::More = event {
-        return;
+        return Ok(());
     }
-    print::decimal(framing_events::number(event));
+    print::decimal(rt, framing_events::number(event))?;
     let a = t.after;
     let given = t.answers;
     let answers: &[u8] = &given;
-    after(a, answers);
-    print::end();
+    after(rt, a, answers)?;
+    print::end(rt)
 }
 
 // The place after the bytes that a call consumed of those from a place on: it consumes no more than it is offered.
@@ -105,6 +106,7 @@ fn onward(from: usize, consumed: usize, end: usize) -> usize
 
 // A whole turn and its event's line.
 fn told(
+    rt: &impl Print,
     session: Session,
     store: &mut [u8],
     chunk: &[u8],
@@ -112,46 +114,48 @@ fn told(
     f: Figures,
     path: &[u64],
     cells: &mut [u8],
-) -> Fed {
+) -> io::Result<Fed> {
     let t = turns::turn(session, store, chunk, table, f, path, cells);
-    report(t);
-    t.fed
+    report(rt, t)?;
+    Ok(t.fed)
 }
 
 // .. with a table of its own.
 fn turn(
+    rt: &impl Print,
     session: Session,
     store: &mut [u8],
     chunk: &[u8],
     f: Figures,
     path: &[u64],
     cells: &mut [u8],
-) -> Fed {
+) -> io::Result<Fed> {
     let mut rows = [[0u64; 50]; 256];
     let table: &mut [[u64; 50]] = &mut rows;
-    told(session, store, chunk, table, f, path, cells)
+    told(rt, session, store, chunk, table, f, path, cells)
 }
 
 // Offers a chunk until it is consumed.
 pub(crate) fn offer(
+    rt: &impl Print,
     start: Session,
     chunk: &[u8],
     store: &mut [u8],
     f: Figures,
     path: &[u64],
     cells: &mut [u8],
-) -> Session {
+) -> io::Result<Session> {
     let mut session = start;
     let mut from = 0;
     while from < chunk.len() {
-        let fed = turn(session, store, &chunk[from..], f, path, cells);
+        let fed = turn(rt, session, store, &chunk[from..], f, path, cells)?;
         let next = onward(from, fed.consumed, chunk.len());
         // Only 1 SETUP consumes nothing. It does not come here, and would end the chunk.
         if next <= from {
-            return session;
+            return Ok(session);
         }
         from = next;
         session = fed.session;
     }
-    session
+    Ok(session)
 }
