@@ -5,63 +5,79 @@
 ghost use Rattle.std.specs.Prelude.{◌≡◌, length};
 
 use desk_crosspoints::Figures;
-use libc::STDIN_FILENO;
 use program_lines::print;
 use sheet_reader::{MOST, Sheet};
 use sheet_writer::Answer;
+use std::io;
+use std::io::Read;
 
-fn number(n: u64) {
-    print::decimal(n);
-    print::end();
+fn number(rt: &impl Print, n: u64) -> io::Result<()> {
+    print::decimal(rt, n)?;
+    print::end(rt)
 }
 
 // The lines of the sheet, after its number.
-fn lines(out: &[u8], length: usize) {
-    number(0);
+fn lines(rt: &impl Print, out: &[u8], length: usize) -> io::Result<()> {
+    number(rt, 0)?;
     if length <= out.len() {
-        print::say(&out[..length]);
+        print::say(rt, &out[..length])?;
     }
+    Ok(())
 }
 
 // Writes the sheet of a desk. 1 and 46 do not come here: the desk is legal, and the output has room for every sheet.
-fn write(f: Figures, path: &[u64], cells: &[u8]) {
-    let mut room = io::large_buffer();
+fn write(rt: &impl Print, f: Figures, path: &[u64], cells: &[u8]) -> io::Result<()> {
+    let mut room = [0u8; 65536];
     let out: &mut [u8] = &mut room;
     match sheet_writer::write(f, path, cells, out) {
-        Answer::Done { length } => lines(out, length),
-        Answer::Out => number(46),
-        Answer::Setup => number(1),
+        Answer::Done { length } => lines(rt, out, length),
+        Answer::Out => number(rt, 46),
+        Answer::Setup => number(rt, 1),
     }
 }
 
 // .. with the first n numbers of a list as its path, and the first cells, as many as it has, as its crosspoints.
-fn write_with(f: Figures, path: &[u64], n: usize, cells: &[u8]) {
+fn write_with(rt: &impl Print, f: Figures, path: &[u64], n: usize, cells: &[u8]) -> io::Result<()> {
     let size = desk_crosspoints::size(f);
     if cells.len() < size {
-        return;
+        return Ok(());
     }
     if n <= path.len() {
-        write(f, &path[..n], &cells[..size]);
+        write(rt, f, &path[..n], &cells[..size])?;
     }
+    Ok(())
 }
 
-fn read(text: &[u8], store: &mut [u8], path: &mut [u64], cells: &mut [u8]) {
+fn read(
+    rt: &impl Print,
+    text: &[u8],
+    store: &mut [u8],
+    path: &mut [u64],
+    cells: &mut [u8],
+) -> io::Result<()> {
     match sheet_reader::read(text, store, path, cells) {
-        Sheet::Setup => number(1),
-        Sheet::Refused { number: n } => number(n),
-        Sheet::Read { figures, length } => write_with(figures, path, length, cells),
+        Sheet::Setup => number(rt, 1),
+        Sheet::Refused { number: n } => number(rt, n),
+        Sheet::Read { figures, length } => write_with(rt, figures, path, length, cells),
     }
 }
 
 // Reads the sheet that the first n bytes are.
-fn take(text: &[u8], n: usize, store: &mut [u8], path: &mut [u64], cells: &mut [u8]) {
+fn take(
+    rt: &impl Print,
+    text: &[u8],
+    n: usize,
+    store: &mut [u8],
+    path: &mut [u64],
+    cells: &mut [u8],
+) -> io::Result<()> {
     if 600000 < n {
-        print::say(b"too long\n");
-        return;
+        return print::say(rt, b"too long\n");
     }
     if n <= text.len() {
-        read(&text[..n], store, path, cells);
+        read(rt, &text[..n], store, path, cells)?;
     }
+    Ok(())
 }
 
 // Room for the longest sheet and one byte more. A function's result, since an array of this length among other locals is laid out with each of them.
@@ -71,7 +87,20 @@ fn room() -> [u8; 600001]
     [0; 600001]
 }
 
-fn main() {
+// Reads until the space is full or the input ends: how many bytes.
+fn read_full(reader: &mut impl Read, space: &mut [u8]) -> io::Result<usize> {
+    let mut done: usize = 0;
+    while done < space.len() {
+        let n = reader.read(&mut space[done..])?;
+        if n == 0 {
+            break;
+        }
+        done += n;
+    }
+    Ok(done)
+}
+
+fn main(rt: HostRuntime) -> io::Result<()> {
     let mut space = room();
     let text: &mut [u8] = &mut space;
     let mut bytes = [0u8; 17408];
@@ -80,6 +109,7 @@ fn main() {
     let path: &mut [u64] = &mut steps;
     let mut points = [0u8; MOST];
     let cells: &mut [u8] = &mut points;
-    let n = io::read_full(STDIN_FILENO, text);
-    take(text, n, store, path, cells);
+    let mut reader = rt.stdin();
+    let n = read_full(&mut reader, text)?;
+    take(&rt, text, n, store, path, cells)
 }
