@@ -58,7 +58,7 @@ fn write(rt: &impl Print, s: &[u8], table: &mut [[u64; 50]], out: &mut [u8]) -> 
             let w = glow_writer::write::write(table, count, root, s, out);
             written(rt, w, out)
         }
-        _ => { show::answer(rt, s, table, found) }
+        _ => show::answer(rt, s, table, found),
     }
 }
 
