@@ -7,16 +7,16 @@ use native.Mathlib.Omega.{arith}
 use borrow.Author.Tests.{eqb-true, eq-eqb}
 use types.Run.{OneOf, miss}
 use lib.ListN.{length, get_or, drop}
-use lib.Dec.{leb, eqb}
+use lib.Dec.{eqb}
 use Rattle.base_choices.specs.Choices.{pick, both}
 use Rattle.glow_grammar.specs.Grammar.{members, rule_of, holds, children, connections}
 use Rattle.glow_trees.specs.Content.{Content, Item, item}
 use Rattle.glow_trees.specs.Trees.{Trees, none, tree, count, flat, among, stands_in}
 use Rattle.glow_trees.specs.Legal.{legal, legal_root, is_none, is_root, path_after}
-use Rattle.glow_paths.specs.Paths.{number_of, octets_of, numbers_in, is_qualified, same}
-use Rattle.desk_connections.specs.Connections.{Ask, ask, asks_of}
+use Rattle.glow_paths.specs.Paths.{octets_of, numbers_in, is_qualified, same}
+use Rattle.desk_connections.specs.Connections.{Ask, asks_of}
 use Rattle.desk_connections.proofs.Paths.{member_at, own_path, asks_down, asks-down, right, tests}
-use Rattle.desk_crosspoints.specs.Desk.{Desk, with_cells, answer}
+use Rattle.desk_crosspoints.specs.Desk.{Desk, with_cells}
 use Rattle.desk_requests.specs.Request.{Request, requested}
 use Rattle.desk_calls.specs.Calls.{request_of, answered, served}
 use Rattle.desk_calls.specs.Numbers.{request_numbers}

@@ -28,7 +28,7 @@ use Rattle.trees_round_trip.proofs.Theorems.{read-accepted}
 use Rattle.sheet_rules.specs.Reading as reading
 use Rattle.sheet_rules.specs.Reading.{refused, of_entries, of_answer, of_message}
 use Rattle.sheet_reader.specs.declared.Sheet.{Sheet}
-use Rattle.sheet_reader.specs.declared.Sheet.TheVariants.{Setup, Refused, Read}
+use Rattle.sheet_reader.specs.declared.Sheet.TheVariants.{Refused}
 use Rattle.sheet_reader.specs.Calls.{leaves}
 use Rattle.sheet_reader.specs.Steps.{Tells}
 

@@ -3,8 +3,7 @@ use Prim.Native.Nat.{ℕ, ◌≤◌}
 use mathlib.Core.Path.{◌≡◌, refl, sym, ap, subst, ◌∙◌}
 use mathlib.Core.List.{List, [], ◌∷◌}
 use mathlib.Core.Bool.{Bool, true, false}
-use mathlib.Core.Logic.{◌⊎◌, inl, inr, ⊎_elim}
-use native.Mathlib.Omega.{arith}
+use mathlib.Core.Logic.{inl, inr, ⊎_elim}
 use borrow.Author.Tests.{eqb-true, eqb-false, eq-eqb}
 use types.Run.{OneOf, hit}
 use lib.Dec.{ltb, eqb}
@@ -15,7 +14,6 @@ use Rattle.ber_integers.proofs.Radix.{Below}
 use Rattle.ber_integers.proofs.Numbers.{widen}
 use Rattle.ber_containers.specs.declared.Onto.{Onto}
 use Rattle.ber_containers.specs.declared.Onto.TheVariants.{Next, Refused as Stopped}
-use Rattle.glow_rows.specs.Entry.{Entries}
 use Rattle.glow_walk.specs.Walk.{walk}
 use Rattle.glow_reader.specs.Message.{refusals}
 use Rattle.glow_reader.proofs.Places.{OntoIn}
@@ -47,7 +45,7 @@ use Rattle.sheet_stream.proofs.Messages.{held-short, held-octets}
 use Rattle.sheet_stream.proofs.Numbers.{held-numbers}
 use Rattle.sheet_stream.proofs.Numbers as stream
 use Rattle.sheet_reader.proofs.Alone.{Of, Not40, alone-asks, served-not-40}
-use Rattle.sheet_reader.specs.Calls.{Outcome, outcome, setup, leaves, is_ready, sheet_read, refused_numbers, sheet_numbers}
+use Rattle.sheet_reader.specs.Calls.{Outcome, leaves, is_ready, sheet_read, refused_numbers, sheet_numbers}
 
 -- ---- what reading gives
 

@@ -11,7 +11,6 @@ use Rattle.framing_content.specs.declared.Fault.TheVariants.{Big}
 use Rattle.framing_content.specs.declared.Content.{Content}
 use Rattle.framing_content.specs.declared.Content.TheVariants.{Refused, Request, Response, Piece}
 use Rattle.framing_content.specs.Content.{content_of, payload}
-use Rattle.framing_content.specs.Numbers as framing
 use Rattle.framing_content.specs.Numbers.{message_limit}
 use Rattle.framing.specs.Offers.{joined}
 use Rattle.framing_session.specs.Rules.{outside, Message, none, part, State, Said, Step, Happening, refuses, joins, pieces, reads, ends, happens, after}

@@ -1,18 +1,17 @@
 -- Requests that make a legal desk from an empty one: each target in order, absolute with its sources ascending.
-use Prim.Native.Nat.{ℕ, zero, suc, ◌+◌, ◌-◌, ◌*◌, ◌≤◌, ◌<◌}
+use Prim.Native.Nat.{ℕ, zero, suc, ◌+◌, ◌*◌, ◌≤◌, ◌<◌}
 use mathlib.Core.Path.{◌≡◌, refl, sym, ap, subst, ◌∙◌}
-use mathlib.Core.List.{List, [], ◌∷◌, ◌++◌, append_assoc}
-use mathlib.Core.Bool.{Bool, true, false, true≢false}
-use mathlib.Core.Logic.{◌⊎◌, inl, inr, ⊎_elim}
+use mathlib.Core.List.{[], ◌∷◌, ◌++◌, append_assoc}
+use mathlib.Core.Bool.{Bool, true, false}
+use mathlib.Core.Logic.{⊎_elim}
 use native.Mathlib.Omega.{arith}
-use borrow.Author.Tests.{eqb-true, eqb-false, eq-eqb, ne_eqb, lt-ltb, le-ltb, le-leb, leb-true}
-use lib.ListN.{length, take, drop, get_or, set, length-append}
-use lib.Dec.{leb, ltb, eqb}
+use borrow.Author.Tests.{eqb-true, eqb-false, lt-ltb}
+use lib.ListN.{length, get_or, set, length-append}
+use lib.Dec.{eqb}
 use Rattle.base_choices.specs.Choices.{pick}
 use Rattle.ber_integers.proofs.Radix.{lt-or-le}
-use Rattle.desk_crosspoints.specs.Crosspoints.{Cells, bit, count, clear, holders, taken_from}
+use Rattle.desk_crosspoints.specs.Crosspoints.{Cells, bit, clear, holders, taken_from}
 use Rattle.desk_requests.specs.Request.{marked, named, all_below}
-use Rattle.desk_crosspoints.proofs.Laws.{bit-set, bit-clear}
 use Rattle.sheet_rules.specs.Sheet.{sources_from}
 
 -- ---- the list of a row names the row

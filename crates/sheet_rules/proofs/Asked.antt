@@ -1,20 +1,19 @@
 -- The entries of a sheet are read as its desk.
-use Prim.Native.Nat.{ℕ, zero, suc, ◌+◌, ◌-◌, ◌*◌, ◌≤◌, ◌<◌}
+use Prim.Native.Nat.{ℕ, zero, suc, ◌+◌, ◌*◌, ◌≤◌}
 use mathlib.Core.Path.{◌≡◌, refl, sym, ap, subst, ◌∙◌}
-use mathlib.Core.List.{List, [], ◌∷◌, ◌++◌, append-nil}
+use mathlib.Core.List.{List, [], ◌∷◌, append-nil}
 use mathlib.Core.Bool.{Bool, true, false}
-use mathlib.Core.Logic.{⊎_elim}
 use native.Mathlib.Omega.{arith}
-use borrow.Author.Tests.{eq-eqb, le-leb, leb-true}
-use lib.ListN.{length, get_or, drop}
+use borrow.Author.Tests.{eq-eqb, le-leb}
+use lib.ListN.{length, drop}
 use lib.Dec.{leb, eqb}
 use Rattle.base_choices.specs.Choices.{pick, both}
 use Rattle.base_choices.proofs.Laws.{both_left, both_right}
-use Rattle.ber_identifiers.specs.Identifier.{Arcs, numbers, arcs, oid_octets, in_range}
+use Rattle.ber_identifiers.specs.Identifier.{numbers, arcs, oid_octets, in_range}
 use Rattle.ber_identifiers.proofs.RoundTrip.{arcs-read}
-use Rattle.glow_grammar.specs.Grammar.{qualified_matrix, connection}
-use Rattle.glow_trees.specs.Content.{Content, nothing, word, bytes, Item, item}
-use Rattle.glow_trees.specs.Trees.{Trees, none, tree, flat, count}
+use Rattle.glow_grammar.specs.Grammar.{qualified_matrix}
+use Rattle.glow_trees.specs.Content.{Item, item}
+use Rattle.glow_trees.specs.Trees.{none, flat, count}
 use Rattle.desk_crosspoints.specs.declared.Limit.{Limit}
 use Rattle.desk_crosspoints.specs.declared.Limit.TheVariants.{Absent, Most}
 use Rattle.desk_crosspoints.specs.declared.Figures.{Figures}
@@ -25,7 +24,7 @@ use Rattle.desk_crosspoints.proofs.Laws.{fit-targets-le, fit-sources-le}
 use Rattle.desk_crosspoints.proofs.Legal.{legal-fit}
 use Rattle.desk_crosspoints.proofs.Counts.{clear-length}
 use Rattle.desk_crosspoints.proofs.Under.{take_short}
-use Rattle.glow_paths.specs.Paths.{list_of, numbers_in, octets_of, is_qualified, member_of, path_up, full_path, same}
+use Rattle.glow_paths.specs.Paths.{list_of, numbers_in, octets_of, is_qualified, path_up, full_path, same}
 use Rattle.desk_connections.specs.Connections.{Ask, ask, ask_of, asks_in, asks_of}
 use Rattle.desk_calls.specs.Calls.{answered, Served, served, handled}
 use Rattle.sheet_rules.specs.Sheet.{sources_from, sources_at, list, limit, left_out, matrix_members, links, sheet_tree}

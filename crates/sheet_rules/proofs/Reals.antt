@@ -6,8 +6,7 @@ use mathlib.Core.Bool.{true}
 use lib.ListN.{length}
 use Rattle.ber_integers.proofs.Radix.{Below}
 use Rattle.glow_grammar.specs.Grammar.{applications, contents_of, contents_rows}
-use Rattle.glow_trees.specs.Content.{word, bytes, nothing}
-use Rattle.glow_trees.specs.Trees.{Trees, none, tree, flat}
+use Rattle.glow_trees.specs.Trees.{flat}
 use Rattle.glow_trees.specs.Legal.{inner, legal_root}
 use Rattle.glow_trees.specs.Written.{tagged, spelled, member_octets, members_octets, wrapped, own, trees_octets, root_number, message_octets, written_real}
 use Rattle.trees_round_trip.proofs.Octets.{Octets, message-below}

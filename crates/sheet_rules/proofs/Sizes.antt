@@ -1,11 +1,10 @@
 -- The message of a legal desk's sheet is of octets, and far shorter than 16,384.
-use Prim.Native.Nat.{ℕ, zero, suc, ◌+◌, ◌-◌, ◌*◌, ◌/◌, ◌%◌, ◌≤◌, ◌<◌}
-use mathlib.Core.Path.{◌≡◌, refl, sym, ap, subst, ◌∙◌}
-use mathlib.Core.List.{List, [], ◌∷◌, ◌++◌, append-nil}
+use Prim.Native.Nat.{ℕ, zero, suc, ◌+◌, ◌*◌, ◌/◌, ◌%◌, ◌≤◌, ◌<◌}
+use mathlib.Core.Path.{◌≡◌, refl, sym, subst}
+use mathlib.Core.List.{List, [], ◌∷◌, ◌++◌}
 use mathlib.Core.Bool.{Bool, true, false}
-use mathlib.Core.Logic.{⊎_elim}
 use native.Mathlib.Omega.{arith}
-use borrow.Author.Tests.{le-leb, leb-true, lt-ltb}
+use borrow.Author.Tests.{leb-true}
 use lib.ListN.{length, drop, length-append}
 use lib.Dec.{leb, eqb}
 use lib.IntN.{pos}
@@ -13,14 +12,14 @@ use Rattle.base_choices.specs.Choices.{pick, both}
 use Rattle.ber_integers.specs.Digits.{digits}
 use Rattle.ber_integers.specs.Digits as digit
 use Rattle.ber_integers.specs.Integer.{shortest}
-use Rattle.ber_integers.proofs.Radix.{Below, lt-or-le, digits-below, count-least}
+use Rattle.ber_integers.proofs.Radix.{Below, digits-below, count-least}
 use Rattle.ber_integers.proofs.Sizes.{size-least}
 use Rattle.ber_integers.proofs.RoundTrip.{length-shortest}
 use Rattle.ber_tags.specs.Write.{marked, septets}
 use Rattle.ber_tags.proofs.Septets.{length-septets}
 use Rattle.ber_identifiers.specs.Identifier.{oid_octets, in_range}
 use Rattle.glow_grammar.specs.Grammar.{applications, contents_of, contents_rows}
-use Rattle.glow_trees.specs.Content.{Content, nothing, word, bytes, Item, item, int_of}
+use Rattle.glow_trees.specs.Content.{nothing, int_of}
 use Rattle.glow_trees.specs.Trees.{Trees, none, tree, flat, count}
 use Rattle.glow_trees.specs.Legal.{inner}
 use Rattle.glow_trees.specs.Written.{tagged, spelled, member_octets, members_octets, wrapped, own, trees_octets, root_number, message_octets, written_real}

@@ -1,18 +1,18 @@
 -- One request of a sheet: absolute with a target's sources, on crosspoints whose first rows are the desk's and whose others are empty.
-use Prim.Native.Nat.{ℕ, zero, suc, ◌+◌, ◌-◌, ◌*◌, ◌≤◌, ◌<◌}
+use Prim.Native.Nat.{ℕ, suc, ◌+◌, ◌-◌, ◌*◌, ◌≤◌, ◌<◌}
 use mathlib.Core.Path.{◌≡◌, refl, sym, ap, subst, ◌∙◌}
-use mathlib.Core.List.{List, [], ◌∷◌}
+use mathlib.Core.List.{List}
 use mathlib.Core.Bool.{Bool, true, false}
-use mathlib.Core.Logic.{◌⊎◌, inl, inr, ⊎_elim}
+use mathlib.Core.Logic.{inl, ⊎_elim}
 use native.Mathlib.Omega.{arith}
-use borrow.Author.Tests.{eqb-true, eqb-false, eq-eqb, ne_eqb, lt-ltb, le-ltb, lt-leb, le-leb, leb-true}
+use borrow.Author.Tests.{eqb-true, eqb-false, le-ltb, lt-leb, leb-true}
 use lib.ListN.{length, get_or, get_or-eq_default}
-use lib.Dec.{leb, ltb, eqb}
+use lib.Dec.{ltb, eqb}
 use Rattle.base_choices.specs.Choices.{pick, both}
 use Rattle.ber_integers.proofs.Radix.{lt-or-le}
 use Rattle.desk_crosspoints.specs.declared.Figures.{Figures}
 use Rattle.desk_crosspoints.specs.Figures.{cells_of, most_each, most_total}
-use Rattle.desk_crosspoints.specs.Crosspoints.{Cells, bit, count, clear, row_at, with_row, holders, taken_from, legal}
+use Rattle.desk_crosspoints.specs.Crosspoints.{Cells, count, clear, row_at, with_row, legal}
 use Rattle.desk_crosspoints.specs.Desk.{Desk, with_cells, answer}
 use Rattle.desk_requests.specs.Request.{Request, request, named, all_below, others, row_after, first_of, over_total, checks, judged, requested}
 use Rattle.desk_crosspoints.proofs.Laws.{each-one, kind-one, kind-many, fit-sources-some}

@@ -13,7 +13,6 @@ use Rattle.base_choices.specs.Choices.{pick}
 use Rattle.base_hex.specs.Digits.{digit_of, glyph_of, hex_text}
 use Rattle.base_hex.proofs.Laws.{glyph-read}
 use Rattle.ber_integers.proofs.Radix.{lt-or-le}
-use Rattle.framing_content.specs.Numbers as framing
 use Rattle.framing_content.specs.Numbers.{message_limit}
 use Rattle.framing_checksum.specs.Checksum.{checksum, octets_of}
 use Rattle.framing.specs.Offers.{joined}

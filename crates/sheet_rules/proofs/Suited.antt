@@ -1,19 +1,19 @@
 -- The tree of a legal desk's sheet is one that the reader accepts.
-use Prim.Native.Nat.{ℕ, zero, suc, ◌+◌, ◌-◌, ◌*◌, ◌≤◌, ◌<◌}
-use mathlib.Core.Path.{◌≡◌, refl, sym, ap, subst, ◌∙◌}
-use mathlib.Core.List.{List, [], ◌∷◌, ◌++◌}
+use Prim.Native.Nat.{ℕ, zero, suc, ◌+◌, ◌≤◌, ◌<◌}
+use mathlib.Core.Path.{◌≡◌, refl, ap, ◌∙◌}
+use mathlib.Core.List.{List, [], ◌∷◌}
 use mathlib.Core.Bool.{Bool, true, false}
 use native.Mathlib.Omega.{arith}
 use borrow.Author.Tests.{le-leb, lt-ltb, ne_eqb, leb-true}
 use lib.ListN.{length}
-use lib.Dec.{leb, ltb, eqb}
+use lib.Dec.{leb, eqb}
 use lib.IntN.{pos}
 use Rattle.base_choices.specs.Choices.{pick, both}
 use Rattle.base_choices.proofs.Laws.{both_left, both_right, both-make}
 use Rattle.ber_identifiers.specs.Identifier.{Arcs, numbers, arcs, oid_octets}
 use Rattle.ber_identifiers.specs.Identifier as oid
 use Rattle.glow_grammar.specs.Leaf.{expects, in_range, least, most, all_positive, is_path}
-use Rattle.glow_trees.specs.Content.{Content, nothing, word, bytes, int_of}
+use Rattle.glow_trees.specs.Content.{int_of}
 use Rattle.glow_trees.specs.Legal.{word_suits, part_suits, path_suits, list_suits, suits, suited, rule_at, complete, path_after, empty, inner, length_of}
 use Rattle.glow_trees.specs.Legal.{legal, legal_root}
 use Rattle.glow_trees.specs.Trees.{Trees, none, tree, among, count}

@@ -1,6 +1,6 @@
 -- "the tree's": what a sheet's message gives is what the tree reader answers with a table of 256 entries, whatever the table held.
-use Prim.Native.Nat.{ℕ, ◌≤◌, ◌<◌}
-use mathlib.Core.Path.{◌≡◌, refl, sym, ap, ◌∙◌}
+use Prim.Native.Nat.{ℕ, ◌≤◌}
+use mathlib.Core.Path.{◌≡◌, refl, ap}
 use mathlib.Core.List.{List}
 use mathlib.Core.Bool.{Bool, true, false}
 use native.Mathlib.Omega.{arith}
@@ -15,10 +15,10 @@ use Rattle.glow_rows.specs.Entry.{Entries, Rows, overlay}
 use Rattle.glow_reader.specs.declared.Answer.{Answer}
 use Rattle.glow_reader.specs.declared.Answer.TheVariants.{Setup, Refused as No, Room, Read}
 use Rattle.glow_walk.specs.Walk.{walk}
-use Rattle.glow_reader.specs.Message.{Result, read_result, read_of, read_at, setup}
+use Rattle.glow_reader.specs.Message.{read_result, read_of, read_at, setup}
 use Rattle.glow_trees.specs.Content.{items_of}
 use Rattle.glow_trees.specs.Rows.{items_in}
-use Rattle.trees_accepted.proofs.Message.{Tree, is-least}
+use Rattle.trees_accepted.proofs.Message.{is-least}
 use Rattle.glow_member_sizes.specs.Spelling.{least_real}
 use Rattle.trees_round_trip.proofs.Reals.{reals-least}
 use Rattle.trees_round_trip.proofs.Rows.{rows-items, tree-sixteen}

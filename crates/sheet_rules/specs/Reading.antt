@@ -10,7 +10,7 @@ use Rattle.glow_rows.specs.Entry.{Entries}
 use Rattle.glow_grammar.specs.Grammar.{qualified_matrix, connection}
 use Rattle.glow_trees.specs.Content.{Content, nothing, word, bytes, wrong, Item, items_of}
 use Rattle.glow_walk.specs.Walk.{Walk, walk}
-use Rattle.framing_session.specs.Rules.{Place, outside, stray, inside, escaped, bad_byte, too_long, Message, is_open, State, Happening, begin, happens, after}
+use Rattle.framing_session.specs.Rules.{Place, outside, stray, inside, escaped, bad_byte, too_long, is_open, State, Happening, begin, happens, after}
 use Rattle.desk_crosspoints.specs.declared.Limit.{Limit}
 use Rattle.desk_crosspoints.specs.declared.Limit.TheVariants.{Absent, Most}
 use Rattle.desk_crosspoints.specs.declared.Figures.{Figures}

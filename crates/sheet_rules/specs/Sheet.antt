@@ -1,6 +1,6 @@
 -- The route sheet of a desk (document 01, "Desk"): "one message holding the qualified matrix with type, counts and limits, every target and its sources
 -- ascending, operation and empty lists left out, written as upper-case hexadecimal lines, one frame and 0A a line."
-use Rattle.std.specs.Prelude.{ℕ, zero, suc, ◌+◌, ◌/◌, ◌%◌, List, [], ◌∷◌, ◌++◌, Bool, true, false, length, take, drop, eqb}
+use Rattle.std.specs.Prelude.{ℕ, zero, suc, ◌/◌, ◌%◌, List, [], ◌∷◌, ◌++◌, Bool, true, false, length, take, drop, eqb}
 use Rattle.base_choices.specs.Choices.{pick}
 use Rattle.base_hex.specs.Digits.{glyph_of, hex_text}
 use Rattle.ber_identifiers.specs.Identifier.{oid_octets}

@@ -1,5 +1,5 @@
 -- For the functions of this crate.
-use Rattle.std.specs.Prelude.{ℕ, Bool, true, false, List, [], ◌∷◌, eqb}
+use Rattle.std.specs.Prelude.{ℕ, Bool, true, List, [], ◌∷◌, eqb}
 use Rattle.base_choices.specs.Choices.{pick}
 use Rattle.base_hex.specs.Digits.{digit_of}
 use Rattle.sheet_rules.specs.Lines.{Come, fresh, pairs, half}

@@ -16,7 +16,7 @@ use Rattle.framing_content.specs.declared.Content.TheVariants.{Refused, Request,
 use Rattle.framing_content.specs.declared.Fault.{Fault}
 use Rattle.framing_content.specs.declared.Fault.TheVariants.{Stray, Cut, Byte, Long, Escape, Orphan, Big}
 use Rattle.framing_content.specs.Content.{content_of, payload}
-use Rattle.framing_content.specs.Numbers.{BOF, EOF, CE, content_limit, message_limit, number}
+use Rattle.framing_content.specs.Numbers.{BOF, EOF, CE, content_limit, message_limit}
 use Rattle.framing_session.specs.Rules.{Place, outside, stray, inside, escaped, bad_byte, too_long, Message, none, part, is_open, State, Step}
 use Rattle.framing_session.specs.Rules.{makes, refuses, adds, joins, pieces, reads, ends, faulted, cuts, in_place, step}
 use Rattle.framing_session.specs.Session.{held}

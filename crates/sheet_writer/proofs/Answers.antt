@@ -1,15 +1,13 @@
 -- What the sheet writer answers.
 use Prim.Native.Nat.{ℕ, ◌≤◌}
 use mathlib.Core.Path.{◌≡◌, refl, sym, ap, ◌∙◌}
-use mathlib.Core.List.{List, [], ◌∷◌}
+use mathlib.Core.List.{List}
 use mathlib.Core.Bool.{true, false}
 use native.Mathlib.Omega.{arith}
 use lib.ListN.{length}
-use Rattle.ber_integers.proofs.Radix.{Below}
 use Rattle.framing_packets.specs.declared.Written.{Written}
 use Rattle.framing_packets.specs.declared.Written.TheVariants as written
 use Rattle.framing_packets.specs.Written.{outcome, into, in_packets}
-use Rattle.framing_packets.specs.Read.{Bytes}
 use Rattle.framing_packets.proofs.Laws.{limited-fits}
 use Rattle.desk_crosspoints.specs.Desk.{Desk, desk_legal}
 use Rattle.sheet_rules.specs.Sheet.{sheet_message, sheet_of, breaks_into}

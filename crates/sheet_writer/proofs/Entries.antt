@@ -2,20 +2,19 @@
 use Prim.Native.Nat.{ℕ, zero, suc, ◌+◌, ◌*◌, ◌≤◌, ◌<◌}
 use mathlib.Core.Path.{◌≡◌, refl, sym, ap, ◌∙◌}
 use mathlib.Core.List.{List, [], ◌∷◌, ◌++◌, append_assoc, append-nil}
-use mathlib.Core.Bool.{Bool, true, false}
+use mathlib.Core.Bool.{true}
 use native.Mathlib.Omega.{arith}
 use borrow.Author.Tests.{le-leb, leb-true, lt-ltb, ne_eqb}
 use lib.ListN.{length, take, drop, set, length-append, length-drop}
 use lib.Seq.{sets, sets-eq, take_at, drop_at}
-use lib.Dec.{leb, eqb}
-use Rattle.base_choices.specs.Choices.{pick}
+use lib.Dec.{leb}
 use Rattle.base_choices.proofs.Laws.{both_right}
 use Rattle.ber_integers.specs.Digits.{Put, put, outcome}
 use Rattle.ber_integers.specs.declared.Wrote.{Wrote}
 use Rattle.ber_integers.specs.declared.Wrote.TheVariants.{Next}
 use Rattle.ber_tags.specs.Write.{septets}
 use Rattle.ber_tags.proofs.Septets.{length-septets}
-use Rattle.ber_identifiers.specs.Identifier.{oid_octets, in_range, put_oid}
+use Rattle.ber_identifiers.specs.Identifier.{oid_octets, put_oid}
 use Rattle.glow_rows.specs.Cell.{absent, numbers, numbers_cell}
 use Rattle.glow_rows.specs.Entry.{Entry, Entries, blanks, row, Rows, overlay}
 use Rattle.framing_session.proofs.Lists.{sets-append}

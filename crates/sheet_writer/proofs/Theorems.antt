@@ -1,5 +1,5 @@
 -- The theorems of the route sheet writer, over what the code is proved to answer (`writes_sheet`, specs/Calls.antt): for all desks and outputs.
-use Prim.Native.Nat.{ℕ, ◌+◌, ◌≤◌}
+use Prim.Native.Nat.{ℕ, ◌≤◌}
 use mathlib.Core.Path.{◌≡◌, refl, sym, ap, ◌∙◌}
 use mathlib.Core.List.{List, ◌++◌}
 use mathlib.Core.Bool.{Bool, true, false}

@@ -4,7 +4,7 @@ use borrow.Author.Rules.{rules}
 use Rattle.sheet_entries.proofs.figures_of.Goals as goal
 
 pub returns : goal.returns
-returns c = 
+returns c =
     let a : c.number_word.result < 2 ^ 64 = search rules in
     let b : c.number_word-2.result < 2 ^ 64 = search rules in
     let d : c.number_word-3.result < 2 ^ 64 = search rules in

@@ -1,6 +1,5 @@
 use native.Mathlib.Omega.{arith}
 use mathlib.Core.Path.{refl, sym, ◌∙◌}
-use Prim.Native.Nat.{◌-◌}
 use Rattle.sheet_entries.proofs.Numbers.{refused_none, refused-one, refused-more}
 use Rattle.sheet_entries.proofs.first_refused.Goals as goal
 
@@ -8,7 +7,7 @@ pub loop-j-init : goal.loop-j-init
 loop-j-init c = refl
 
 pub returns-then-answers-j-ne0 : goal.returns-then-answers-j-ne0
-returns-then-answers-j-ne0 c = 
+returns-then-answers-j-ne0 c =
     let the-loop = c.loop-j in
     the-loop.invariant ∙ refused-one _ _ c.loop-j-test.true c.if-answers-j-ne0.true ∙ sym c.wide.ensures.value
 
@@ -19,11 +18,11 @@ pub loop-j-smaller : goal.loop-j-smaller
 loop-j-smaller c = omega arith
 
 pub loop-j-preserved : goal.loop-j-preserved
-loop-j-preserved c = 
+loop-j-preserved c =
     let the-loop = c.loop-j in
     the-loop.invariant ∙ refused-more _ _ c.loop-j-test.true c.if-answers-j-ne0.false
 
 pub returns : goal.returns
-returns c = 
+returns c =
     let the-loop = c.loop-j in
     the-loop.invariant ∙ refused_none _ _ c.loop-j-test.false

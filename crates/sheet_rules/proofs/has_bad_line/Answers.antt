@@ -1,4 +1,3 @@
-use Prim.Native.Nat.{◌-◌}
 use mathlib.Core.Path.{◌∙◌}
 use native.Mathlib.Omega.{arith}
 use Rattle.sheet_rules.proofs.Laws.{bad-start, bad-yes, bad-on, bad-end}
@@ -11,7 +10,7 @@ pub bounds-text-i : goal.bounds-text-i
 bounds-text-i c = omega arith
 
 pub returns-then-k-eq-BAD : goal.returns-then-k-eq-BAD
-returns-then-k-eq-BAD c = 
+returns-then-k-eq-BAD c =
     let the-loop = c.loop-i in
     the-loop.invariant.1 ∙ bad-yes _ _ _ _ c.loop-i-test.true c.step_line-k.ensures c.if-k-eq-BAD.true
 
@@ -22,7 +21,7 @@ pub loop-i-smaller : goal.loop-i-smaller
 loop-i-smaller c = omega arith
 
 pub loop-i-preserved : goal.loop-i-preserved
-loop-i-preserved c = 
+loop-i-preserved c =
     let the-loop = c.loop-i in
     (omega arith, the-loop.invariant.1 ∙ bad-on _ _ _ _ c.loop-i-test.true c.step_line-k.ensures c.if-k-eq-BAD.false)
 

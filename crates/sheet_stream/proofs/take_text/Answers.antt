@@ -3,7 +3,6 @@ use Rattle.sheet_stream.proofs.Steps.{sound-start, goes-start, goes-as, goes-byt
 use Rattle.sheet_stream.proofs.Lines.{bytes-over, bytes-first, bytes_pair, bytes-end}
 use native.Mathlib.Omega.{arith}
 use mathlib.Core.Path.{refl}
-use Prim.Native.Nat.{◌-◌}
 use Rattle.sheet_stream.proofs.take_text.Goals as goal
 
 pub loop-i-init : goal.loop-i-init
@@ -19,9 +18,8 @@ pub loop-i-smaller-then-d-eq-NO_DIGIT : goal.loop-i-smaller-then-d-eq-NO_DIGIT
 loop-i-smaller-then-d-eq-NO_DIGIT c = omega arith
 
 pub loop-i-preserved-then-d-eq-NO_DIGIT : goal.loop-i-preserved-then-d-eq-NO_DIGIT
-loop-i-preserved-then-d-eq-NO_DIGIT c = 
-    let the-loop = c.loop-i in
-    (
+loop-i-preserved-then-d-eq-NO_DIGIT c =
+    let the-loop = c.loop-i in (
       omega arith,
       (
         the-loop.invariant.1.0,
@@ -42,9 +40,8 @@ pub loop-i-smaller-then-first-eq-NO_DIGIT : goal.loop-i-smaller-then-first-eq-NO
 loop-i-smaller-then-first-eq-NO_DIGIT c = omega arith
 
 pub loop-i-preserved-then-first-eq-NO_DIGIT : goal.loop-i-preserved-then-first-eq-NO_DIGIT
-loop-i-preserved-then-first-eq-NO_DIGIT c = 
-    let the-loop = c.loop-i in
-    (
+loop-i-preserved-then-first-eq-NO_DIGIT c =
+    let the-loop = c.loop-i in (
       omega arith,
       (
         c.digit-d.ensures.upper_bound,
@@ -68,7 +65,7 @@ pub shape_of-store-then-tally-ne0 : goal.shape_of-store-then-tally-ne0
 shape_of-store-then-tally-ne0 c = omega arith
 
 pub returns-then-tally-ne0 : goal.returns-then-tally-ne0
-returns-then-tally-ne0 c = 
+returns-then-tally-ne0 c =
     let the-loop = c.loop-i in let both = goes-refused (goes-byte (goes-as the-loop.invariant.1.1.1.1.1
     (bytes_pair _ _ _ _ c.loop-i-test.true c.digit-d.ensures.b_value c.if-d-eq-NO_DIGIT.false c.if-first-eq-NO_DIGIT.false))
     c.take_byte-tally.ensures) c.if-tally-ne0.true in record { text_value = both.0; text_value_2 = both.1 }
@@ -77,9 +74,8 @@ pub loop-i-smaller : goal.loop-i-smaller
 loop-i-smaller c = omega arith
 
 pub loop-i-preserved : goal.loop-i-preserved
-loop-i-preserved c = 
-    let the-loop = c.loop-i in
-    (
+loop-i-preserved c =
+    let the-loop = c.loop-i in (
       omega arith,
       (
         omega arith,

@@ -6,7 +6,7 @@ use Prim.Native.Nat.{◌≤◌, ◌-◌}
 use Rattle.sheet_stream.proofs.take_text.Given as goal
 
 abbrev pub invariant-loop-i : goal.invariant-loop-i
-invariant-loop-i l =    (l.i ≤ length l.text) × ((l.first ≤ 16) × ((length l.store ≡ length l.initial.store) × (Sound l.tally l.store × ((l.tally.refused ≡ 0)
+invariant-loop-i l = (l.i ≤ length l.text) × ((l.first ≤ 16) × ((length l.store ≡ length l.initial.store) × (Sound l.tally l.store × ((l.tally.refused ≡ 0)
     × Goes (bytes_from 16 l.text) l.initial.store l.tally l.store (bytes_from l.first (drop l.i l.text))))))
 
 abbrev pub decreases-loop-i : goal.decreases-loop-i

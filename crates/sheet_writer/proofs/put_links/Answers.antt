@@ -1,4 +1,3 @@
-use Prim.Native.Nat.{◌-◌}
 use mathlib.Core.Path.{refl, ◌∙◌}
 use native.Mathlib.Omega.{arith}
 use Rattle.desk_crosspoints.proofs.Under.{rows_apart}
@@ -9,7 +8,7 @@ pub loop-t-init : goal.loop-t-init
 loop-t-init c = (omega arith, (omega arith, (refl, (refl, links-begin _ _ _ 0 _))))
 
 pub put_link-next-requires : goal.put_link-next-requires
-put_link-next-requires c = 
+put_link-next-requires c =
     let the-loop = c.loop-t in
     let a = rows_apart the-loop.t c.args.targets c.args.w c.loop-t-test.true in record { w_in_bounds = (omega (arith, a, c.requires.cells_len.0), c.requires.cells_len.1); t_lt_side = omega arith }
 
@@ -20,7 +19,7 @@ pub loop-t-smaller : goal.loop-t-smaller
 loop-t-smaller c = omega arith
 
 pub loop-t-preserved : goal.loop-t-preserved
-loop-t-preserved c = 
+loop-t-preserved c =
     let l = c.loop-t in
     let h = c.loop-t-test.true in (
       omega arith,

@@ -7,7 +7,7 @@ use Rattle.sheet_writer.proofs.put_links.Given as goal
 
 -- The invariant: the targets that are left, filled in from here, leave what all of them leave.
 abbrev pub invariant-loop-t : goal.invariant-loop-t
-invariant-loop-t l =    (l.t ≤ l.targets)
+invariant-loop-t l = (l.t ≤ l.targets)
     × ((l.next ≤ l.at + l.t * side)
     × ((length l.rows ≡ length l.initial.rows)
     × ((length l.octets ≡ length l.initial.octets)
