@@ -1,3 +1,2 @@
 // What is proved, on one page: theorems alone.
 #![tactic(auto)]
-

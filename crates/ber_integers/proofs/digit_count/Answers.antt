@@ -18,13 +18,13 @@ pub loop-r-smaller : goal.loop-r-smaller
 loop-r-smaller c = div-lt_self c.loop-r-test.true c.requires
 
 pub loop-r-preserved : goal.loop-r-preserved
-loop-r-preserved c = 
+loop-r-preserved c =
     let l = c.loop-r in
     let q = count-more c.args.base l.invariant.1.0 l.r c.requires l.invariant.1.1.0 c.loop-r-test.true in
     let d : l.r / c.args.base < l.r = div-lt_self c.loop-r-test.true c.requires in
     (omega arith, (q.0, (q.1.0, omega (arith, q.1.1, l.invariant.1.1.1))))
 
 pub returns : goal.returns
-returns c = 
+returns c =
     let l = c.loop-r in let z : l.r ≡ 0 = omega arith in
     omega (arith, count_none c.args.base l.invariant.1.0 l.r z, l.invariant.1.1.1)

@@ -19,7 +19,7 @@ pub bounds-s-at : goal.bounds-s-at
 bounds-s-at c = omega arith
 
 pub overflow_add-acc : goal.overflow_add-acc
-overflow_add-acc c = 
+overflow_add-acc c =
     let k = seven c.loop-i-test.true c.requires.0 c.loop-i.invariant.1.0 in
     omega (arith, c.wide.ensures.upper_bound)
 
@@ -30,9 +30,9 @@ pub loop-i-smaller : goal.loop-i-smaller
 loop-i-smaller c = omega arith
 
 pub loop-i-preserved : goal.loop-i-preserved
-loop-i-preserved c = 
+loop-i-preserved c =
     let l = c.loop-i in
-     let a = c.args in
+    let a = c.args in
     let t : l.i < a.n = c.loop-i-test.true in
     let h : a.at + l.i < length a.s.now = omega arith in (
       omega arith,
@@ -43,7 +43,7 @@ loop-i-preserved c =
     )
 
 pub returns : goal.returns
-returns c = 
+returns c =
     let l = c.loop-i in
     let a = c.args in
     let e : l.i ≡ a.n = omega arith in record { value = sym (horner-done 256 l.acc a.s.now a.at l.i a.n c.loop-i-test.false) ∙ l.invariant.1.1; upper_bound = rw (sym e) l.invariant.1.0 }

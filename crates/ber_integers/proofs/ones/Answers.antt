@@ -25,7 +25,7 @@ pub loop-i-smaller : goal.loop-i-smaller
 loop-i-smaller c = omega arith
 
 pub loop-i-preserved : goal.loop-i-preserved
-loop-i-preserved c = 
+loop-i-preserved c =
     let l = c.loop-i in
     let e : l.i + 1 ≡ suc l.i = omega arith in
     let d : (l.acc + 1) * 256 ≡ 256 ^ l.i * 256 = ap (λ (x : ℕ). x * 256) l.invariant.1 in

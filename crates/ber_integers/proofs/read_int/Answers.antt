@@ -20,7 +20,7 @@ pub returns-then-nine-eq511 : goal.returns-then-nine-eq511
 returns-then-nine-eq511 c = promised integer-row (integer-ones _ _ _ (omega arith) (omega arith) (sym c.nine_bits-nine.ensures ∙ c.if-nine-eq511.true))
 
 pub returns : goal.returns
-returns c = 
+returns c =
     promised integer-row (let e = c.nine_bits-nine.ensures in
     c.read_signed-2.ensures.is ∙ integer-free _ _ _ (omega arith) (omega arith) (λ h. c.if-nine-eq0.false (e ∙ h))
     (λ h. c.if-nine-eq511.false (e ∙ h)))

@@ -27,7 +27,7 @@ module _ (c : After-shared_slice_known-2-1) where
 
 far : (c : After-ones) → c.ones.result - c.natural_of-v.result < 2 ^ 63
 far c =
-     rw c.natural_of-v.ensures.value (high_fits _ _ _ (λ i. (c.shared_slice_known-2-1.given i).fits) (omega (arith, c.if-n-eq0.false)) c.if-n-gt8.false (omega arith) c.if-s-at-lt128.false c.ones.result c.ones.ensures)
+    rw c.natural_of-v.ensures.value (high_fits _ _ _ (λ i. (c.shared_slice_known-2-1.given i).fits) (omega (arith, c.if-n-eq0.false)) c.if-n-gt8.false (omega arith) c.if-s-at-lt128.false c.ones.result c.ones.ensures)
 
 pub returns-then-s-n : goal.returns-then-s-n
 returns-then-s-n c = promised integer-row (signed-out _ _ _ (omega arith))
@@ -42,7 +42,7 @@ pub returns-then-n-gt8 : goal.returns-then-n-gt8
 returns-then-n-gt8 c = promised integer-row (signed-long _ _ _ (omega arith) c.if-n-gt8.true)
 
 pub overflow_cast-result : goal.overflow_cast-result
-overflow_cast-result c = 
+overflow_cast-result c =
     record {
       sfits = rw c.natural_of-v.ensures.value
           (low_fits _ _ _ (bytes (goal.at.overflow_cast-result c).After-shared_slice_known-2-1) (some (goal.at.overflow_cast-result c).After-shared_slice_known-2-1) (few (goal.at.overflow_cast-result c).After-shared_slice_known-2-1) (within (goal.at.overflow_cast-result c).After-shared_slice_known-2-1) c.if-s-at-lt128.true);
@@ -55,13 +55,13 @@ pub overflow_sub-result-else-s-at-lt128 : goal.overflow_sub-result-else-s-at-lt1
 overflow_sub-result-else-s-at-lt128 c = minus-fits _ (far c)
 
 pub returns-then-s-at-lt128 : goal.returns-then-s-at-lt128
-returns-then-s-at-lt128 c = 
+returns-then-s-at-lt128 c =
     promised integer-row (let e = c.natural_of-v.ensures.value in
     let k = low_fits _ _ _ (bytes (goal.at.returns-then-s-at-lt128 c).After-shared_slice_known-2-1) (some (goal.at.returns-then-s-at-lt128 c).After-shared_slice_known-2-1) (few (goal.at.returns-then-s-at-lt128 c).After-shared_slice_known-2-1) (within (goal.at.returns-then-s-at-lt128 c).After-shared_slice_known-2-1) c.if-s-at-lt128.true in
-     ap Int (rw e (to_z_pos w64 k) ∙ sym (low-is _ _ _ (bytes (goal.at.returns-then-s-at-lt128 c).After-shared_slice_known-2-1) (some (goal.at.returns-then-s-at-lt128 c).After-shared_slice_known-2-1) (few (goal.at.returns-then-s-at-lt128 c).After-shared_slice_known-2-1) (within (goal.at.returns-then-s-at-lt128 c).After-shared_slice_known-2-1) c.if-s-at-lt128.true)) ∙ signed_is _ _ _ (within (goal.at.returns-then-s-at-lt128 c).After-shared_slice_known-2-1) (some (goal.at.returns-then-s-at-lt128 c).After-shared_slice_known-2-1) (few (goal.at.returns-then-s-at-lt128 c).After-shared_slice_known-2-1))
+    ap Int (rw e (to_z_pos w64 k) ∙ sym (low-is _ _ _ (bytes (goal.at.returns-then-s-at-lt128 c).After-shared_slice_known-2-1) (some (goal.at.returns-then-s-at-lt128 c).After-shared_slice_known-2-1) (few (goal.at.returns-then-s-at-lt128 c).After-shared_slice_known-2-1) (within (goal.at.returns-then-s-at-lt128 c).After-shared_slice_known-2-1) c.if-s-at-lt128.true)) ∙ signed_is _ _ _ (within (goal.at.returns-then-s-at-lt128 c).After-shared_slice_known-2-1) (some (goal.at.returns-then-s-at-lt128 c).After-shared_slice_known-2-1) (few (goal.at.returns-then-s-at-lt128 c).After-shared_slice_known-2-1))
 
 pub returns-else-s-at-lt128 : goal.returns-else-s-at-lt128
-returns-else-s-at-lt128 c = 
-    promised integer-row ( ap Int (minus_is _ (far c) ∙ rw c.natural_of-v.ensures.value
+returns-else-s-at-lt128 c =
+    promised integer-row (ap Int (minus_is _ (far c) ∙ rw c.natural_of-v.ensures.value
     (sym (high_is _ _ _ (bytes (goal.at.returns-else-s-at-lt128 c).After-shared_slice_known-2-1) (some (goal.at.returns-else-s-at-lt128 c).After-shared_slice_known-2-1) (few (goal.at.returns-else-s-at-lt128 c).After-shared_slice_known-2-1) (within (goal.at.returns-else-s-at-lt128 c).After-shared_slice_known-2-1) c.if-s-at-lt128.false c.ones.result c.ones.ensures)))
     ∙ signed_is _ _ _ (within (goal.at.returns-else-s-at-lt128 c).After-shared_slice_known-2-1) (some (goal.at.returns-else-s-at-lt128 c).After-shared_slice_known-2-1) (few (goal.at.returns-else-s-at-lt128 c).After-shared_slice_known-2-1))

@@ -13,14 +13,14 @@ pub loop-r-smaller : goal.loop-r-smaller
 loop-r-smaller c = omega arith
 
 pub loop-r-preserved : goal.loop-r-preserved
-loop-r-preserved c = 
+loop-r-preserved c =
     let l = c.loop-r in
     let h : 128 ≤ l.r = omega arith in
     let q = size-more l.invariant.1.0 l.r l.invariant.1.1.0 h in
     (omega arith, (q.0, (q.1.0, omega (arith, q.1.1, l.invariant.1.1.1))))
 
 pub returns : goal.returns
-returns c = 
+returns c =
     let l = c.loop-r in
     let h : l.r < 128 = omega arith in
     omega (arith, size_small l.invariant.1.0 l.r h, l.invariant.1.1.1)

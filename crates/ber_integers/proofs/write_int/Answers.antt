@@ -10,7 +10,7 @@ use Rattle.ber_integers.proofs.Sizes.{bits-octets}
 use Rattle.ber_integers.proofs.write_int.Goals as goal
 
 pub returns : goal.returns
-returns c = 
+returns c =
     let x = c.args.x in
     let r : to_z w64 (of_z w64 x) ≡ x = to_z-of_z c.ranges.x in
     let m : c.magnitude.result ≡ mag x =
