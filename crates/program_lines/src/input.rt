@@ -40,6 +40,10 @@ fn at_end(len: usize, long: bool) -> Input
     }
 }
 
+fn refill(reader: &mut impl Read, block: &mut [u8]) -> io::Result<usize> {
+    reader.read(block)
+}
+
 // Reads the next line into `line`, or fails where a read fails. No line stands after the last 0A. What block and line hold then is the input's;
 // they keep their lengths.
 pub fn next(
@@ -61,7 +65,7 @@ pub fn next(
         turns = turns - 1;
         if end <= at {
             at = 0;
-            end = reader.read(block)?;
+            end = refill(reader, block)?;
             if end == 0 {
                 return Ok(at_end(len, long));
             }
