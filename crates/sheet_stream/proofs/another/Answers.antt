@@ -1,8 +1,9 @@
+use mathlib.Core.Path.{refl}
 use borrow.Author.Tests.{eq-eqb, ne_eqb}
 use Rattle.sheet_stream.proofs.another.Goals as goal
 
 pub returns-then-k-eq0 : goal.returns-then-k-eq0
-returns-then-k-eq0 c = simp (eq-eqb _ _ c.if-k-eq0.true)
+returns-then-k-eq0 c = rw (eq-eqb _ _ c.if-k-eq0.true) refl
 
 pub returns-else-k-eq0 : goal.returns-else-k-eq0
-returns-else-k-eq0 c = simp (ne_eqb _ _ c.if-k-eq0.false)
+returns-else-k-eq0 c = rw (ne_eqb _ _ c.if-k-eq0.false) refl
