@@ -4,7 +4,7 @@ use Prim.Native.Nat.{ℕ}
 use mathlib.Core.List.{List, [], ◌∷◌}
 use mathlib.Core.Path.{◌≡◌, refl, ap, ◌∙◌}
 use contract.Lifetimes.{Lfts}
-use denote.Ref.{Bor}
+use denote.Ref.{Bor, MutBor}
 use denote.Triple.Clauses as Clauses
 use borrow.Fn.World as World
 use borrow.Fn.Kinds as K
@@ -24,6 +24,10 @@ use Rattle.ember.proofs.ember_turn.Reads as turn-reads
 -- a lent slice that holds xs
 lent_slice : {A : Type 0} → List A → Bor (List A)
 lent_slice xs = record { ref_ptr = (0, 0); now = xs }
+
+-- the same, lent to be written
+lent_out : {A : Type 0} → List A → MutBor (List A)
+lent_out xs = record { ref_ptr = (0, 0); ghost_name = 0; now = xs }
 
 -- `ember_feed`
 pub record FeedCall (ws t c a : List ℕ) (r : Called) : Type 0 where
@@ -54,12 +58,12 @@ feed-says {ws} {t} {c} {a} {r} k =
     fed-again r e k.session-left k.store-left k.answer-left
 
 pub feed-called : (ws t c a : List ℕ) (r : Called) → calls ws t c a ≡ r → FeedCall ws t c a r
-unfolding lent_slice
+unfolding lent_slice lent_out
 feed-called ws t c a r e =
     record {
       κs = ([], ([], ([], ([], tt))));
-      args = (lent_slice ws, (lent_slice t, (lent_slice c, (lent_slice a, tt))));
-      exits = (lent_slice r.session, (lent_slice r.store, (lent_slice c, (lent_slice r.answer, tt))));
+      args = (lent_out ws, (lent_out t, (lent_slice c, (lent_out a, tt))));
+      exits = (lent_out r.session, (lent_out r.store, (lent_slice c, (lent_out r.answer, tt))));
       session-is = refl;
       store_is = refl;
       chunk-is = refl;
@@ -118,27 +122,27 @@ turn-says {ws} {t} {c} {table} {fs} {path} {cells} {lent} {a} {x} k =
 
 module _ (ws t c : List ℕ) (table : Rows) (fs path : List ℕ) (cells : Cells) (lent a : List ℕ) (x : Turned) where
   pub turn-called : turns ws t c table fs path cells lent a ≡ x → Call ws t c table fs path cells lent a x
-  unfolding lent_slice
+  unfolding lent_slice lent_out
   turn-called e =
       record {
         κs = ([], ([], ([], ([], ([], ([], ([], ([], ([], tt)))))))));
         args = (
-          lent_slice ws,
+          lent_out ws,
           (
-            lent_slice t,
+            lent_out t,
             (
               lent_slice c,
               (
-                lent_slice table,
+                lent_out table,
                 (
                   lent_slice fs,
                   (
                     lent_slice path,
                     (
-                      lent_slice cells,
+                      lent_out cells,
                       (
-                        lent_slice lent,
-                        (lent_slice a, tt),
+                        lent_out lent,
+                        (lent_out a, tt),
                       ),
                     ),
                   ),
@@ -148,18 +152,18 @@ module _ (ws t c : List ℕ) (table : Rows) (fs path : List ℕ) (cells : Cells)
           ),
         );
         exits = (
-          lent_slice x.session,
+          lent_out x.session,
           (
-            lent_slice x.store,
+            lent_out x.store,
             (
               lent_slice c,
               (
-                lent_slice x.table,
+                lent_out x.table,
                 (
                   lent_slice fs,
                   (
                     lent_slice path,
-                    (lent_slice x.crosspoints, (lent_slice x.answers, (lent_slice x.answer, tt))),
+                    (lent_out x.crosspoints, (lent_out x.answers, (lent_out x.answer, tt))),
                   ),
                 ),
               ),

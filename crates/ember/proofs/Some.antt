@@ -1,11 +1,11 @@
 -- The claim for `ember_turn` speaks of something: for every stream, every way to cut it and every legal desk there is a list of calls.
 use Prim.Native.Nat.{ℕ, suc, ◌≤◌}
-use mathlib.Core.Bool.{Bool, true, false}
+use mathlib.Core.Bool.{true, false}
 use mathlib.Core.List.{List, [], ◌∷◌, append-nil}
 use mathlib.Core.Path.{◌≡◌, refl, sym, ap, subst, ◌∙◌}
-use borrow.Author.Tests.{eqb-true, eqb-false, eq-eqb, leb-true, le-leb}
+use borrow.Author.Tests.{eqb-false, eq-eqb, leb-true, le-leb}
 use native.Mathlib.Omega.{arith}
-use lib.Dec.{leb, eqb}
+use lib.Dec.{eqb}
 use lib.ListN.{length}
 use Rattle.ber_integers.proofs.Radix.{Below}
 use Rattle.framing_session.specs.declared.Fed.{Fed}
@@ -37,7 +37,7 @@ use Rattle.turns.proofs.Comes.{comes-at, said_at, function-turn}
 use Rattle.turn_rules.proofs.Claim.{claim as rules-claim}
 use Rattle.desk_words.specs.Words.{figures_at, desk_in, is_figures}
 use Rattle.ember_answers.specs.Answers.{lengths_fit}
-use Rattle.ember.specs.Calls.{Turned, turn_of, turn_after, turned, turns}
+use Rattle.ember.specs.Calls.{turn_of, turn_after, turned, turns}
 use Rattle.ember.specs.Rounds.{Round, Rounds, none, round, AllTell, more}
 use Rattle.ember.specs.Rounds as rounds
 use Rattle.ember.proofs.Claim.{next-later, comes, comes-after, tells-told}

@@ -1,19 +1,19 @@
 -- With which numbers `ember_desk_is_legal` and the words of `ember_turn` answer, where the turn does not answer 1: word 3 is the tree's number, word 7 the
 -- desk's, and the 256 bytes are answers.
 use Prim.Native.Nat.{ℕ, ◌+◌, ◌≤◌}
-use mathlib.Core.Path.{◌≡◌, refl, sym, ap, subst, ◌∙◌}
-use mathlib.Core.List.{List, [], ◌∷◌, ◌++◌}
+use mathlib.Core.Path.{◌≡◌, refl, sym}
+use mathlib.Core.List.{List, [], ◌∷◌}
 use mathlib.Core.Bool.{Bool, true, false, true≢false}
 use native.Mathlib.Omega.{arith}
-use borrow.Author.Tests.{eqb-true, eqb-false, leb-true}
+use borrow.Author.Tests.{eqb-true, leb-true}
 use types.Run.{OneOf, hit}
 use lib.Dec.{leb, eqb}
 use lib.ListN.{length, get_or, take, length-take}
 use Rattle.base_choices.specs.Choices.{pick, both}
 use Rattle.base_choices.proofs.Laws.{pick-by, both_left, both_right}
 use Rattle.framing_session.specs.declared.Session.{Session}
-use Rattle.framing_content.specs.Numbers.{store_length, message_limit}
-use Rattle.framing_session.specs.Rules.{State, Step, step}
+use Rattle.framing_content.specs.Numbers.{message_limit}
+use Rattle.framing_session.specs.Rules.{State, step}
 use Rattle.framing_session.specs.Session.{state_of, Legal, legal, Whole, run, feeds, kept}
 use Rattle.framing_session.proofs.Laws.{Bounded, within_step, bounded-next, bounded-state, true-legal, legal-true}
 use Rattle.sheet_stream.proofs.Ways.{said-short}
