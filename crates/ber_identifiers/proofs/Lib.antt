@@ -1,4 +1,4 @@
--- What the proofs share (Laws, Within), and the theorems on relative identifiers: `Written-Read`, `read-written` (RoundTrip); with which numbers
+-- What the proofs share (Laws, Within), and the theorems on relative identifiers: `written_read`, `read-written` (RoundTrip); with which numbers
 -- each call answers (Numbers).
 pub mod Laws
 pub mod Within

@@ -12,7 +12,8 @@ pub returns-then-s-q : goal.returns-then-s-q
 returns-then-s-q c = record { end_value = closing-cut _ _ _ c.if-definite-eq1.false c.if-q-end.false c.if-s-q.true; onward = tt }
 
 pub returns-then-s-q-eq0 : goal.returns-then-s-q-eq0
-returns-then-s-q-eq0 c = record { end_value = closing-two _ _ _ c.if-definite-eq1.false c.if-q-end.false c.if-s-q.false c.if-s-q-eq0.true; onward = omega arith }
+returns-then-s-q-eq0 c =
+    record { end_value = closing-two _ _ _ c.if-definite-eq1.false c.if-q-end.false c.if-s-q.false c.if-s-q-eq0.true; onward = omega arith }
 
 pub returns : goal.returns
 returns c = record { end_value = closing-one _ _ _ c.if-definite-eq1.false c.if-q-end.false c.if-s-q.false c.if-s-q-eq0.false; onward = tt }

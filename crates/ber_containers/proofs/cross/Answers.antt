@@ -8,10 +8,18 @@ pub returns-then-k-eq0 : goal.returns-then-k-eq0
 returns-then-k-eq0 c = record { k_value = cross-deep _ _ _ _ (c.standing.ensures.end_value ∙ c.in-Here.is) c.if-t-eq1.true c.if-k-eq0.true; cross_onward = tt }
 
 pub returns-then-t-eq1 : goal.returns-then-t-eq1
-returns-then-t-eq1 c = record { k_value = cross-into _ _ _ _ (c.standing.ensures.end_value ∙ c.in-Here.is) c.if-t-eq1.true c.if-k-eq0.false; cross_onward = subst (Onward _ _) c.in-Here.is c.standing.ensures.onward }
+returns-then-t-eq1 c =
+    record {
+      k_value = cross-into _ _ _ _ (c.standing.ensures.end_value ∙ c.in-Here.is) c.if-t-eq1.true c.if-k-eq0.false;
+      cross_onward = subst (Onward _ _) c.in-Here.is c.standing.ensures.onward;
+    }
 
 pub returns-in-Ended : goal.returns-in-Ended
-returns-in-Ended c = record { k_value = cross-ended _ _ _ _ (c.standing.ensures.end_value ∙ c.in-Ended.is); cross_onward = subst (Onward _ _) c.in-Ended.is c.standing.ensures.onward }
+returns-in-Ended c =
+    record {
+      k_value = cross-ended _ _ _ _ (c.standing.ensures.end_value ∙ c.in-Ended.is);
+      cross_onward = subst (Onward _ _) c.in-Ended.is c.standing.ensures.onward;
+    }
 
 pub returns-in-Refused : goal.returns-in-Refused
 returns-in-Refused c = record { k_value = cross-no _ _ _ _ (c.standing.ensures.end_value ∙ c.in-Refused.is); cross_onward = tt }
@@ -20,7 +28,12 @@ pub returns-in-Next : goal.returns-in-Next
 returns-in-Next c =
     let a = subst (Onward _ _) c.in-Here.is c.standing.ensures.onward in
     let n = subst (OntoOnward _) c.in-Next.is c.skip.ensures.onto_onward in
-    let e = cross-past _ _ _ _ (c.standing.ensures.end_value ∙ c.in-Here.is) c.if-t-eq1.false (c.skip.ensures.t_value ∙ c.in-Next.is) in record { k_value = e; cross_onward = (a.within, omega (arith, a.later, a.opens)) }
+    let e = cross-past _ _ _ _ (c.standing.ensures.end_value ∙ c.in-Here.is) c.if-t-eq1.false (c.skip.ensures.t_value ∙ c.in-Next.is) in
+    record { k_value = e; cross_onward = (a.within, omega (arith, a.later, a.opens)) }
 
 pub returns-in-Refused-skip : goal.returns-in-Refused-skip
-returns-in-Refused-skip c = record { k_value = cross-cut _ _ _ _ (c.standing.ensures.end_value ∙ c.in-Here.is) c.if-t-eq1.false (c.skip.ensures.t_value ∙ c.in-Refused-skip.is); cross_onward = tt }
+returns-in-Refused-skip c =
+    record {
+      k_value = cross-cut _ _ _ _ (c.standing.ensures.end_value ∙ c.in-Here.is) c.if-t-eq1.false (c.skip.ensures.t_value ∙ c.in-Refused-skip.is);
+      cross_onward = tt;
+    }

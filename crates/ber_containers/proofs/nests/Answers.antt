@@ -9,7 +9,9 @@ pub loop-here-init : goal.loop-here-init
 loop-here-init c = going_start _ _ _ _ _ _ refl refl
 
 pub returns-then-d-eq0 : goal.returns-then-d-eq0
-returns-then-d-eq0 c = let z = c.shut-z.ensures c.if-z.true in let both = going_done _ _ _ _ _ _ _ _ _ c.loop-here.invariant z.0 z.1 c.if-d-eq0.true in record { through = both.0; onto_onward = both.1 }
+returns-then-d-eq0 c =
+    let z = c.shut-z.ensures c.if-z.true in
+    let both = going_done _ _ _ _ _ _ _ _ _ c.loop-here.invariant z.0 z.1 c.if-d-eq0.true in record { through = both.0; onto_onward = both.1 }
 
 pub overflow_sub-d : goal.overflow_sub-d
 overflow_sub-d c = omega (arith, c.if-d-eq0.false)

@@ -26,7 +26,8 @@ pub returns-then-q-o : goal.returns-then-q-o
 returns-then-q-o c = λ h. absurd (h refl)
 
 pub returns-then-s-q-eq0 : goal.returns-then-s-q-eq0
-returns-then-s-q-eq0 c = λ h. (shut-zeros _ _ _ c.if-p-o.false c.if-o-eq1-2.false c.if-s-q.false c.if-q-o.false c.if-s-p-ne0.false c.if-s-q-eq0.true, omega arith)
+returns-then-s-q-eq0 c =
+    λ h. (shut-zeros _ _ _ c.if-p-o.false c.if-o-eq1-2.false c.if-s-q.false c.if-q-o.false c.if-s-p-ne0.false c.if-s-q-eq0.true, omega arith)
 
 pub returns : goal.returns
 returns c = λ h. absurd (h refl)

@@ -6,7 +6,8 @@ use Prim.Native.Nat.{ℕ, ◌-◌, ◌≤◌}
 use Rattle.ber_containers.proofs.values.Given as goal
 
 abbrev pub invariant-loop-from : goal.invariant-loop-from
-invariant-loop-from l = ((k definite : ℕ) (x : Onto) → Through l.s k (open_by definite l.end) l.p x → Through l.s k (open_by definite l.end) l.from x) × (l.from ≤ l.p)
+invariant-loop-from l =
+    ((k definite : ℕ) (x : Onto) → Through l.s k (open_by definite l.end) l.p x → Through l.s k (open_by definite l.end) l.from x) × (l.from ≤ l.p)
 
 abbrev pub decreases-loop-from : goal.decreases-loop-from
 decreases-loop-from l = length l.s - l.p

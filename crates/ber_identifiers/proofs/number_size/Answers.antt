@@ -14,4 +14,6 @@ pub overflow_add-result : goal.overflow_add-result
 overflow_add-result c = let k = nine-groups c.args.v c.ranges.v.fits in omega arith
 
 pub returns : goal.returns
-returns c = let k = nine-groups c.args.v c.ranges.v.fits in record { value = ap (λ (i : ℕ). i + 1) c.septet_count.ensures ∙ sym (length-septets c.args.v); upper_bound = omega arith }
+returns c =
+    let k = nine-groups c.args.v c.ranges.v.fits in
+    record { value = ap (λ (i : ℕ). i + 1) c.septet_count.ensures ∙ sym (length-septets c.args.v); upper_bound = omega arith }

@@ -38,7 +38,17 @@ loop-p-preserved-then-s-p-lt128 c =
     let e = arc-short c.args.s.now _ c.loop-p.p c.loop-p-test.true c.if-s-p-lt128.true (omega arith) in
     let q = arcs-number _ _ c.loop-p.p c.loop-p.invariant.1.1.0 _ _ c.loop-p-test.true c.loop-p.invariant.1.1.1.0 e (omega arith) in (
       omega arith,
-      (omega arith, (q.0, (q.1.0, tally-push c.loop-p.count _ c.loop-p.over _ ∙ ap (tally c.loop-p.count c.loop-p.over) (sym q.1.1) ∙ c.loop-p.invariant.1.1.1.1))),
+      (
+        omega arith,
+        (
+          q.0,
+          (
+            q.1.0,
+            tally-push c.loop-p.count _ c.loop-p.over _ ∙ ap (tally c.loop-p.count c.loop-p.over) (sym q.1.1) ∙
+                c.loop-p.invariant.1.1.1.1,
+          ),
+        ),
+      ),
     )
 
 pub overflow_add-count-in-Number : goal.overflow_add-count-in-Number
@@ -54,7 +64,17 @@ loop-p-preserved-in-Number c =
     let q = arcs-number _ _ c.loop-p.p c.loop-p.invariant.1.1.0 _ _ c.loop-p-test.true c.loop-p.invariant.1.1.1.0 e
     w.0 in (
       omega arith,
-      (omega arith, (q.0, (q.1.0, tally-push c.loop-p.count _ c.loop-p.over _ ∙ ap (tally c.loop-p.count c.loop-p.over) (sym q.1.1) ∙ c.loop-p.invariant.1.1.1.1))),
+      (
+        omega arith,
+        (
+          q.0,
+          (
+            q.1.0,
+            tally-push c.loop-p.count _ c.loop-p.over _ ∙ ap (tally c.loop-p.count c.loop-p.over) (sym q.1.1) ∙
+                c.loop-p.invariant.1.1.1.1,
+          ),
+        ),
+      ),
     )
 
 pub loop-p-smaller : goal.loop-p-smaller
@@ -66,21 +86,34 @@ loop-p-preserved c =
     let e = sym c.read_number.ensures.promised.is ∙ c.in-Range.is in
     let q = arcs-over _ _ c.loop-p.p c.loop-p.invariant.1.1.0 _ c.loop-p-test.true c.loop-p.invariant.1.1.1.0 e w.0 in (
       omega arith,
-      (omega arith, (q.0, (q.1.0, tally-pass c.loop-p.count c.loop-p.over _ ∙ ap (tally c.loop-p.count c.loop-p.over) (sym q.1.1) ∙ c.loop-p.invariant.1.1.1.1))),
+      (
+        omega arith,
+        (
+          q.0,
+          (
+            q.1.0,
+            tally-pass c.loop-p.count c.loop-p.over _ ∙ ap (tally c.loop-p.count c.loop-p.over) (sym q.1.1) ∙
+                c.loop-p.invariant.1.1.1.1,
+          ),
+        ),
+      ),
     )
 
 pub returns-in-Refused : goal.returns-in-Refused
 returns-in-Refused c =
     promised oid-row (let e = sym c.read_number.ensures.promised.is ∙ c.in-Refused.is in
     let q = arcs-bad _ _ c.loop-p.p c.loop-p.invariant.1.1.0 c.loop-p-test.true c.loop-p.invariant.1.1.1.0 e in
-    sym (tally-bad c.loop-p.count c.loop-p.over) ∙ ap (tally c.loop-p.count c.loop-p.over) (sym q) ∙ c.loop-p.invariant.1.1.1.1 ∙ oid-within _ _ _ (omega arith))
+    sym (tally-bad c.loop-p.count c.loop-p.over) ∙ ap (tally c.loop-p.count c.loop-p.over) (sym q) ∙ c.loop-p.invariant.1.1.1.1 ∙ oid-within _ _ _
+    (omega arith))
 
 pub returns-then-over : goal.returns-then-over
 returns-then-over c =
     promised oid-row (let q = arcs-done _ _ c.loop-p.p c.loop-p.invariant.1.1.0 c.loop-p-test.false in
-    sym (tally-done c.loop-p.count c.loop-p.over ∙ rw c.if-over.true) ∙ ap (tally c.loop-p.count c.loop-p.over) (sym q) ∙ c.loop-p.invariant.1.1.1.1 ∙ oid-within _ _ _ (omega arith))
+    sym (tally-done c.loop-p.count c.loop-p.over ∙ rw c.if-over.true) ∙ ap (tally c.loop-p.count c.loop-p.over) (sym q) ∙ c.loop-p.invariant.1.1.1.1 ∙
+    oid-within _ _ _ (omega arith))
 
 pub returns : goal.returns
 returns c =
     promised oid-row (let q = arcs-done _ _ c.loop-p.p c.loop-p.invariant.1.1.0 c.loop-p-test.false in
-    sym (tally-done c.loop-p.count c.loop-p.over ∙ rw c.if-over.false) ∙ ap (tally c.loop-p.count c.loop-p.over) (sym q) ∙ c.loop-p.invariant.1.1.1.1 ∙ oid-within _ _ _ (omega arith))
+    sym (tally-done c.loop-p.count c.loop-p.over ∙ rw c.if-over.false) ∙ ap (tally c.loop-p.count c.loop-p.over) (sym q) ∙ c.loop-p.invariant.1.1.1.1
+    ∙ oid-within _ _ _ (omega arith))

@@ -23,4 +23,7 @@ returns c =
     let q = c.requires.cells_value.1 in
     let h = sym (has-is _ _ _ q.0) ∙ the-is-path.ensures ∙ the-if1.false in
     let a = the-asked-at.ensures in
-    record { i_value = own-matrix _ _ _ _ q.1.0 _ q.1.1 _ the-word-at.ensures h _ a _ (request-path _ _ _ ∙ the-ask.ensures.operation_value); cells_after = the-ask.ensures.cells_after }
+    record {
+      i_value = own-matrix _ _ _ _ q.1.0 _ q.1.1 _ the-word-at.ensures h _ a _ (request-path _ _ _ ∙ the-ask.ensures.operation_value);
+      cells_after = the-ask.ensures.cells_after;
+    }

@@ -8,7 +8,10 @@ pub returns-then-told-ne0 : goal.returns-then-told-ne0
 returns-then-told-ne0 c =
     let the-judge = c.judge-told in
     let t = sym (told_with_lem _ _ _ _ c.requires.crosspoints_value_2) ∙ the-judge.ensures.row_value in
-    record { operation_value = told-refused _ _ c.requires.crosspoints_value _ c.requires.row_len _ t (λ e. omega arith); crosspoints_after = c.requires.crosspoints_value_2 }
+    record {
+      operation_value = told-refused _ _ c.requires.crosspoints_value _ c.requires.row_len _ t (λ e. omega arith);
+      crosspoints_after = c.requires.crosspoints_value_2;
+    }
 
 pub free-requires : goal.free-requires
 free-requires c =
@@ -36,4 +39,7 @@ returns c =
     let t = sym (told_with_lem _ _ _ _ c.requires.crosspoints_value_2) ∙ the-judge.ensures.row_value in
     let w = the-judge.auto.row ∙ c.requires.row_len in
     let j = (the-judge.ensures.sources_value z).1 in
-    record { operation_value = told-done _ _ c.requires.crosspoints_value _ c.requires.row_len _ t z _ _ _ _ w the-free.ensures j.0 the-put-row.ensures; crosspoints_after = done-total _ _ _ _ _ _ _ _ c.requires.crosspoints_value_2 w the-free.ensures j.0 the-put-row.ensures j.1 }
+    record {
+      operation_value = told-done _ _ c.requires.crosspoints_value _ c.requires.row_len _ t z _ _ _ _ w the-free.ensures j.0 the-put-row.ensures;
+      crosspoints_after = done-total _ _ _ _ _ _ _ _ c.requires.crosspoints_value_2 w the-free.ensures j.0 the-put-row.ensures j.1;
+    }

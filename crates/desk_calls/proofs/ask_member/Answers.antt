@@ -12,4 +12,7 @@ pub returns : goal.returns
 returns c =
     let the-sources-of = c.sources_of-n in
     let the-request-legal = c.request_legal in
-    record { operation_value = sym (the-sources-of.ensures.handed (omega arith) _ _ _ refl) ∙ the-request-legal.ensures.operation_value; cells_after = the-request-legal.ensures.crosspoints_after }
+    record {
+      operation_value = sym (the-sources-of.ensures.handed (omega arith) _ _ _ refl) ∙ the-request-legal.ensures.operation_value;
+      cells_after = the-request-legal.ensures.crosspoints_after;
+    }

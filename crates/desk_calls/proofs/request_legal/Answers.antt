@@ -19,4 +19,8 @@ pub ask-requires : goal.ask-requires
 ask-requires c =
     let the-index = c.index-w in
     let k = fit-sources-le _ (legal-fit _ _ c.requires.crosspoints_value) in
-    record { crosspoints_value = c.requires.crosspoints_value; row_len = length-take-le the-index.result _ (omega (arith, k, the-index.ensures)) ∙ the-index.ensures; crosspoints_value_2 = c.requires.crosspoints_value_2 }
+    record {
+      crosspoints_value = c.requires.crosspoints_value;
+      row_len = length-take-le the-index.result _ (omega (arith, k, the-index.ensures)) ∙ the-index.ensures;
+      crosspoints_value_2 = c.requires.crosspoints_value_2;
+    }

@@ -14,7 +14,11 @@ take_entry-taken-requires c =
     let the-loop-test = c.loop-i-test in
     let i = the-loop.invariant in
     let q = c.requires in
-    record { cells_value = (i.1.1.1.1.0, (q.1.0, (q.1.1.0, the-loop-test.true))); n_in_bounds = omega (arith, i.1.0, i.1.1.1.0, q.1.1.1, the-loop-test.true); cells_value_2 = i.1.1.1.1.1 }
+    record {
+      cells_value = (i.1.1.1.1.0, (q.1.0, (q.1.1.0, the-loop-test.true)));
+      n_in_bounds = omega (arith, i.1.0, i.1.1.1.0, q.1.1.1, the-loop-test.true);
+      cells_value_2 = i.1.1.1.1.1;
+    }
 
 pub overflow_add-i : goal.overflow_add-i
 overflow_add-i c = omega arith

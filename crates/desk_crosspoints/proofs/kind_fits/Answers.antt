@@ -10,7 +10,8 @@ pub sources_fit-requires : goal.sources_fit-requires
 sources_fit-requires c =
     let the-index = c.index in
     let the-index2 = c.index-then-f-eq-ONE_TO_ONE in
-    let z = size_is c.args.f c.args.cells.now _ _ the-index.ensures the-index2.ensures c.requires.cells_len in record { w_le_side = omega (arith, the-index2.ensures); cells_len = z }
+    let z = size_is c.args.f c.args.cells.now _ _ the-index.ensures the-index2.ensures c.requires.cells_len in
+    record { w_le_side = omega (arith, the-index2.ensures); cells_len = z }
 
 pub returns-then-f-eq-ONE_TO_ONE : goal.returns-then-f-eq-ONE_TO_ONE
 returns-then-f-eq-ONE_TO_ONE c =

@@ -10,7 +10,8 @@ pub get_row-requires : goal.get_row-requires
 get_row-requires c = row-there c.args.f c.args.target _ _ c.requires.row_len c.requires.cells_len c.requires.target_bound
 
 pub become_row-requires : goal.become_row-requires
-become_row-requires c = let the-get-row = c.get_row in record { row_len = the-get-row.auto.row ∙ c.requires.row_len; sources_value = c.requires.sources_value_2 }
+become_row-requires c =
+    let the-get-row = c.get_row in record { row_len = the-get-row.auto.row ∙ c.requires.row_len; sources_value = c.requires.sources_value_2 }
 
 pub total_after-left-requires : goal.total_after-left-requires
 total_after-left-requires c =
@@ -33,4 +34,9 @@ returns c =
     let g = row-size _ _ _ _ _ c.requires.row_len the-get-row.ensures in
     let e = row_from _ _ _ _ g the-become-row.ensures in
     let t = total-is _ _ _ _ _ _ _ _ _ _ g the-count.ensures e the-count2.ensures the-total-after.ensures refl refl in
-    let o = c.requires.sources_value_2 in record { operation_value = told-limits _ _ _ _ _ _ _ _ _ (omega (arith, c.requires.target_bound)) c.requires.sources_value e o the-count2.ensures t the-limit-told.ensures refl; sources_value_3 = (o, (e, t)) }
+    let o = c.requires.sources_value_2 in
+    record {
+      operation_value = told-limits _ _ _ _ _ _ _ _ _ (omega (arith, c.requires.target_bound)) c.requires.sources_value e o the-count2.ensures t
+          the-limit-told.ensures refl;
+      sources_value_3 = (o, (e, t));
+    }

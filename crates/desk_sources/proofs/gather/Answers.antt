@@ -88,4 +88,5 @@ pub returns : goal.returns
 returns c =
     let the-loop = c.loop-p in
     let the-loop-test = c.loop-p-test in
-    let i = the-loop.invariant in record { handed = gather-end _ _ i.0 _ (left-none _ _ _ i.0 the-loop-test.false i.1.0) i.1.1.1.0; upper_bound = kept-le _ _ _ i.1.1.0 }
+    let i = the-loop.invariant in
+    record { handed = gather-end _ _ i.0 _ (left-none _ _ _ i.0 the-loop-test.false i.1.0) i.1.1.1.0; upper_bound = kept-le _ _ _ i.1.1.0 }

@@ -10,7 +10,9 @@ bounds-marks-j c =
 pub returns-then-marks-j-ne0 : goal.returns-then-marks-j-ne0
 returns-then-marks-j-ne0 c =
     let the-index = c.index-j in
-    let the-if1 = c.if-marks-j-ne0 in let both = keep-stays _ _ _ _ c.requires.kept c.requires.x_lt_side _ the-index.ensures the-if1.true in record { kept_2 = both.0; list_after = both.1 }
+    let the-if1 = c.if-marks-j-ne0 in
+    let both = keep-stays _ _ _ _ c.requires.kept c.requires.x_lt_side _ the-index.ensures the-if1.true in
+    record { kept_2 = both.0; list_after = both.1 }
 
 pub bounds-marks-j-2 : goal.bounds-marks-j-2
 bounds-marks-j-2 c =
@@ -38,4 +40,6 @@ overflow_add-result c =
 pub returns : goal.returns
 returns c =
     let the-index = c.index-j in
-    let the-if1 = c.if-marks-j-ne0 in let both = keep-more _ _ _ _ c.requires.kept c.requires.x_lt_side _ the-index.ensures the-if1.false in record { kept_2 = both.0; list_after = both.1 }
+    let the-if1 = c.if-marks-j-ne0 in
+    let both = keep-more _ _ _ _ c.requires.kept c.requires.x_lt_side _ the-index.ensures the-if1.false in
+    record { kept_2 = both.0; list_after = both.1 }

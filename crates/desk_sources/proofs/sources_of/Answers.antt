@@ -8,7 +8,8 @@ pub returns-then-list-lt-SIDE : goal.returns-then-list-lt-SIDE
 returns-then-list-lt-SIDE c = record { handed = λ h. absurd (omega (arith, h)); upper_bound = omega arith }
 
 pub returns-then-index-gt-SIDE : goal.returns-then-index-gt-SIDE
-returns-then-index-gt-SIDE c = let the-index = c.index in record { handed = λ h. gather_none _ _ _ (omega (arith, the-index.ensures)); upper_bound = omega arith }
+returns-then-index-gt-SIDE c =
+    let the-index = c.index in record { handed = λ h. gather_none _ _ _ (omega (arith, the-index.ensures)); upper_bound = omega arith }
 
 pub gather-requires : goal.gather-requires
 unfolding clear

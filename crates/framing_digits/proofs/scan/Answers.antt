@@ -23,7 +23,13 @@ returns-then-b-eq10 c =
     let on =
     scan-line s c.loop-i.i c.loop-i.high c.loop-i.begun c.loop-i.chunk c.loop-i.count c.loop-i-test.true c.if-b-eq10.true in
     let told = ap {B = Whole} (λ (r : Scanned). record { answer = r; chunk = c.loop-i.chunk }) (sym c.end_line.ensures.value) in
-    let kept = c.end_line.ensures.next_value in record { chunk_value = scan-first _ _ _ _ _ _ c.first_digit-high.ensures (c.loop-i.invariant.1.1.1.1.1.1 ∙ on ∙ told); from_lt_next = λ h. (omega (arith, kept), omega (arith, kept)); count_in_bounds = λ h. omega (arith, kept); high_bound = omega (arith, kept) }
+    let kept = c.end_line.ensures.next_value in
+    record {
+      chunk_value = scan-first _ _ _ _ _ _ c.first_digit-high.ensures (c.loop-i.invariant.1.1.1.1.1.1 ∙ on ∙ told);
+      from_lt_next = λ h. (omega (arith, kept), omega (arith, kept));
+      count_in_bounds = λ h. omega (arith, kept);
+      high_bound = omega (arith, kept);
+    }
 
 pub shape_of-chunk-then-d-eq-NO_DIGIT : goal.shape_of-chunk-then-d-eq-NO_DIGIT
 shape_of-chunk-then-d-eq-NO_DIGIT c = c.loop-i.invariant.1.1.1.1.1.0
@@ -35,7 +41,13 @@ returns-then-d-eq-NO_DIGIT c =
     scan-fault s c.loop-i.i c.loop-i.high c.loop-i.begun c.loop-i.chunk c.loop-i.count c.loop-i-test.true _
     c.digit-d.ensures.b_value c.if-b-eq10.false c.if-d-eq-NO_DIGIT.true in
     let told = ap {B = Whole} (λ (r : Scanned). record { answer = r; chunk = c.loop-i.chunk }) (sym c.stop_at.ensures.value) in
-    let kept = c.stop_at.ensures.next_value in record { chunk_value = scan-first _ _ _ _ _ _ c.first_digit-high.ensures (c.loop-i.invariant.1.1.1.1.1.1 ∙ on ∙ told); from_lt_next = λ h. (omega (arith, kept), omega (arith, kept)); count_in_bounds = λ h. omega (arith, kept); high_bound = omega (arith, kept) }
+    let kept = c.stop_at.ensures.next_value in
+    record {
+      chunk_value = scan-first _ _ _ _ _ _ c.first_digit-high.ensures (c.loop-i.invariant.1.1.1.1.1.1 ∙ on ∙ told);
+      from_lt_next = λ h. (omega (arith, kept), omega (arith, kept));
+      count_in_bounds = λ h. omega (arith, kept);
+      high_bound = omega (arith, kept);
+    }
 
 pub loop-i-smaller-then-high-eq-NO_DIGIT : goal.loop-i-smaller-then-high-eq-NO_DIGIT
 loop-i-smaller-then-high-eq-NO_DIGIT c = omega arith
@@ -77,4 +89,10 @@ pub shape_of-chunk : goal.shape_of-chunk
 shape_of-chunk c = c.loop-i.invariant.1.1.1.1.1.0
 
 pub returns : goal.returns
-returns c = record { chunk_value = scan-first _ _ _ _ _ _ c.first_digit-high.ensures (c.loop-i.invariant.1.1.1.1.1.1 ∙ scan-end _ _ _ _ _ _ c.loop-i-test.false); from_lt_next = λ h. (omega arith, c.loop-i.invariant.1.0 h); count_in_bounds = λ h. omega arith; high_bound = omega arith }
+returns c =
+    record {
+      chunk_value = scan-first _ _ _ _ _ _ c.first_digit-high.ensures (c.loop-i.invariant.1.1.1.1.1.1 ∙ scan-end _ _ _ _ _ _ c.loop-i-test.false);
+      from_lt_next = λ h. (omega arith, c.loop-i.invariant.1.0 h);
+      count_in_bounds = λ h. omega arith;
+      high_bound = omega arith;
+    }

@@ -9,7 +9,8 @@ use Rattle.framing_lines.proofs.put_end_line.Goals as goal
 pub returns : goal.returns
 unfolding end_text
 returns c =
-    let first : c.put_decimal-offset_end.result < last_place = omega (arith, c.requires, c.put_bytes-offset_at.ensures.upper_bound, c.put_decimal-offset_end.ensures.upper_bound) in
+    let first : c.put_decimal-offset_end.result < last_place = omega
+    (arith, c.requires, c.put_bytes-offset_at.ensures.upper_bound, c.put_decimal-offset_end.ensures.upper_bound) in
     let second : c.put_frame-frame_end.result < last_place =
     omega (
       arith,

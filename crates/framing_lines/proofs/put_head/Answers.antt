@@ -11,7 +11,14 @@ unfolding head_text
 returns c =
     let first : c.put_decimal-offset_end.result < last_place = omega (arith, c.requires, c.well_formed, c.put_decimal-offset_end.ensures.upper_bound) in
     let second : c.put_decimal-number_end.result < last_place =
-    omega (arith, c.requires, c.well_formed, c.put_decimal-offset_end.ensures.upper_bound, c.put-number_at.ensures.upper_bound, c.put_decimal-number_end.ensures.upper_bound) in
+    omega (
+      arith,
+      c.requires,
+      c.well_formed,
+      c.put_decimal-offset_end.ensures.upper_bound,
+      c.put-number_at.ensures.upper_bound,
+      c.put_decimal-number_end.ensures.upper_bound,
+    ) in
     let third : c.put-bit_at.result < last_place = omega (
       arith,
       second,

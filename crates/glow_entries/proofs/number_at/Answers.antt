@@ -12,7 +12,8 @@ pub returns-then-v-eq0 : goal.returns-then-v-eq0
 returns-then-v-eq0 c =
     let the-cell-in = c.cell_in-v in
     let k : to_z w64 (of_z w64 c.int_of.result) ≡ c.int_of.result = search rules in let both = number-again _ _ _ the-cell-in.ensures (search rules)
-    (ap Is (k ∙ c.int_of.ensures) ∙ number_is _ c.if-v-eq-INTEGER.true c.if-v-eq0.true ∙ ap number_of the-cell-in.ensures) in record { value = both.0; result_value = both.1 }
+    (ap Is (k ∙ c.int_of.ensures) ∙ number_is _ c.if-v-eq-INTEGER.true c.if-v-eq0.true ∙ ap number_of the-cell-in.ensures) in record
+    { value = both.0; result_value = both.1 }
 
 pub returns-else-v-eq0 : goal.returns-else-v-eq0
 returns-else-v-eq0 c =
@@ -20,4 +21,7 @@ returns-else-v-eq0 c =
     (number-long _ c.if-v-eq-INTEGER.true c.if-v-eq0.false ∙ ap number_of the-cell-in.ensures) in record { value = both.0; result_value = both.1 }
 
 pub returns-else-v-eq-INTEGER : goal.returns-else-v-eq-INTEGER
-returns-else-v-eq-INTEGER c = let the-cell-in = c.cell_in-v in let both = number-again _ _ _ the-cell-in.ensures (search rules) (number-none _ c.if-v-eq-INTEGER.false ∙ ap number_of the-cell-in.ensures) in record { value = both.0; result_value = both.1 }
+returns-else-v-eq-INTEGER c =
+    let the-cell-in = c.cell_in-v in
+    let both = number-again _ _ _ the-cell-in.ensures (search rules) (number-none _ c.if-v-eq-INTEGER.false ∙ ap number_of the-cell-in.ensures) in
+    record { value = both.0; result_value = both.1 }

@@ -14,4 +14,5 @@ overflow_add-result c = omega arith
 pub returns : goal.returns
 returns c =
     let a = c.args in
-    let e : a.len ≡ a.start + a.len - a.start = omega arith in record { lower_bound = (omega arith, omega arith); s_value = ap (λ (n : ℕ). take n (drop a.start a.s.now)) e }
+    let e : a.len ≡ a.start + a.len - a.start = omega arith in
+    record { lower_bound = (omega arith, omega arith); s_value = ap (λ (n : ℕ). take n (drop a.start a.s.now)) e }

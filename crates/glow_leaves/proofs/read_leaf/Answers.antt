@@ -11,11 +11,13 @@ pub returns-then-number-eq-NUMBERS : goal.returns-then-number-eq-NUMBERS
 returns-then-number-eq-NUMBERS c =
     let a = c.args in
     let f = c.fits.ensures ∙ c.if-not-fits.false in
-    let e = leaf-numbers _ _ _ _ _ _ _ f c.if-number-eq-NUMBERS.true ∙ c.numbers_at.ensures in record { above_value = e; leaf_bounded = subst (LeafBounded a.above) e (leaf-bounded _ _ _ _ _ _ _) }
+    let e = leaf-numbers _ _ _ _ _ _ _ f c.if-number-eq-NUMBERS.true ∙ c.numbers_at.ensures in
+    record { above_value = e; leaf_bounded = subst (LeafBounded a.above) e (leaf-bounded _ _ _ _ _ _ _) }
 
 pub returns : goal.returns
 returns c =
     let a = c.args in
     let f = c.fits.ensures ∙ c.if-not-fits.false in
     let g = leaf-value _ _ _ _ _ _ _ f c.if-number-eq-NUMBERS.false in
-    let e = g ∙ ap (judged a.s.now a.at a.what a.above) (sym c.read_content.ensures.is) ∙ c.judge.ensures in record { above_value = e; leaf_bounded = subst (LeafBounded a.above) e (leaf-bounded _ _ _ _ _ _ _) }
+    let e = g ∙ ap (judged a.s.now a.at a.what a.above) (sym c.read_content.ensures.is) ∙ c.judge.ensures in
+    record { above_value = e; leaf_bounded = subst (LeafBounded a.above) e (leaf-bounded _ _ _ _ _ _ _) }

@@ -22,7 +22,8 @@ pub returns-then-what-eq-NAME : goal.returns-then-what-eq-NAME
 returns-then-what-eq-NAME c = λ h. absurd (h refl)
 
 pub returns-then-what-eq-TEXT : goal.returns-then-what-eq-TEXT
-returns-then-what-eq-TEXT c = λ h. told_text _ _ _ _ _ (c.holds.ensures ∙ c.if-not-holds.false) c.if-number-eq-TEXT.true c.if-what-eq-TEXT.true c.word-then-what-eq-TEXT.ensures
+returns-then-what-eq-TEXT c =
+    λ h. told_text _ _ _ _ _ (c.holds.ensures ∙ c.if-not-holds.false) c.if-number-eq-TEXT.true c.if-what-eq-TEXT.true c.word-then-what-eq-TEXT.ensures
 
 pub returns-then-number-eq-TEXT : goal.returns-then-number-eq-TEXT
 returns-then-number-eq-TEXT c = λ h. absurd (h refl)

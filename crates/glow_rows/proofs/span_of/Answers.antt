@@ -5,7 +5,8 @@ use Rattle.glow_rows.proofs.span_of.Goals as goal
 pub returns-then-v-ne-NUMBERS : goal.returns-then-v-ne-NUMBERS
 returns-then-v-ne-NUMBERS c =
     let the-no-span = c.no_span in
-    let the-if1 = c.if-v-ne-NUMBERS in let both = span-absent _ _ _ the-no-span.ensures (octets-other c.args.v _ the-if1.true) in record { s_value = both.0; start_le_end = both.1 }
+    let the-if1 = c.if-v-ne-NUMBERS in
+    let both = span-absent _ _ _ the-no-span.ensures (octets-other c.args.v _ the-if1.true) in record { s_value = both.0; start_le_end = both.1 }
 
 pub returns-then-total-v : goal.returns-then-total-v
 returns-then-total-v c =
@@ -14,7 +15,9 @@ returns-then-total-v c =
     let the_word = c.word-total in
     let the-if2 = c.if-total-v in
     let w = the_word.ensures in
-    let k = the-if2.true in let both = span-absent _ _ _ the-no-span2.ensures (octets-out c.args.v _ the-if1.false (omega (arith, w, k))) in record { s_value = both.0; start_le_end = both.1 }
+    let k = the-if2.true in
+    let both = span-absent _ _ _ the-no-span2.ensures (octets-out c.args.v _ the-if1.false (omega (arith, w, k))) in
+    record { s_value = both.0; start_le_end = both.1 }
 
 pub returns-then-total-v-2 : goal.returns-then-total-v-2
 returns-then-total-v-2 c =
@@ -25,7 +28,9 @@ returns-then-total-v-2 c =
     let the-if2 = c.if-total-v in
     let w = the_word.ensures in
     let k = the-if3.true in
-    let l = the-if2.false in let both = span-absent _ _ _ the-no-span3.ensures (octets-out c.args.v _ the-if1.false (omega (arith, w, k, l))) in record { s_value = both.0; start_le_end = both.1 }
+    let l = the-if2.false in
+    let both = span-absent _ _ _ the-no-span3.ensures (octets-out c.args.v _ the-if1.false (omega (arith, w, k, l))) in
+    record { s_value = both.0; start_le_end = both.1 }
 
 pub overflow_add-result : goal.overflow_add-result
 overflow_add-result c =
@@ -45,4 +50,6 @@ returns c =
     let the-index2 = c.index-len in
     let the-if1 = c.if-v-ne-NUMBERS in
     let w = the_word.ensures in let k = the-if3.false in let l = the-if2.false in
-    let a = the-index.ensures in let b = the-index2.ensures in record { s_value = span-is _ c.args.v _ _ the-if1.false (omega arith) a b; start_le_end = (omega arith, omega arith) }
+    let a = the-index.ensures in
+    let b = the-index2.ensures in
+    record { s_value = span-is _ c.args.v _ _ the-if1.false (omega arith) a b; start_le_end = (omega arith, omega arith) }

@@ -59,7 +59,8 @@ pub items-returns-then-not-may_hold : goal.items-returns-then-not-may_hold
 items-returns-then-not-may_hold t c =
     let q = turn-full _ _ _ _ _ _ _ _ _ _ _ c.loop-i.invariant.0 c.requires.1 c.loop-i-test.true
     (c.is_next.ensures ∙ c.if-not-is_next.false) _ c.entry_size-e.ensures
-    c.if-e-gt-MESSAGE_LIMIT.false _ _ _ _ c.word_at-kind.ensures c.word-me.ensures refl c.inside_of-left.ensures _ c.inside-kids.ensures.gives c.if-kids-gt-MESSAGE_LIMIT.false
+    c.if-e-gt-MESSAGE_LIMIT.false _ _ _ _ c.word_at-kind.ensures c.word-me.ensures refl c.inside_of-left.ensures _ c.inside-kids.ensures.gives
+    c.if-kids-gt-MESSAGE_LIMIT.false
     c.refused-then-not-may_hold.ensures (c.may_hold.ensures ∙ c.if-not-may_hold.true) in
     record { gives = q.0; fact = q.1.0; next_le_count = q.1.1; notes = notes-no _ _ _ _ _ _ _ _ c.refused-then-not-may_hold.ensures }
 
@@ -73,7 +74,8 @@ pub items-returns-then-links-gt-MESSAGE_LIMIT : goal.items-returns-then-links-gt
 items-returns-then-links-gt-MESSAGE_LIMIT t c =
     let q = turn-links _ _ _ _ _ _ _ _ _ _ _ c.loop-i.invariant.0 c.requires.1 c.loop-i-test.true
     (c.is_next.ensures ∙ c.if-not-is_next.false) _ c.entry_size-e.ensures
-    c.if-e-gt-MESSAGE_LIMIT.false _ _ _ _ c.word_at-kind.ensures c.word-me.ensures refl c.inside_of-left.ensures _ c.inside-kids.ensures.gives c.if-kids-gt-MESSAGE_LIMIT.false
+    c.if-e-gt-MESSAGE_LIMIT.false _ _ _ _ c.word_at-kind.ensures c.word-me.ensures refl c.inside_of-left.ensures _ c.inside-kids.ensures.gives
+    c.if-kids-gt-MESSAGE_LIMIT.false
     (c.may_hold.ensures ∙ c.if-not-may_hold.false) _ c.inside-links.ensures.gives
     c.refused-then-links-gt-MESSAGE_LIMIT.ensures c.if-links-gt-MESSAGE_LIMIT.true in
     record { gives = q.0; fact = q.1.0; next_le_count = q.1.1; notes = notes-no _ _ _ _ _ _ _ _ c.refused-then-links-gt-MESSAGE_LIMIT.ensures }
@@ -82,7 +84,8 @@ pub items-returns-then-not-may_hold-2 : goal.items-returns-then-not-may_hold-2
 items-returns-then-not-may_hold-2 t c =
     let q = turn-linked _ _ _ _ _ _ _ _ _ _ _ c.loop-i.invariant.0 c.requires.1 c.loop-i-test.true
     (c.is_next.ensures ∙ c.if-not-is_next.false) _ c.entry_size-e.ensures
-    c.if-e-gt-MESSAGE_LIMIT.false _ _ _ _ c.word_at-kind.ensures c.word-me.ensures refl c.inside_of-left.ensures _ c.inside-kids.ensures.gives c.if-kids-gt-MESSAGE_LIMIT.false
+    c.if-e-gt-MESSAGE_LIMIT.false _ _ _ _ c.word_at-kind.ensures c.word-me.ensures refl c.inside_of-left.ensures _ c.inside-kids.ensures.gives
+    c.if-kids-gt-MESSAGE_LIMIT.false
     (c.may_hold.ensures ∙ c.if-not-may_hold.false) _ c.inside-links.ensures.gives c.if-links-gt-MESSAGE_LIMIT.false
     c.refused-then-not-may_hold-2.ensures (c.may_hold-in-loop-i.ensures ∙ c.if-not-may_hold-2.true) in
     record { gives = q.0; fact = q.1.0; next_le_count = q.1.1; notes = notes-no _ _ _ _ _ _ _ _ c.refused-then-not-may_hold-2.ensures }
@@ -100,7 +103,8 @@ pub items-returns-then-total-gt-MESSAGE_LIMIT : goal.items-returns-then-total-gt
 items-returns-then-total-gt-MESSAGE_LIMIT t c =
     let q = turn-over _ _ _ _ _ _ _ _ _ _ _ c.loop-i.invariant.0 c.requires.1 c.loop-i-test.true
     (c.is_next.ensures ∙ c.if-not-is_next.false) _ c.entry_size-e.ensures
-    c.if-e-gt-MESSAGE_LIMIT.false _ _ _ _ c.word_at-kind.ensures c.word-me.ensures refl c.inside_of-left.ensures _ c.inside-kids.ensures.gives c.if-kids-gt-MESSAGE_LIMIT.false
+    c.if-e-gt-MESSAGE_LIMIT.false _ _ _ _ c.word_at-kind.ensures c.word-me.ensures refl c.inside_of-left.ensures _ c.inside-kids.ensures.gives
+    c.if-kids-gt-MESSAGE_LIMIT.false
     (c.may_hold.ensures ∙ c.if-not-may_hold.false) _ c.inside-links.ensures.gives c.if-links-gt-MESSAGE_LIMIT.false
     (c.may_hold-in-loop-i.ensures ∙ c.if-not-may_hold-2.false) _ c.tree_size-total.ensures
     c.refused-then-total-gt-MESSAGE_LIMIT.ensures c.if-total-gt-MESSAGE_LIMIT.true in
@@ -116,14 +120,16 @@ pub items-loop-i-preserved : goal.items-loop-i-preserved
 items-loop-i-preserved t c =
     let t = turn_on _ _ _ _ _ _ _ _ _ _ _ c.loop-i.invariant.0 c.requires.1 c.loop-i-test.true
     (c.is_next.ensures ∙ c.if-not-is_next.false) _ c.entry_size-e.ensures
-    c.if-e-gt-MESSAGE_LIMIT.false _ _ _ _ c.word_at-kind.ensures c.word-me.ensures refl c.inside_of-left.ensures _ c.inside-kids.ensures.gives c.if-kids-gt-MESSAGE_LIMIT.false
+    c.if-e-gt-MESSAGE_LIMIT.false _ _ _ _ c.word_at-kind.ensures c.word-me.ensures refl c.inside_of-left.ensures _ c.inside-kids.ensures.gives
+    c.if-kids-gt-MESSAGE_LIMIT.false
     (c.may_hold.ensures ∙ c.if-not-may_hold.false) _ c.inside-links.ensures.gives c.if-links-gt-MESSAGE_LIMIT.false
     (c.may_hold-in-loop-i.ensures ∙ c.if-not-may_hold-2.false) _ c.tree_size-total.ensures
     c.if-total-gt-MESSAGE_LIMIT.false c.if-k-lt-FOR_ENTRY.false (passed c.inside-kids.ensures.fact c.if-kids-gt-MESSAGE_LIMIT.false)
     (passed c.inside-links.ensures.fact c.if-links-gt-MESSAGE_LIMIT.false) c.inside-links.ensures.next_le_count in
     let w = turn-keeps _ _ _ _ _ _ _ _ _ _ _ c.loop-i.invariant.0 c.requires.1 c.loop-i-test.true
     (c.is_next.ensures ∙ c.if-not-is_next.false) _ c.entry_size-e.ensures
-    c.if-e-gt-MESSAGE_LIMIT.false _ _ _ _ c.word_at-kind.ensures c.word-me.ensures refl c.inside_of-left.ensures _ c.inside-kids.ensures.gives c.if-kids-gt-MESSAGE_LIMIT.false
+    c.if-e-gt-MESSAGE_LIMIT.false _ _ _ _ c.word_at-kind.ensures c.word-me.ensures refl c.inside_of-left.ensures _ c.inside-kids.ensures.gives
+    c.if-kids-gt-MESSAGE_LIMIT.false
     (c.may_hold.ensures ∙ c.if-not-may_hold.false) _ c.inside-links.ensures.gives c.if-links-gt-MESSAGE_LIMIT.false _ c.packed.ensures in
     let a = passed c.inside-kids.ensures.fact c.if-kids-gt-MESSAGE_LIMIT.false in
     let b = passed c.inside-links.ensures.fact c.if-links-gt-MESSAGE_LIMIT.false in (

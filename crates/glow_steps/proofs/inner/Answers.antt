@@ -3,7 +3,11 @@ use mathlib.Core.Path.{◌∙◌}
 use Rattle.glow_steps.proofs.inner.Goals as goal
 
 pub returns-then-not-is_tag : goal.returns-then-not-is_tag
-returns-then-not-is_tag c = record { after_value = inner-other _ _ _ _ _ (rw (c.inner_class.ensures, c.inner_number.ensures) (c.is_tag.ensures ∙ c.if-not-is_tag.true)); inner_onward = λ s p w l. tt }
+returns-then-not-is_tag c =
+    record {
+      after_value = inner-other _ _ _ _ _ (rw (c.inner_class.ensures, c.inner_number.ensures) (c.is_tag.ensures ∙ c.if-not-is_tag.true));
+      inner_onward = λ s p w l. tt;
+    }
 
 pub returns-then-what-eq-BODY : goal.returns-then-what-eq-BODY
 returns-then-what-eq-BODY c =

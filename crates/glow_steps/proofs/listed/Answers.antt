@@ -18,4 +18,8 @@ pub returns-in-Refused : goal.returns-in-Refused
 returns-in-Refused c = record { c_value = listed-missing _ _ _ _ _ _ _ (c.first.ensures.k_value ∙ c.in-Refused.is); member_onward = tt }
 
 pub returns-else-what-ge-BODY : goal.returns-else-what-ge-BODY
-returns-else-what-ge-BODY c = record { c_value = listed_plain _ _ _ _ _ _ _ (c.first.ensures.k_value ∙ c.in-Value.is) c.if-what-ge-BODY.false ∙ c.plain.ensures.c_value; member_onward = c.plain.ensures.member_onward }
+returns-else-what-ge-BODY c =
+    record {
+      c_value = listed_plain _ _ _ _ _ _ _ (c.first.ensures.k_value ∙ c.in-Value.is) c.if-what-ge-BODY.false ∙ c.plain.ensures.c_value;
+      member_onward = c.plain.ensures.member_onward;
+    }

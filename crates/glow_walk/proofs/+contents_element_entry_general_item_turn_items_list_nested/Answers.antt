@@ -20,7 +20,11 @@ pub contents-shape_of-table : goal.contents-shape_of-table
 contents-shape_of-table t c = c.element-w.auto.table
 
 pub contents-returns : goal.contents-returns
-contents-returns t c = record { contents_fill = contents-fill _ _ _ _ _ _ c.less-k.ensures c.contents_of-row.ensures c.element-w.ensures.members_fill c.close.ensures.closes; walked_onward = c.close.ensures.keeps _ _ c.element-w.ensures.walked_onward }
+contents-returns t c =
+    record {
+      contents_fill = contents-fill _ _ _ _ _ _ c.less-k.ensures c.contents_of-row.ensures c.element-w.ensures.members_fill c.close.ensures.closes;
+      walked_onward = c.close.ensures.keeps _ _ c.element-w.ensures.walked_onward;
+    }
 
 pub element-loop-o-init : goal.element-loop-o-init
 element-loop-o-init t c =
@@ -44,7 +48,11 @@ pub element-returns-then-z : goal.element-returns-then-z
 element-returns-then-z t c =
     let the-loop = c.loop-o in
     let i = the-loop.invariant in
-    let z = c.shut-z.ensures c.if-z.true in record { members_fill = record { filled = λ es base e h. members-ended _ _ _ _ _ _ (i.held es base e h) (enter-ended _ _ _ _ z.0) c.ended.ensures }; walked_onward = ended-onward _ _ _ _ _ c.ended.ensures i.onward z.1 i.enough i.later }
+    let z = c.shut-z.ensures c.if-z.true in
+    record {
+      members_fill = record { filled = λ es base e h. members-ended _ _ _ _ _ _ (i.held es base e h) (enter-ended _ _ _ _ z.0) c.ended.ensures };
+      walked_onward = ended-onward _ _ _ _ _ c.ended.ensures i.onward z.1 i.enough i.later;
+    }
 
 pub element-leaf-requires : goal.element-leaf-requires
 element-leaf-requires t c =
@@ -153,7 +161,12 @@ pub element-returns-in-Read-nested : goal.element-returns-in-Read-nested
 element-returns-in-Read-nested t c =
     let the-loop = c.loop-o in
     let i = the-loop.invariant in
-    let u = subst (TurnOnward _ _ _) c.in-Read-nested.is c.nested.ensures.turn_onward in record { members_fill = record { filled = λ es base e h. members-end _ _ _ _ _ _ (i.held es base e h) c.nested.ensures.members_turn c.in-Read-nested.is }; walked_onward = (omega (arith, i.onward, u.0), (u.1.0, omega (arith, i.later, u.1.1))) }
+    let u = subst (TurnOnward _ _ _) c.in-Read-nested.is c.nested.ensures.turn_onward in
+    record {
+      members_fill = record { filled = λ es base e h. members-end _ _ _ _ _ _ (i.held es base e h) c.nested.ensures.members_turn c.in-Read-nested.is }
+          record { filled = λ es base e h. members-end _ _ _ _ _ _ (i.held es base e h) c.nested.ensures.members_turn c.in-Read-nested.is };
+      walked_onward = (omega (arith, i.onward, u.0), (u.1.0, omega (arith, i.later, u.1.1)));
+    }
 
 pub element-shape_of-table-in-Refused-nested : goal.element-shape_of-table-in-Refused-nested
 element-shape_of-table-in-Refused-nested t c =
@@ -163,7 +176,12 @@ element-shape_of-table-in-Refused-nested t c =
 pub element-returns-in-Refused-nested : goal.element-returns-in-Refused-nested
 element-returns-in-Refused-nested t c =
     let the-loop = c.loop-o in
-    let i = the-loop.invariant in record { members_fill = record { filled = λ es base e h. members-stop _ _ _ _ _ _ (i.held es base e h) c.nested.ensures.members_turn c.in-Refused-nested.is }; walked_onward = tt }
+    let i = the-loop.invariant in
+    record {
+      members_fill = record { filled = λ es base e h. members-stop _ _ _ _ _ _ (i.held es base e h) c.nested.ensures.members_turn c.in-Refused-nested.is }
+          record { filled = λ es base e h. members-stop _ _ _ _ _ _ (i.held es base e h) c.nested.ensures.members_turn c.in-Refused-nested.is };
+      walked_onward = tt;
+    }
 
 pub entry-overflow_add-me : goal.entry-overflow_add-me
 entry-overflow_add-me t c = let q = c.requires in omega (arith, q)
@@ -175,7 +193,11 @@ pub entry-shape_of-table : goal.entry-shape_of-table
 entry-shape_of-table t c = c.element-w.auto.table ∙ c.blank.auto.table
 
 pub entry-returns : goal.entry-returns
-entry-returns t c = record { entry_fill = entry-fill _ _ _ _ _ _ c.less-k.ensures c.word.ensures c.blank.ensures c.element-w.ensures.members_fill c.close.ensures.closes; walked_onward = c.close.ensures.keeps _ _ c.element-w.ensures.walked_onward }
+entry-returns t c =
+    record {
+      entry_fill = entry-fill _ _ _ _ _ _ c.less-k.ensures c.word.ensures c.blank.ensures c.element-w.ensures.members_fill c.close.ensures.closes;
+      walked_onward = c.close.ensures.keeps _ _ c.element-w.ensures.walked_onward;
+    }
 
 pub general-contents-w-requires : goal.general-contents-w-requires
 general-contents-w-requires t c =
@@ -199,13 +221,20 @@ general-list-w-requires t c =
 pub general-returns-in-Done : goal.general-returns-in-Done
 general-returns-in-Done t c =
     let w = subst (MemberOnward _ _) c.in-Done.is c.member_at.ensures.member_onward in
-    let q = c.requires in record { members_turn = turn-done _ _ _ _ _ _ (c.member_at.ensures.before_value ∙ c.in-Done.is); turn_onward = (w, (omega (arith, w, q.1), omega arith)) }
+    let q = c.requires in
+    record {
+      members_turn = turn-done _ _ _ _ _ _ (c.member_at.ensures.before_value ∙ c.in-Done.is);
+      turn_onward = (w, (omega (arith, w, q.1), omega arith));
+    }
 
 pub general-returns-in-Refused : goal.general-returns-in-Refused
 general-returns-in-Refused t c = record { members_turn = turn-no _ _ _ _ _ _ (c.member_at.ensures.before_value ∙ c.in-Refused.is); turn_onward = tt }
 
 pub general-returns-in-Over : goal.general-returns-in-Over
-general-returns-in-Over t c = let w = subst (MemberOnward _ _) c.in-Over.is c.member_at.ensures.member_onward in let both = turn-over _ _ _ _ _ _ (c.member_at.ensures.before_value ∙ c.in-Over.is) w.0 w.1 c.requires.1 c.on.ensures in record { members_turn = both.0; turn_onward = both.1 }
+general-returns-in-Over t c =
+    let w = subst (MemberOnward _ _) c.in-Over.is c.member_at.ensures.member_onward in
+    let both = turn-over _ _ _ _ _ _ (c.member_at.ensures.before_value ∙ c.in-Over.is) w.0 w.1 c.requires.1 c.on.ensures in
+    record { members_turn = both.0; turn_onward = both.1 }
 
 pub general-shape_of-table-in-Leaf : goal.general-shape_of-table-in-Leaf
 general-shape_of-table-in-Leaf t c = c.put_cell.auto.table
@@ -213,14 +242,18 @@ general-shape_of-table-in-Leaf t c = c.put_cell.auto.table
 pub general-returns-in-Leaf : goal.general-returns-in-Leaf
 general-returns-in-Leaf t c =
     let w = subst (MemberOnward _ _) c.in-Leaf.is c.member_at.ensures.member_onward in
-    let q = c.requires in let both = turn-leaf _ _ _ _ _ _ (c.member_at.ensures.before_value ∙ c.in-Leaf.is) w.0 w.1 q.0 q.1 c.put_cell.ensures c.on-in-Leaf.ensures in record { members_turn = both.0; turn_onward = both.1 }
+    let q = c.requires in
+    let both = turn-leaf _ _ _ _ _ _ (c.member_at.ensures.before_value ∙ c.in-Leaf.is) w.0 w.1 q.0 q.1 c.put_cell.ensures c.on-in-Leaf.ensures in
+    record { members_turn = both.0; turn_onward = both.1 }
 
 pub general-shape_of-table-in-Contents : goal.general-shape_of-table-in-Contents
 general-shape_of-table-in-Contents t c = c.contents-w.auto.table
 
 pub general-returns-in-Contents : goal.general-returns-in-Contents
 general-returns-in-Contents t c =
-    let w = subst (MemberOnward _ _) c.in-Contents.is c.member_at.ensures.member_onward in let both = turn-contents _ _ _ _ _ _ (c.member_at.ensures.before_value ∙ c.in-Contents.is) w.0 w.1 c.contents-w.ensures.contents_fill c.contents-w.ensures.walked_onward
+    let w = subst (MemberOnward _ _) c.in-Contents.is c.member_at.ensures.member_onward in
+    let both = turn-contents _ _ _ _ _ _ (c.member_at.ensures.before_value ∙ c.in-Contents.is) w.0 w.1 c.contents-w.ensures.contents_fill
+    c.contents-w.ensures.walked_onward
     c.onward.ensures in record { members_turn = both.0; turn_onward = both.1 }
 
 pub general-shape_of-table-in-Items : goal.general-shape_of-table-in-Items
@@ -228,13 +261,19 @@ general-shape_of-table-in-Items t c = c.list-w.auto.table
 
 pub general-returns-in-Items : goal.general-returns-in-Items
 general-returns-in-Items t c =
-    let w = subst (MemberOnward _ _) c.in-Items.is c.member_at.ensures.member_onward in let both = turn-items _ _ _ _ _ _ (c.member_at.ensures.before_value ∙ c.in-Items.is) w.0 w.1 c.list-w.ensures.list_fill c.list-w.ensures.walked_onward
+    let w = subst (MemberOnward _ _) c.in-Items.is c.member_at.ensures.member_onward in
+    let both = turn-items _ _ _ _ _ _ (c.member_at.ensures.before_value ∙ c.in-Items.is) w.0 w.1 c.list-w.ensures.list_fill
+    c.list-w.ensures.walked_onward
     c.onward-in-Items.ensures in record { members_turn = both.0; turn_onward = both.1 }
 
 pub item_turn-returns-then-z : goal.item_turn-returns-then-z
 item_turn-returns-then-z t c =
     let z = c.shut-z.ensures c.if-z.true in
-    let q = c.requires in record { items_turn = item-turn-done _ _ _ _ _ _ (item-done _ _ _ _ _ (enter-ended _ _ _ _ z.0)); turn_onward = (z.1, (omega (arith, z.1, q), omega arith)) }
+    let q = c.requires in
+    record {
+      items_turn = item-turn-done _ _ _ _ _ _ (item-done _ _ _ _ _ (enter-ended _ _ _ _ z.0));
+      turn_onward = (z.1, (omega (arith, z.1, q), omega arith));
+    }
 
 pub item_turn-overflow_add-from : goal.item_turn-overflow_add-from
 item_turn-overflow_add-from t c = let i = (c.kind_at-quick.ensures c.if-quick-ne0.true).pair.inside in omega (arith, i)
@@ -266,7 +305,9 @@ item_turn-shape_of-table-then-quick-ne0 t c = c.entry-w.auto.table
 pub item_turn-returns-then-quick-ne0 : goal.item_turn-returns-then-quick-ne0
 item_turn-returns-then-quick-ne0 t c =
     let h = c.kind_at-quick.ensures c.if-quick-ne0.true in
-    let i = h.pair.inside in let both = turn-element _ _ _ _ _ _ (quick-element _ _ _ _ _ _ h c.if-quick-ne0.true c.size.ensures c.opened-inner.ensures) (omega (arith, i)) (omega arith)
+    let i = h.pair.inside in
+    let both = turn-element _ _ _ _ _ _ (quick-element _ _ _ _ _ _ h c.if-quick-ne0.true c.size.ensures c.opened-inner.ensures) (omega (arith, i))
+    (omega arith)
     c.entry-w.ensures.entry_fill c.entry-w.ensures.walked_onward c.onward.ensures in record { items_turn = both.0; turn_onward = both.1 }
 
 pub item_turn-entry-w-requires-in-Element : goal.item_turn-entry-w-requires-in-Element
@@ -278,7 +319,11 @@ item_turn-entry-w-requires-in-Element t c =
 pub item_turn-returns-in-Done : goal.item_turn-returns-in-Done
 item_turn-returns-in-Done t c =
     let w = subst (ItemOnward _ _) c.in-Done.is c.item_at.ensures.item_onward in
-    let q = c.requires in record { items_turn = item-turn-done _ _ _ _ _ _ (c.item_at.ensures.which_value ∙ c.in-Done.is); turn_onward = (w, (omega (arith, w, q), omega arith)) }
+    let q = c.requires in
+    record {
+      items_turn = item-turn-done _ _ _ _ _ _ (c.item_at.ensures.which_value ∙ c.in-Done.is);
+      turn_onward = (w, (omega (arith, w, q), omega arith));
+    }
 
 pub item_turn-returns-in-Refused : goal.item_turn-returns-in-Refused
 item_turn-returns-in-Refused t c = record { items_turn = item-turn-no _ _ _ _ _ _ (c.item_at.ensures.which_value ∙ c.in-Refused.is); turn_onward = tt }
@@ -288,7 +333,9 @@ item_turn-shape_of-table t c = c.entry-w-in-Element.auto.table
 
 pub item_turn-returns-in-Element : goal.item_turn-returns-in-Element
 item_turn-returns-in-Element t c =
-    let w = subst (ItemOnward _ _) c.in-Element.is c.item_at.ensures.item_onward in let both = turn-element _ _ _ _ _ _ (c.item_at.ensures.which_value ∙ c.in-Element.is) w.0 w.1 c.entry-w-in-Element.ensures.entry_fill c.entry-w-in-Element.ensures.walked_onward
+    let w = subst (ItemOnward _ _) c.in-Element.is c.item_at.ensures.item_onward in
+    let both = turn-element _ _ _ _ _ _ (c.item_at.ensures.which_value ∙ c.in-Element.is) w.0 w.1 c.entry-w-in-Element.ensures.entry_fill
+    c.entry-w-in-Element.ensures.walked_onward
     c.onward-in-Element.ensures in record { items_turn = both.0; turn_onward = both.1 }
 
 pub items-loop-next-init : goal.items-loop-next-init
@@ -337,7 +384,11 @@ pub items-returns-in-Read : goal.items-returns-in-Read
 items-returns-in-Read t c =
     let the-loop = c.loop-next in
     let i = the-loop.invariant in
-    let u = subst (TurnOnward _ _ _) c.in-Read.is c.item_turn.ensures.turn_onward in record { items_fill = record { filled = λ es base e h. items-end _ _ _ _ _ _ (i.held es base e h) c.item_turn.ensures.items_turn c.in-Read.is }; walked_onward = (omega (arith, i.onward, u.0), (u.1.0, omega (arith, i.later, u.1.1))) }
+    let u = subst (TurnOnward _ _ _) c.in-Read.is c.item_turn.ensures.turn_onward in
+    record {
+      items_fill = record { filled = λ es base e h. items-end _ _ _ _ _ _ (i.held es base e h) c.item_turn.ensures.items_turn c.in-Read.is };
+      walked_onward = (omega (arith, i.onward, u.0), (u.1.0, omega (arith, i.later, u.1.1)));
+    }
 
 pub items-shape_of-table-in-Refused : goal.items-shape_of-table-in-Refused
 items-shape_of-table-in-Refused t c =
@@ -347,7 +398,11 @@ items-shape_of-table-in-Refused t c =
 pub items-returns-in-Refused : goal.items-returns-in-Refused
 items-returns-in-Refused t c =
     let the-loop = c.loop-next in
-    let i = the-loop.invariant in record { items_fill = record { filled = λ es base e h. items-stop _ _ _ _ _ _ (i.held es base e h) c.item_turn.ensures.items_turn c.in-Refused.is }; walked_onward = tt }
+    let i = the-loop.invariant in
+    record {
+      items_fill = record { filled = λ es base e h. items-stop _ _ _ _ _ _ (i.held es base e h) c.item_turn.ensures.items_turn c.in-Refused.is };
+      walked_onward = tt;
+    }
 
 pub list-items-w-requires : goal.list-items-w-requires
 list-items-w-requires t c = let q = c.requires in (omega arith, q)
@@ -356,7 +411,11 @@ pub list-shape_of-table : goal.list-shape_of-table
 list-shape_of-table t c = c.items-w.auto.table
 
 pub list-returns : goal.list-returns
-list-returns t c = record { list_fill = list-fill _ _ _ _ _ _ c.less-k.ensures c.items-w.ensures.items_fill c.close.ensures.closes; walked_onward = c.close.ensures.keeps _ _ c.items-w.ensures.walked_onward }
+list-returns t c =
+    record {
+      list_fill = list-fill _ _ _ _ _ _ c.less-k.ensures c.items-w.ensures.items_fill c.close.ensures.closes;
+      walked_onward = c.close.ensures.keeps _ _ c.items-w.ensures.walked_onward;
+    }
 
 pub nested-bounds-s-p : goal.nested-bounds-s-p
 nested-bounds-s-p t c =
@@ -364,7 +423,10 @@ nested-bounds-s-p t c =
     omega (arith, q.inside)
 
 pub nested-returns-then-z : goal.nested-returns-then-z
-nested-returns-then-z t c = let q = c.over_at-z.ensures c.if-z.true in let both = turn-over _ _ _ _ _ _ (rw (← c.after_unlisted-after.ensures) (q.over _ _ refl)) q.inside q.later c.requires.enough c.on.ensures in record { members_turn = both.0; turn_onward = both.1 }
+nested-returns-then-z t c =
+    let q = c.over_at-z.ensures c.if-z.true in
+    let both = turn-over _ _ _ _ _ _ (rw (← c.after_unlisted-after.ensures) (q.over _ _ refl)) q.inside q.later c.requires.enough c.on.ensures in
+    record { members_turn = both.0; turn_onward = both.1 }
 
 pub nested-general-requires : goal.nested-general-requires
 nested-general-requires t c = let q = c.requires in (omega arith, (q.mine, q.enough))
@@ -412,7 +474,8 @@ nested-returns-then-what-eq-BODY t c =
     let i = h.pair.inside in let both = turn-contents _ _ _ _ _ _
     (quick-contents _ _ _ _ _ _ _ _ h c.if-what-eq-NONE.false c.wide.ensures.value c.size.ensures c.after_listed-after.ensures.n_value c.opened-inner.ensures
     c.if-what-eq-BODY.true)
-    (omega (arith, i)) (omega arith) c.contents-w.ensures.contents_fill c.contents-w.ensures.walked_onward c.onward.ensures in record { members_turn = both.0; turn_onward = both.1 }
+    (omega (arith, i)) (omega arith) c.contents-w.ensures.contents_fill c.contents-w.ensures.walked_onward c.onward.ensures in record
+    { members_turn = both.0; turn_onward = both.1 }
 
 pub nested-overflow_add-parent : goal.nested-overflow_add-parent
 nested-overflow_add-parent t c =
@@ -441,4 +504,5 @@ nested-returns t c =
     let b = q.holds c.if-what-eq-NONE.false in let both = turn-items _ _ _ _ _ _
     (quick-items _ _ _ _ _ _ _ _ h c.if-what-eq-NONE.false c.wide.ensures.value c.size.ensures c.after_listed-after.ensures.n_value
     c.opened-inner.ensures (omega (arith, b, c.if-what-eq-BODY.false)) c.collection_of-which.ensures)
-    (omega (arith, i)) (omega arith) c.list-w.ensures.list_fill c.list-w.ensures.walked_onward c.onward-2.ensures in record { members_turn = both.0; turn_onward = both.1 }
+    (omega (arith, i)) (omega arith) c.list-w.ensures.list_fill c.list-w.ensures.walked_onward c.onward-2.ensures in record
+    { members_turn = both.0; turn_onward = both.1 }

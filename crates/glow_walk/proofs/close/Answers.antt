@@ -19,7 +19,8 @@ pub returns-in-Refused : goal.returns-in-Refused
 returns-in-Refused c = record { closes = λ a n h. close-no _ _ _ a n h c.in-Refused.is; keeps = λ p n h. tt }
 
 pub returns-in-Refused-last : goal.returns-in-Refused-last
-returns-in-Refused-last c = record { closes = λ a n h. close_more _ _ _ a n h c.in-Read.is (c.last.ensures.k_value ∙ c.in-Refused-last.is); keeps = λ p n h. tt }
+returns-in-Refused-last c =
+    record { closes = λ a n h. close_more _ _ _ a n h c.in-Read.is (c.last.ensures.k_value ∙ c.in-Refused-last.is); keeps = λ p n h. tt }
 
 pub returns-in-Next : goal.returns-in-Next
 returns-in-Next c =

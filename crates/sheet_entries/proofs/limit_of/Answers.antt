@@ -4,4 +4,6 @@ use borrow.Author.Rules.{rules}
 use Rattle.sheet_entries.proofs.limit_of.Goals as goal
 
 pub returns-in-Is : goal.returns-in-Is
-returns-in-Is c = let h : c.number_word-w.result < 2 ^ 64 = search rules in let both = limit-some _ _ _ c.in-Is.is c.number_word-w.ensures h in record { n_value = both.0; n_bound = both.1 }
+returns-in-Is c =
+    let h : c.number_word-w.result < 2 ^ 64 = search rules in
+    let both = limit-some _ _ _ c.in-Is.is c.number_word-w.ensures h in record { n_value = both.0; n_bound = both.1 }

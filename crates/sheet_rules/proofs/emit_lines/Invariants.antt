@@ -7,7 +7,9 @@ use Rattle.sheet_rules.proofs.emit_lines.Given as goal
 
 -- The invariant: what is left of the slice, written from here, leaves what the whole leaves.
 abbrev pub invariant-loop-i : goal.invariant-loop-i
-invariant-loop-i l = (l.i ≤ length l.s) × ((l.next ≤ l.at + 3 * l.i) × ((length l.out ≡ length l.initial.out) × (wrote l.initial.out l.at (breaks l.s) ≡ wrote l.out l.next (breaks (drop l.i l.s)))))
+invariant-loop-i l =
+    (l.i ≤ length l.s) × ((l.next ≤ l.at + 3 * l.i) × ((length l.out ≡ length l.initial.out) ×
+    (wrote l.initial.out l.at (breaks l.s) ≡ wrote l.out l.next (breaks (drop l.i l.s)))))
 
 abbrev pub decreases-loop-i : goal.decreases-loop-i
 decreases-loop-i l = length l.s - l.i

@@ -16,4 +16,6 @@ pub emit_lines-requires : goal.emit_lines-requires
 emit_lines-requires c = omega arith
 
 pub returns : goal.returns
-returns c = limited-fits _ _ _ _ c.if-frames-gt65536.false ∙ into-done _ _ c.emit_lines-length.ensures.s_value c.if-out-length.false c.emit_lines.ensures.s_value
+returns c =
+    limited-fits _ _ _ _ c.if-frames-gt65536.false ∙ into-done _ _ c.emit_lines-length.ensures.s_value c.if-out-length.false
+    c.emit_lines.ensures.s_value

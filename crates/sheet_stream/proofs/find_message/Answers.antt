@@ -10,5 +10,6 @@ returns-then-has_bad_line c = finds-bad _ _ c.if-store-ne-STORE_LENGTH.false (c.
 
 pub returns : goal.returns
 returns c =
-    finds-end _ _ c.if-store-ne-STORE_LENGTH.false (c.has_bad_line.ensures ∙ c.if-has_bad_line.false) _ _ c.take_text-tally.ensures.text_value c.take_text-tally.ensures.text_value_2
+    finds-end _ _ c.if-store-ne-STORE_LENGTH.false (c.has_bad_line.ensures ∙ c.if-has_bad_line.false) _ _ c.take_text-tally.ensures.text_value
+    c.take_text-tally.ensures.text_value_2
     c.end.result (c.end.ensures _)

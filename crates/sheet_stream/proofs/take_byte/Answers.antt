@@ -4,7 +4,8 @@ use borrow.Author.Rules.{rules}
 use Rattle.sheet_stream.proofs.take_byte.Goals as goal
 
 pub returns-then-number-ge10 : goal.returns-then-number-ge10
-returns-then-number-ge10 c = taken-high c.args.tally _ _ (search rules) (search rules) c.feed-fed.result _ c.feed-fed.ensures _ c.number-number.ensures (omega arith)
+returns-then-number-ge10 c =
+    taken-high c.args.tally _ _ (search rules) (search rules) c.feed-fed.result _ c.feed-fed.ensures _ c.number-number.ensures (omega arith)
 
 pub returns-in_default : goal.returns-in_default
 returns-in_default c =

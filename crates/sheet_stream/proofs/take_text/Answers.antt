@@ -51,7 +51,8 @@ loop-i-preserved-then-first-eq-NO_DIGIT c =
             the-loop.invariant.1.1.1.0,
             (
               the-loop.invariant.1.1.1.1.0,
-              goes-as the-loop.invariant.1.1.1.1.1 (bytes-first _ _ _ _ c.loop-i-test.true c.digit-d.ensures.b_value c.if-d-eq-NO_DIGIT.false c.if-first-eq-NO_DIGIT.true),
+              goes-as the-loop.invariant.1.1.1.1.1 (bytes-first _ _ _ _ c.loop-i-test.true c.digit-d.ensures.b_value c.if-d-eq-NO_DIGIT.false
+                  c.if-first-eq-NO_DIGIT.true),
             ),
           ),
         ),
@@ -98,4 +99,7 @@ pub shape_of-store : goal.shape_of-store
 shape_of-store c = omega arith
 
 pub returns : goal.returns
-returns c = let the-loop = c.loop-i in let both = goes_end (goes-as the-loop.invariant.1.1.1.1.1 (bytes-end _ _ _ c.loop-i-test.false)) the-loop.invariant.1.1.1.1.0 in record { text_value = both.0; text_value_2 = both.1 }
+returns c =
+    let the-loop = c.loop-i in
+    let both = goes_end (goes-as the-loop.invariant.1.1.1.1.1 (bytes-end _ _ _ c.loop-i-test.false)) the-loop.invariant.1.1.1.1.0 in
+    record { text_value = both.0; text_value_2 = both.1 }

@@ -10,7 +10,8 @@ loop-t-init c = (omega arith, (omega arith, (refl, (refl, links-begin _ _ _ 0 _)
 pub put_link-next-requires : goal.put_link-next-requires
 put_link-next-requires c =
     let the-loop = c.loop-t in
-    let a = rows_apart the-loop.t c.args.targets c.args.w c.loop-t-test.true in record { w_in_bounds = (omega (arith, a, c.requires.cells_len.0), c.requires.cells_len.1); t_lt_side = omega arith }
+    let a = rows_apart the-loop.t c.args.targets c.args.w c.loop-t-test.true in
+    record { w_in_bounds = (omega (arith, a, c.requires.cells_len.0), c.requires.cells_len.1); t_lt_side = omega arith }
 
 pub overflow_add-t : goal.overflow_add-t
 overflow_add-t c = omega arith

@@ -11,7 +11,11 @@ unfolding clear
 returns-in_default c =
     let a = c.args in
     let d = desk_at a.figures a.path.now a.crosspoints.now in
-    let e = c.feed-fed.result.event in record { chunk_value = c.feed-fed.ensures; table_after = later-none d e c.feed-fed.new.store a.table.now (other-event e (opened c.in_default.in_default-own.keys2)) }
+    let e = c.feed-fed.result.event in
+    record {
+      chunk_value = c.feed-fed.ensures;
+      table_after = later-none d e c.feed-fed.new.store a.table.now (other-event e (opened c.in_default.in_default-own.keys2));
+    }
 
 pub slice_bounds-message-end-2 : goal.slice_bounds-message-end-2
 slice_bounds-message-end-2 c = sym (length-take-le _ _ c.front-n.ensures.upper_bound)
