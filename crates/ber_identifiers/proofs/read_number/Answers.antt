@@ -12,7 +12,7 @@ use Rattle.ber_identifiers.proofs.read_number.Goals as goal
 
 -- the octets from p on, where they do not start with 80
 whole : (c : Else-s-p) {r : Arc} → r ≡ arc_from 0 c.args.p (take (c.args.end - c.args.p) (drop c.args.p c.args.s.now)) → r ≡ arc_at c.args.s.now
-c.args.p c.args.end
+    c.args.p c.args.end
 whole c e = e ∙ arc-from _ _ _ c.if-s-end.false c.if-end-p.false (λ h. omega (arith, h, c.if-s-p.false))
 
 pub returns-then-s-end : goal.returns-then-s-end
@@ -46,9 +46,12 @@ pub returns-then-b-lt128 : goal.returns-then-b-lt128
 returns-then-b-lt128 c =
     let e = whole (goal.at.returns-then-b-lt128 c).Else-s-p c.loop-i.invariant.1.1.1 in
     let h : c.loop-i.i < c.args.end =
-    c.loop-i-test.true in record { promised = promised arc-row (c.ended.ensures ∙ rw c.wide.ensures.value
-    (from_last _ _ c.loop-i.acc c.loop-i.i c.if-s-end.false h c.if-b-lt128.true) ∙ e); arc_within = subst (ArcWithin _ _) (sym c.ended.ensures)
-    (arc-within _ _ _ _ (omega arith) (omega arith)) }
+    c.loop-i-test.true in record {
+      promised = promised arc-row (c.ended.ensures ∙ rw c.wide.ensures.value
+          (from_last _ _ c.loop-i.acc c.loop-i.i c.if-s-end.false h c.if-b-lt128.true) ∙ e);
+      arc_within = subst (ArcWithin _ _) (sym c.ended.ensures)
+          (arc-within _ _ _ _ (omega arith) (omega arith));
+    }
 
 pub overflow_mul-acc-in-loop-i : goal.overflow_mul-acc-in-loop-i
 overflow_mul-acc-in-loop-i c = omega arith
@@ -67,8 +70,14 @@ loop-i-preserved-then-acc-gt2147483647 c =
     let k : 2147483647 < c.loop-i.acc * 128 + get_or c.args.s.now
     c.loop-i.i 0 % 128 = rw c.wide-in-loop-i.ensures.value at c.if-acc-gt2147483647.true in (
       omega arith,
-      (omega arith, (omega arith, from-big 2147483648 _ _ _ t k ∙ from_more _ _ c.loop-i.acc c.loop-i.i c.if-s-end.false h c.if-b-lt128.false ∙
-      c.loop-i.invariant.1.1.1)),
+      (
+        omega arith,
+        (
+          omega arith,
+          from-big 2147483648 _ _ _ t k ∙ from_more _ _ c.loop-i.acc c.loop-i.i c.if-s-end.false h c.if-b-lt128.false ∙
+              c.loop-i.invariant.1.1.1,
+        ),
+      ),
     )
 
 pub loop-i-smaller : goal.loop-i-smaller
@@ -79,8 +88,14 @@ loop-i-preserved c =
     let h : c.loop-i.i < c.args.end =
     c.loop-i-test.true in (
       omega arith,
-      (omega arith, (omega arith, rw c.wide-in-loop-i.ensures.value (from_more _ _ c.loop-i.acc c.loop-i.i c.if-s-end.false h c.if-b-lt128.false) ∙
-      c.loop-i.invariant.1.1.1)),
+      (
+        omega arith,
+        (
+          omega arith,
+          rw c.wide-in-loop-i.ensures.value (from_more _ _ c.loop-i.acc c.loop-i.i c.if-s-end.false h c.if-b-lt128.false) ∙
+              c.loop-i.invariant.1.1.1,
+        ),
+      ),
     )
 
 pub returns : goal.returns
