@@ -163,8 +163,7 @@ element-returns-in-Read-nested t c =
     let i = the-loop.invariant in
     let u = subst (TurnOnward _ _ _) c.in-Read-nested.is c.nested.ensures.turn_onward in
     record {
-      members_fill = record { filled = λ es base e h. members-end _ _ _ _ _ _ (i.held es base e h) c.nested.ensures.members_turn c.in-Read-nested.is }
-          record { filled = λ es base e h. members-end _ _ _ _ _ _ (i.held es base e h) c.nested.ensures.members_turn c.in-Read-nested.is };
+      members_fill = record { filled = λ es base e h. members-end _ _ _ _ _ _ (i.held es base e h) c.nested.ensures.members_turn c.in-Read-nested.is };
       walked_onward = (omega (arith, i.onward, u.0), (u.1.0, omega (arith, i.later, u.1.1)));
     }
 
@@ -178,8 +177,7 @@ element-returns-in-Refused-nested t c =
     let the-loop = c.loop-o in
     let i = the-loop.invariant in
     record {
-      members_fill = record { filled = λ es base e h. members-stop _ _ _ _ _ _ (i.held es base e h) c.nested.ensures.members_turn c.in-Refused-nested.is }
-          record { filled = λ es base e h. members-stop _ _ _ _ _ _ (i.held es base e h) c.nested.ensures.members_turn c.in-Refused-nested.is };
+      members_fill = record { filled = λ es base e h. members-stop _ _ _ _ _ _ (i.held es base e h) c.nested.ensures.members_turn c.in-Refused-nested.is };
       walked_onward = tt;
     }
 
