@@ -7,6 +7,7 @@ use native.Mathlib.Omega.{arith}
 use native.Mathlib.Nat.{div-lt_self}
 use borrow.Author.Tests.{le-leb, lt-leb, lt-ltb, le-ltb, eq-eqb, ne_eqb}
 use lib.ListN.{length, take, drop, get_or}
+use Rattle.std.proofs.lemmas.List.{drop_all}
 use lib.Seq.{drop-cons, take-suc, set_at, set_split, length-take-le}
 use mathlib.Core.List.{append_assoc, append-nil}
 use lib.ListN.{set, take-append-drop}
@@ -38,31 +39,15 @@ module _ (s : List ℕ) (at n : ℕ) where
   unfolding unsigned_at
   unsigned_is h k = simp (le-leb _ _ h, le-leb _ _ k)
 
--- one element more of a part that is read from the front
-pub part_step : (s : List ℕ) (at i n : ℕ) → i < n → at + i < length s
-    → take (n - i) (drop (at + i) s) ≡ get_or s (at + i) 0 ∷ take (n - (i + 1)) (drop (at + (i + 1)) s)
-part_step s at i n h k =
-    let e : n - i ≡ suc (n - (i + 1)) = omega arith in
-    let d : at + (i + 1) ≡ suc (at + i) = omega arith in
-    rw (e, d, drop-cons s (at + i) 0 k)
+-- one digit more of those that are read from the front
+module _ (base acc : ℕ) (s : List ℕ) where
+  pub horner-step : (i : ℕ) → i < length s → horner base acc (drop i s) ≡ horner base (acc * base + get_or s i 0) (drop (i + 1) s)
+  unfolding horner
+  horner-step i h = let e : i + 1 ≡ suc i = omega arith in rw (e, drop-cons s i 0 h)
 
-pub part-done : (s : List ℕ) (at i n : ℕ) → n ≤ i → take (n - i) (drop (at + i) s) ≡ []
-part-done s at i n h = let e : n - i ≡ 0 = omega arith in rw e
-
-pub horner-step : (base acc : ℕ) (s : List ℕ) (at i n : ℕ) → i < n → at + i < length s
-    → horner base acc (take (n - i) (drop (at + i) s)) ≡ horner base (acc * base + get_or s (at + i) 0) (take (n - (i + 1)) (drop (at + (i + 1)) s))
-unfolding horner
-horner-step base acc s at i n h k = rw (part_step s at i n h k)
-
-pub horner-done : (base acc : ℕ) (s : List ℕ) (at i n : ℕ) → n ≤ i → horner base acc (take (n - i) (drop (at + i) s)) ≡ acc
-unfolding horner
-horner-done base acc s at i n h = rw (part-done s at i n h)
-
-pub horner-start : (base : ℕ) (s : List ℕ) (at n : ℕ) → horner base 0 (take (n - 0) (drop (at + 0) s)) ≡ horner base 0 (take n (drop at s))
-horner-start base s at n =
-    let e : n - 0 ≡ n = omega arith in
-    let d : at + 0 ≡ at = omega arith in
-    rw (e, d)
+  pub horner-done : (i : ℕ) → length s ≤ i → horner base acc (drop i s) ≡ acc
+  unfolding horner
+  horner-done i h = rw (drop_all i s h)
 
 -- octets of a message, as a list
 pub length_part : (s : List ℕ) (at n : ℕ) → at + n ≤ length s → length (take n (drop at s)) ≡ n

@@ -45,10 +45,8 @@ fn natural_of(s: &[u8], at: usize, n: usize) -> u64
     ensures upper_bound { result < 256 ^ n }
 {
     let mut acc: u64 = 0;
-    let mut i: usize = 0;
-    while i < n {
-        acc = acc * 256 + wide(s[at + i]);
-        i = i + 1;
+    for b in &s[at..at + n] {
+        acc = acc * 256 + u64::from(*b);
     }
     acc
 }
@@ -75,10 +73,8 @@ fn ones(n: usize) -> u64
     ensures { result + 1 ≡ 256 ^ n }
 {
     let mut acc: u64 = 0;
-    let mut i: usize = 0;
-    while i < n {
+    for _ in 0..n {
         acc = acc * 256 + 255;
-        i = i + 1;
     }
     acc
 }
@@ -149,9 +145,7 @@ pub fn write_octets(v: u64, n: usize, out: &mut [u8], at: usize) -> Wrote
         return Wrote::Out;
     }
     let mut r = v;
-    let mut i = n;
-    while 0 < i {
-        i = i - 1;
+    for i in (0..n).rev() {
         out[at + i] = low(r);
         r = r / 256;
     }

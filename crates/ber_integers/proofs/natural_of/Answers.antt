@@ -1,49 +1,40 @@
-use Prim.Native.Nat.{◌<◌, ◌+◌, ◌-◌}
-use mathlib.Core.Path.{◌≡◌, sym, ◌∙◌}
+use Prim.Native.Nat.{ℕ, ◌<◌, ◌+◌, ◌-◌}
+use mathlib.Core.Path.{◌≡◌, refl, sym, ap, ◌∙◌}
 use native.Mathlib.Omega.{arith}
-use lib.ListN.{length}
-use Rattle.ber_integers.proofs.Laws.{horner-start, horner-step, horner-done}
+use lib.ListN.{take, drop, length-take, length-drop}
+use Rattle.ber_integers.specs.Digits.{natural}
+use Rattle.ber_integers.proofs.Laws.{horner-step, horner-done}
 use Rattle.ber_integers.proofs.Radix.{digit-more, seven}
+use Rattle.ber_integers.proofs.natural_of.Goals.{In-loop-b, After-loop-b}
 use Rattle.ber_integers.proofs.natural_of.Goals as goal
 
-pub loop-i-init : goal.loop-i-init
-loop-i-init c = let a = c.args in (omega arith, (omega arith, horner-start 256 a.s.now a.at a.n))
+pub loop-b-init : goal.loop-b-init
+loop-b-init c = record { below = omega arith; rest = refl }
 
 pub overflow_mul-acc : goal.overflow_mul-acc
-overflow_mul-acc c = let k = seven c.loop-i-test.true c.requires.0 c.loop-i.invariant.1.0 in omega arith
-
-pub overflow_add-at : goal.overflow_add-at
-overflow_add-at c = omega arith
-
-pub bounds-s-at : goal.bounds-s-at
-bounds-s-at c = omega arith
+overflow_mul-acc c =
+    let i : c.loop-b.b-index < c.args.n = omega (arith, length-take {A = ℕ}, length-drop {A = ℕ}) in
+    let k = seven i c.requires.0 c.loop-b.invariant.below in omega arith
 
 pub overflow_add-acc : goal.overflow_add-acc
 overflow_add-acc c =
-    let k = seven c.loop-i-test.true c.requires.0 c.loop-i.invariant.1.0 in
-    omega (arith, c.wide.ensures.upper_bound)
+    let i : c.loop-b.b-index < c.args.n = omega (arith, length-take {A = ℕ}, length-drop {A = ℕ}) in
+    let k = seven i c.requires.0 c.loop-b.invariant.below in
+    let b : c.from.result < 256 = omega arith in
+    omega arith
 
-pub overflow_add-i : goal.overflow_add-i
-overflow_add-i c = omega arith
+pub loop-b-preserved : goal.loop-b-preserved
+loop-b-preserved c =
+    let e = horner-step 256 c.loop-b.acc _ c.loop-b.b-index c.loop-b-test.true in
+    record { below = digit-more 256 c.loop-b.b-index c.loop-b.invariant.below (omega arith); rest = rw c.from.ensures (sym e ∙ c.loop-b.invariant.rest) }
 
-pub loop-i-smaller : goal.loop-i-smaller
-loop-i-smaller c = omega arith
+pub returns-clause-value : goal.returns-clause-value
+returns-clause-value c =
+    let e = horner-done 256 c.loop-b.acc _ c.loop-b.b-index c.loop-b-test.false in
+    let n : c.args.at + c.args.n - c.args.at ≡ c.args.n = omega arith in
+    sym e ∙ c.loop-b.invariant.rest ∙ ap (λ (m : ℕ). natural (take m (drop c.args.at c.args.s.now))) n
 
-pub loop-i-preserved : goal.loop-i-preserved
-loop-i-preserved c =
-    let l = c.loop-i in
-    let a = c.args in
-    let t : l.i < a.n = c.loop-i-test.true in
-    let h : a.at + l.i < length a.s.now = omega arith in (
-      omega arith,
-      (
-        digit-more 256 l.i l.invariant.1.0 c.wide.ensures.upper_bound,
-        rw c.wide.ensures.value (sym (horner-step 256 l.acc a.s.now a.at l.i a.n t h) ∙ l.invariant.1.1),
-      ),
-    )
-
-pub returns : goal.returns
-returns c =
-    let l = c.loop-i in
-    let a = c.args in
-    let e : l.i ≡ a.n = omega arith in record { value = sym (horner-done 256 l.acc a.s.now a.at l.i a.n c.loop-i-test.false) ∙ l.invariant.1.1; upper_bound = rw (sym e) l.invariant.1.0 }
+pub returns-clause-upper_bound : goal.returns-clause-upper_bound
+returns-clause-upper_bound c =
+    let i : c.args.n ≡ c.loop-b.b-index = omega (arith, length-take {A = ℕ}, length-drop {A = ℕ}) in
+    rw i c.loop-b.invariant.below
