@@ -5,7 +5,6 @@ ghost use Rattle.std.specs.Prelude.{◌≡◌, ◌+◌, ◌≤◌, ◌<◌, leng
 ghost use Rattle.ber_integers.specs.Readings.{Promised};
 ghost use Rattle.ber_tags.specs.Tag.{stop, cut, long_number, tag_number, sized, length_at, head_of, head_at, head_says, head_or, NumberWithin};
 
-use base_casts::{index, wide};
 use ber_integers::Natural;
 
 // The length of what follows a tag.
@@ -68,22 +67,18 @@ fn long_number(s: &[u8], at: usize, bound: usize) -> Numbered
     let end = stop_of(s, bound);
     let place = cut_of(s, at, bound);
     let mut acc: u64 = 0;
-    let mut p = at + 1;
-    let mut k: usize = 4;
-    while 0 < k {
+    for p in at + 1..at + 5 {
         if end <= p {
             return Numbered::Refused { place };
         }
         let b = s[p];
         if b < 128 {
             return Numbered::Number {
-                number: acc * 128 + wide(b),
+                number: acc * 128 + u64::from(b),
                 next: p + 1,
             };
         }
-        acc = acc * 128 + wide(b % 128);
-        p = p + 1;
-        k = k - 1;
+        acc = acc * 128 + u64::from(b % 128);
     }
     Numbered::Refused { place: at }
 }
@@ -101,7 +96,7 @@ fn tag_number(s: &[u8], at: usize, bound: usize) -> Numbered
     let low = s[at] % 32;
     if low < 31 {
         return Numbered::Number {
-            number: wide(low),
+            number: u64::from(low),
             next: at + 1,
         };
     }
@@ -142,7 +137,7 @@ fn length_at(s: &[u8], at: usize, bound: usize, constructed: bool, p: usize) -> 
     }
     let b = s[p];
     if b < 128 {
-        return fitted(index(wide(b)), at, bound, p + 1);
+        return fitted(usize::from(b), at, bound, p + 1);
     }
     if b == 128 {
         if constructed {
@@ -156,13 +151,13 @@ fn length_at(s: &[u8], at: usize, bound: usize, constructed: bool, p: usize) -> 
     if 132 < b {
         return Sized::Refused { place: at };
     }
-    let n = index(wide(b - 128));
+    let n = usize::from(b - 128);
     let from = p + 1;
     if end - from < n {
         return Sized::Refused { place };
     }
     match ber_integers::read_unsigned(s, from, n) {
-        Natural::Nat(v) => fitted(index(v), at, bound, from + n),
+        Natural::Nat(v) => fitted(v as usize, at, bound, from + n),
         Natural::Refused => Sized::Refused { place: at },
     }
 }

@@ -1,4 +1,4 @@
-use Prim.Native.Nat.{ℕ, ◌<◌, ◌+◌, ◌-◌, ◌≤◌}
+use Prim.Native.Nat.{ℕ, ◌+◌, ◌-◌}
 use mathlib.Core.Path.{◌≡◌, sym, ap, ◌∙◌}
 use native.Mathlib.Omega.{arith}
 use lib.ListN.{take, drop, get_or}
@@ -8,9 +8,9 @@ use Rattle.ber_integers.specs.Digits.{natural}
 use Rattle.ber_integers.specs.Integer.{unsigned_at}
 use Rattle.ber_integers.proofs.Laws.{unsigned_is}
 use Rattle.ber_tags.specs.declared.Sized.TheVariants.{Refused}
-use Rattle.ber_tags.specs.Tag.{stop, sized}
+use Rattle.ber_tags.specs.Tag.{sized}
 use Rattle.ber_tags.proofs.Laws.{length_cut, length-short, length-80, length-80-primitive, length_over, length-cut-long, length-long}
-use Rattle.ber_tags.proofs.length_at.Goals.{After-index-n, After-shared_slice_known-2-1, Else-end-from}
+use Rattle.ber_tags.proofs.length_at.Goals.{Else-end-from}
 use Rattle.ber_tags.proofs.length_at.Goals as goal
 
 same : {x y : ℕ} → Nat x ≡ Nat y → x ≡ y
@@ -19,24 +19,15 @@ same e = cc
 apart : {x : ℕ} → NoNat ≡ Nat x → ⊥
 apart e = let z : ◌≡◌ {A = ℕ} 0 1 = cc in omega arith
 
--- the first length octet is there
-inside : (c : After-shared_slice_known-2-1) → c.args.p < stop
-    c.args.s.now c.args.bound
-inside c = rw c.stop_of-end.ensures.value at c.if-end-p.false
-
--- a long length: its first octet is in range
-counted : (c : After-index-n) → c.index-n.result ≡ (get_or c.args.s.now c.args.p 0) - 128
-counted c = c.index-n.ensures ∙ c.wide-2.ensures.value
-
+-- what is read of a long length
 read : (c : Else-end-from) {r : Natural} → r ≡ unsigned_at
     c.args.s.now
-    (c.args.p + 1) c.index-n.result
+    (c.args.p + 1) c.from-n.result
     → r ≡ Nat (natural (take ((get_or c.args.s.now c.args.p 0) - 128)
     (drop (c.args.p + 1)
     c.args.s.now)))
 read c e =
-    let n : c.index-n.result ≡ get_or c.args.s.now c.args.p 0 - 128 = (c.index-n.ensures ∙ c.wide-2.ensures.value) in
-    e ∙ rw n (sym (unsigned_is c.args.s.now
+    e ∙ rw c.from-n.ensures (sym (unsigned_is c.args.s.now
     (c.args.p + 1) ((get_or c.args.s.now c.args.p 0) - 128) (omega arith) (omega arith)))
 
 pub returns-then-end-p : goal.returns-then-end-p
@@ -44,35 +35,35 @@ returns-then-end-p c = ap Refused c.cut_of-place.ensures ∙ length_cut _ _ _ _ 
 
 pub returns-then-b-lt128 : goal.returns-then-b-lt128
 returns-then-b-lt128 c =
-    rw (c.index.ensures, c.wide.ensures.value) at c.fitted.ensures
-    ∙ length-short _ _ _ _ _ (inside (goal.at.returns-then-b-lt128 c).After-shared_slice_known-2-1) c.if-b-lt128.true
+    rw c.from.ensures at c.fitted.ensures
+    ∙ length-short _ _ _ _ _ (omega arith) c.if-b-lt128.true
 
 pub returns-then-constructed : goal.returns-then-constructed
-returns-then-constructed c = length-80 _ _ _ _ _ (inside (goal.at.returns-then-constructed c).After-shared_slice_known-2-1) c.if-b.true c.if-constructed.true
+returns-then-constructed c = length-80 _ _ _ _ _ (omega arith) c.if-b.true c.if-constructed.true
 
 pub returns-then-b : goal.returns-then-b
-returns-then-b c = length-80-primitive _ _ _ _ _ (inside (goal.at.returns-then-b c).After-shared_slice_known-2-1) c.if-b.true c.if-constructed.false
+returns-then-b c = length-80-primitive _ _ _ _ _ (omega arith) c.if-b.true c.if-constructed.false
 
 pub returns-then-b-gt132 : goal.returns-then-b-gt132
-returns-then-b-gt132 c = length_over _ _ _ _ _ (inside (goal.at.returns-then-b-gt132 c).After-shared_slice_known-2-1) (omega arith)
+returns-then-b-gt132 c = length_over _ _ _ _ _ (omega arith) (omega arith)
 
 pub returns-then-end-from : goal.returns-then-end-from
 returns-then-end-from c =
-    let n = counted (goal.at.returns-then-end-from c).After-index-n in
+    let n = c.from-n.ensures in
     let e = c.stop_of-end.ensures.value in
     ap Refused c.cut_of-place.ensures
-    ∙ length-cut-long _ _ _ _ _ (inside (goal.at.returns-then-end-from c).After-shared_slice_known-2-1) (omega (arith, c.if-b.false)) (omega arith) (omega arith)
+    ∙ length-cut-long _ _ _ _ _ (omega arith) (omega (arith, c.if-b.false)) (omega arith) (omega arith)
 
 pub returns-in-Nat : goal.returns-in-Nat
 returns-in-Nat c =
-    let n = counted (goal.at.returns-in-Nat c).After-index-n in
+    let n = c.from-n.ensures in
     let e = c.stop_of-end.ensures.value in
     let u = read (goal.at.returns-in-Nat c).Else-end-from c.read_unsigned.ensures.is in
     let v : c.in-Nat.v
     ≡ natural (take ((get_or c.args.s.now c.args.p 0) - 128) (drop (c.args.p + 1) c.args.s.now)) = same (sym c.in-Nat.is ∙ u) in
-    rw (c.index-in-Nat.ensures, n) at c.fitted-in-Nat.ensures
+    rw n at c.fitted-in-Nat.ensures
     ∙ ap (λ (x : ℕ). sized c.args.at c.args.bound x (c.args.p + 1 + ((get_or c.args.s.now c.args.p 0) - 128))) v
-    ∙ length-long _ _ _ _ _ (inside (goal.at.returns-in-Nat c).After-shared_slice_known-2-1) (omega (arith, c.if-b.false)) (omega arith) (omega arith)
+    ∙ length-long _ _ _ _ _ (omega arith) (omega (arith, c.if-b.false)) (omega arith) (omega arith)
 
 pub returns-in-Refused : goal.returns-in-Refused
 returns-in-Refused c = absurd (apart (sym c.in-Refused.is ∙ read (goal.at.returns-in-Refused c).Else-end-from c.read_unsigned.ensures.is))

@@ -1,28 +1,20 @@
-use Prim.Native.Nat.{◌<◌}
 use mathlib.Core.Path.{ap, ◌∙◌}
 use native.Mathlib.Omega.{arith}
 use Rattle.ber_tags.specs.declared.Numbered.TheVariants.{Refused}
-use Rattle.ber_tags.specs.Tag.{stop}
 use Rattle.ber_tags.proofs.Laws.{number_cut, number_short, number-cut-long, number-80, number-long}
-use Rattle.ber_tags.proofs.tag_number.Goals.{After-shared_slice_known-2-1}
 use Rattle.ber_tags.proofs.tag_number.Goals as goal
-
--- the first octet is there
-inside : (c : After-shared_slice_known-2-1) → c.args.at < stop
-    c.args.s.now c.args.bound
-inside c = rw c.stop_of-end.ensures.value at c.if-end-at.false
 
 pub returns-then-end-at : goal.returns-then-end-at
 returns-then-end-at c = record { value = ap Refused c.cut_of-place.ensures ∙ number_cut _ _ _ (rw c.stop_of-end.ensures.value at c.if-end-at.true); number_within = tt }
 
 pub returns-then-low-lt31 : goal.returns-then-low-lt31
-returns-then-low-lt31 c = record { value = rw c.wide.ensures.value (number_short _ _ _ (inside (goal.at.returns-then-low-lt31 c).After-shared_slice_known-2-1) c.if-low-lt31.true); number_within = (omega arith, omega arith) }
+returns-then-low-lt31 c = record { value = rw c.from.ensures (number_short _ _ _ (omega arith) c.if-low-lt31.true); number_within = (omega arith, omega arith) }
 
 pub returns-then-end-p : goal.returns-then-end-p
 returns-then-end-p c =
     record {
       value = ap Refused c.cut_of-place.ensures
-          ∙ number-cut-long _ _ _ (inside (goal.at.returns-then-end-p c).After-shared_slice_known-2-1) c.if-low-lt31.false
+          ∙ number-cut-long _ _ _ (omega arith) c.if-low-lt31.false
           (rw c.stop_of-end.ensures.value at c.if-end-p.true);
       number_within = tt;
     }
@@ -30,7 +22,7 @@ returns-then-end-p c =
 pub returns-then-s-p : goal.returns-then-s-p
 returns-then-s-p c =
     record {
-      value = number-80 _ _ _ (inside (goal.at.returns-then-s-p c).After-shared_slice_known-2-1) c.if-low-lt31.false
+      value = number-80 _ _ _ (omega arith) c.if-low-lt31.false
           (rw c.stop_of-end.ensures.value at c.if-end-p.false) (omega arith);
       number_within = tt;
     }
@@ -38,7 +30,7 @@ returns-then-s-p c =
 pub returns : goal.returns
 returns c =
     record {
-      value = c.long_number.ensures.value ∙ number-long _ _ _ (inside (goal.at.returns c).After-shared_slice_known-2-1) c.if-low-lt31.false
+      value = c.long_number.ensures.value ∙ number-long _ _ _ (omega arith) c.if-low-lt31.false
           (rw c.stop_of-end.ensures.value at c.if-end-p.false)
           (λ h. omega (arith, h, c.if-s-p.false));
       number_within = c.long_number.ensures.number_within;
