@@ -1,34 +1,32 @@
 -- What a word or a cell stands for: one law for each answer of the code.
-use Prim.Native.Nat.{ℕ, ◌+◌, ◌-◌, ◌≤◌, ◌<◌, ◌^◌, ◌%◌}
+use Prim.Native.Nat.{ℕ, suc, ◌+◌, ◌-◌, ◌≤◌, ◌<◌, ◌^◌, ◌%◌}
 use mathlib.Core.Path.{◌≡◌, refl, sym, ap, subst, ◌∙◌}
 use mathlib.Core.Bool.{Bool, true, false, not}
 use mathlib.Core.List.{List, []}
 use native.Mathlib.Omega.{arith}
 use borrow.Author.Tests.{lt-ltb, le-ltb, le-leb, lt-leb, eq-eqb, ne_eqb}
 use lib.Dec.{T}
-use lib.IntN.{pos, negsuc, ◌-ℤ◌}
+use lib.IntN.{pos, negsuc}
 use lib.ListN.{length, take, drop}
 use lib.Ieee as Ieee
 use lib.Ieee.{binary64}
 use lib.Ieee.Bits.{nan_bits_above}
 use mir.Syntax.{w64}
-use mir.Val.{to_z, of_z}
-use mir.Facts.{to_z_pos}
+use mir.Val.{to_z, sel}
 use Rattle.base_choices.specs.Choices.{pick}
-use Rattle.ber_integers.proofs.Signs.{minus_is}
 use Rattle.ber_values.specs.declared.Value.TheVariants.{Absent, Int, Real, Text, Bool as Truth, Octets}
 use Rattle.glow_rows.specs.declared.Cell.{Cell}
 use Rattle.glow_rows.specs.declared.Span.{Span}
 use Rattle.glow_rows.specs.Cell.{word_of, int_of, value_of, number_in, octets_in}
 
 module _ (a : ℕ) where
-  pub int-low : a < 0x8000000000000000 → to_z w64 a ≡ int_of a
+  pub int-is : to_z w64 a ≡ int_of a
   unfolding int_of
-  int-low h = rw (to_z_pos w64 h, lt-ltb _ _ h)
-
-  pub int-high : 0x8000000000000000 ≤ a → to_z w64 (of_z w64 (negsuc 0 -ℤ to_z w64 (18446744073709551615 - a))) ≡ int_of a
-  unfolding int_of
-  int-high h = let k : 18446744073709551615 - a < 2 ^ 63 = omega arith in rw (minus_is _ k, le-ltb _ _ h)
+  int-is = go (lib.Dec.ltb a 0x8000000000000000) refl
+    where
+      go : (b : Bool) → lib.Dec.ltb a 0x8000000000000000 ≡ b → sel b (pos a) (negsuc (18446744073709551616 - suc a)) ≡ pick b (pos a) (negsuc (18446744073709551615 - a))
+      go true e = refl
+      go false e = let d : 18446744073709551616 - suc a ≡ 18446744073709551615 - a = omega arith in ap negsuc d
 
   pub no_nan : a % 0x8000000000000000 ≤ 0x7ff0000000000000 → T (not (Ieee.nan_bits binary64 a))
   no_nan h = subst (λ (x : Bool). T (not x)) (sym (nan_bits_above binary64 a ∙ le-ltb _ _ h)) tt
@@ -98,14 +96,11 @@ module _ (v : Cell) where
     octets-is h k = rw (h, le-leb _ _ k)
 
 -- a part of the message that holds them
-pub span-is : (s : List ℕ) (v : Cell) (start len : ℕ) → v.kind ≡ 13 → v.first + v.second ≤ length s → start ≡ v.first → len ≡ v.second
-    → take (start + len - start) (drop start s) ≡ octets_in s v
-span-is s v start len h k a b =
-    let d : start + len - start ≡ v.second = omega (arith, b) in
+pub span-is : (s : List ℕ) (v : Cell) (start end : ℕ) → v.kind ≡ 13 → v.first + v.second ≤ length s → start ≡ v.first → end ≡ v.first + v.second
+    → take (end - start) (drop start s) ≡ octets_in s v
+span-is s v start end h k a b =
+    let d : end - start ≡ v.second = omega arith in
     ap (λ (i : ℕ). take i (drop start s)) d ∙ ap (λ (i : ℕ). take v.second (drop i s)) a ∙ sym (octets-is v s h k)
 
-pub span-absent : (s bs : List ℕ) (r : Span) → r ≡ record { start = 0; end = 0 } → bs ≡ []
-    → (take (r.end - r.start) (drop r.start s) ≡ bs) × ((r.start ≤ r.end) × (r.end ≤ length s))
-span-absent s bs r e h =
-    subst (λ (p : Span). (take (p.end - p.start) (drop p.start s) ≡ bs) × ((p.start ≤ p.end) × (p.end ≤ length s))) (sym e)
-    (sym h, (omega arith, omega arith))
+pub span-absent : (s bs : List ℕ) (r : Span) → (r.start ≡ 0) × (r.end ≡ 0) → bs ≡ [] → take (r.end - r.start) (drop r.start s) ≡ bs
+span-absent s bs r e h = rw (e.0, e.1) (sym h)

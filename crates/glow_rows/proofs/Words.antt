@@ -1,18 +1,18 @@
 -- The cells and words of rows, as the code finds and puts them.
 use Prim.Native.Nat.{ℕ, zero, suc, ◌+◌, ◌*◌, ◌≤◌, ◌<◌}
 use mathlib.Core.Path.{◌≡◌, refl, sym, ap, ◌∙◌}
-use mathlib.Core.Bool.{Bool, true, false}
+use mathlib.Core.Bool.{Bool, true, false, ◌&&◌}
 use mathlib.Core.List.{List, [], ◌∷◌}
 use native.Mathlib.Omega.{arith}
-use borrow.Author.Tests.{lt-ltb, le-ltb, eq-eqb, ne_eqb}
-use lib.Dec.{ltb}
-use lib.ListN.{length, get_or, set, drop, drop_of_length-le, get_or-eq_default}
-use lib.Seq.{drop-cons}
+use borrow.Author.Tests.{lt-ltb, le-ltb, ltb-true, ltb-false}
+use lib.Dec.{ltb, eqb}
+use lib.Pointwise.{pointwise}
+use lib.ListN.{length, get_or, set, get_or-eq_default}
 use Rattle.base_choices.specs.Choices.{pick}
 use Rattle.glow_rows.specs.declared.Cell.{Cell}
 use Rattle.glow_rows.specs.Cell.{cell, absent}
 use Rattle.glow_rows.specs.Entry.{Rows}
-use Rattle.glow_rows.specs.Row.{put_in, cell_at, cell_in, cells_from, row_cell, row_word, same}
+use Rattle.glow_rows.specs.Row.{put_in, cell_at, cell_in, cells_from, row_cell, same}
 
 -- the cells and words of rows, one by one
 cells_at : (n k c : ℕ) (r : List ℕ) → c < n → get_or (cells_from n k r) c absent ≡ cell_at r (k + c)
@@ -47,27 +47,6 @@ module _ (rows : Rows) (i c : ℕ) where
   unfolding row_cell
   cell_in_lem h = let z : 0 + c ≡ c = omega arith in cells_at 16 0 c (get_or rows i []) h ∙ ap (cell_at (get_or rows i [])) z
 
-  pub cell-words : c < 16
-      → cell (get_or (get_or rows i []) (2 + c * 3) 0) (get_or (get_or rows i []) (2 + c * 3 + 1) 0) (get_or (get_or rows i []) (2 + c * 3 + 2) 0) ≡ row_cell rows i c
-  cell-words h =
-      let a : 2 + c * 3 + 1 ≡ 3 + c * 3 = omega arith in
-      let b : 2 + c * 3 + 2 ≡ 4 + c * 3 = omega arith in
-      rw (a, b) (sym (cell_in_lem h))
-
-module _ (rows : Rows) (i j : ℕ) where
-  pub word-rowless : length rows ≤ i → 0 ≡ row_word rows i j
-  word-rowless h = sym (ap (λ (r : List ℕ). pick (ltb j 50) (get_or r j 0) 0) (get_or-eq_default rows [] h) ∙ go (ltb j 50))
-    where
-      go : (b : Bool) → ◌≡◌ {A = ℕ} (pick b 0 0) 0
-      go true = refl
-      go false = refl
-
-  pub word-past : 50 ≤ j → 0 ≡ row_word rows i j
-  word-past h = simp (le-ltb _ _ h)
-
-  pub word_in : j < 50 → get_or (get_or rows i []) j 0 ≡ row_word rows i j
-  word_in h = simp (lt-ltb _ _ h)
-
 module _ (r : List ℕ) where
   pub row-cell : (c : ℕ) → c < 16 → cell (get_or r (2 + c * 3) 0) (get_or r (2 + c * 3 + 1) 0) (get_or r (2 + c * 3 + 2) 0) ≡ cell_in r c
   unfolding cell_in
@@ -93,27 +72,24 @@ pub put-row-past : (r : List ℕ) (c : ℕ) (v : Cell) → 16 ≤ c → r ≡ pu
 unfolding put_in
 put-row-past r c v h = rw (le-ltb _ _ h)
 
+-- a row of the table, or none
+module _ (rows : Rows) (i c : ℕ) where
+  pub cell-in-row : cell_in (get_or rows i []) c ≡ row_cell rows i c
+  unfolding cell_in
+  cell-in-row = go (ltb c 16) refl
+    where
+      go : (b : Bool) → ltb c 16 ≡ b → pick b (cell_at (get_or rows i []) c) absent ≡ row_cell rows i c
+      go true e = sym (cell_in_lem rows i c (ltb-true c 16 e))
+      go false e = cell-past rows i c (ltb-false c 16 e)
+
 -- two rows, word by word
-module _ (a b : List ℕ) (i : ℕ) where
-  pub same_step : i < length a → i < length b → get_or a i 0 ≡ get_or b i 0 → same (drop i a) (drop i b) ≡ same (drop (i + 1) a) (drop (i + 1) b)
-  unfolding same
-  same_step h k e = let n : i + 1 ≡ suc i = omega arith in rw (n, drop-cons a i 0 h, drop-cons b i 0 k, eq-eqb _ _ e)
-
-  pub same_not : i < length a → i < length b → (get_or a i 0 ≡ get_or b i 0 → ⊥) → same (drop i a) (drop i b) ≡ false
-  unfolding same
-  same_not h k e = rw (drop-cons a i 0 h, drop-cons b i 0 k, ne_eqb _ _ e)
-
-  pub same_end : length a ≤ i → length b ≤ i → same (drop i a) (drop i b) ≡ true
-  unfolding same
-  same_end h k = rw (drop_of_length-le a h, drop_of_length-le b k)
-
-pub same-lengths : (a b : List ℕ) → (length a ≡ length b → ⊥) → same a b ≡ false
+pub same-is : (a b : List ℕ) → pointwise eqb a b ≡ same a b
 unfolding same
-same-lengths [] [] h = absurd (h refl)
-same-lengths [] (y ∷ ys) h = refl
-same-lengths (x ∷ xs) [] h = refl
-same-lengths (x ∷ xs) (y ∷ ys) h = go (lib.Dec.eqb x y) (same-lengths xs ys (λ e. h (ap suc e)))
+same-is [] [] = refl
+same-is [] (y ∷ ys) = refl
+same-is (x ∷ xs) [] = refl
+same-is (x ∷ xs) (y ∷ ys) = go (eqb x y) (same-is xs ys)
   where
-    go : (b : Bool) {s : Bool} → s ≡ false → pick b s false ≡ false
+    go : (b : Bool) {s t : Bool} → s ≡ t → b && s ≡ pick b t false
     go true e = e
     go false e = refl

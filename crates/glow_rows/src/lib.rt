@@ -40,12 +40,7 @@ pub fn put_cell(table: &mut [[u64; 50]], i: usize, c: usize, v: Cell)
     ensures { table.new ≡ cell_put table.old i c v }
 {
     if i < table.len() {
-        if c < 16 {
-            let j = CELLS + c * CELL_WORDS;
-            table[i][j] = v.kind;
-            table[i][j + 1] = v.first;
-            table[i][j + 2] = v.second;
-        }
+        put_in(&mut table[i], c, v);
     }
 }
 
@@ -54,10 +49,7 @@ pub fn blank(table: &mut [[u64; 50]], i: usize, kind: u64, parent: u64)
     ensures { table.new ≡ blanked table.old i kind parent }
 {
     if i < table.len() {
-        let mut row = [0; 50];
-        row[KIND] = kind;
-        row[PARENT] = parent;
-        table[i] = row;
+        table[i] = begun(kind, parent);
     }
 }
 
@@ -87,32 +79,24 @@ pub fn put_in(row: &mut [u64; 50], c: usize, v: Cell)
 pub fn cell_in(row: &[u64; 50], c: usize) -> Cell
     ensures { result ≡ cell_in row.now c }
 {
-    if c < 16 {
-        let j = CELLS + c * CELL_WORDS;
-        return Cell {
-            kind: row[j],
-            first: row[j + 1],
-            second: row[j + 2],
-        };
+    if 16 <= c {
+        return absent();
     }
-    absent()
+    let j = CELLS + c * CELL_WORDS;
+    Cell {
+        kind: row[j],
+        first: row[j + 1],
+        second: row[j + 2],
+    }
 }
 
 // The cell c of a row of the table; an absent one past the table's end, or past the sixteen cells.
 pub fn cell_at(rows: &[[u64; 50]], i: usize, c: usize) -> Cell
     ensures { result ≡ row_cell rows.now i c }
 {
-    if rows.len() <= i {
-        return absent();
-    }
-    if 16 <= c {
-        return absent();
-    }
-    let j = CELLS + c * CELL_WORDS;
-    Cell {
-        kind: rows[i][j],
-        first: rows[i][j + 1],
-        second: rows[i][j + 2],
+    match rows.get(i) {
+        Some(row) => cell_in(row, c),
+        None => absent(),
     }
 }
 
@@ -120,36 +104,14 @@ pub fn cell_at(rows: &[[u64; 50]], i: usize, c: usize) -> Cell
 pub fn word_at(rows: &[[u64; 50]], i: usize, j: usize) -> u64
     ensures { result ≡ row_word rows.now i j }
 {
-    if rows.len() <= i {
-        return 0;
-    }
-    if 50 <= j {
-        return 0;
-    }
-    rows[i][j]
+    rows.get(i).and_then(|row| row.get(j)).copied().unwrap_or(0)
 }
 
 // Whether two rows hold the same words.
 pub fn is_same(a: &[u64; 50], b: &[u64; 50]) -> bool
     ensures { result ≡ same a.now b.now }
 {
-    same_words(a, b)
-}
-
-fn same_words(a: &[u64], b: &[u64]) -> bool
-    ensures { result ≡ same a.now b.now }
-{
-    if a.len() != b.len() {
-        return false;
-    }
-    let mut i: usize = 0;
-    while i < a.len() {
-        if a[i] != b[i] {
-            return false;
-        }
-        i += 1;
-    }
-    true
+    a == b
 }
 
 // The cell of an absent member.
@@ -168,11 +130,7 @@ pub fn cell_of(v: Value) -> Cell
     ensures { result ≡ cell_of v }
 {
     match v {
-        Value::Absent => Cell {
-            kind: tags::ABSENT,
-            first: 0,
-            second: 0,
-        },
+        Value::Absent => absent(),
         Value::Int(x) => int_cell(x),
         Value::Real(x) => real_cell(x),
         Value::Text { start, len } => Cell {
@@ -192,17 +150,9 @@ pub fn cell_of(v: Value) -> Cell
 fn int_cell(x: i64) -> Cell
     ensures { result ≡ cell_of (Value.Int x) }
 {
-    if x < 0 {
-        let n = (!x) as u64;
-        return Cell {
-            kind: tags::INTEGER,
-            first: 18446744073709551615 - n,
-            second: 0,
-        };
-    }
     Cell {
         kind: tags::INTEGER,
-        first: x as u64,
+        first: x.cast_unsigned(),
         second: 0,
     }
 }
@@ -210,16 +160,12 @@ fn int_cell(x: i64) -> Cell
 fn real_cell(x: f64) -> Cell
     ensures { result ≡ cell_of (Value.Real x) }
 {
-    if x != x {
-        return Cell {
-            kind: tags::ABSENT,
-            first: 0,
-            second: 0,
-        };
+    if x.is_nan() {
+        return absent();
     }
     Cell {
         kind: tags::REAL,
-        first: f64::to_bits(x),
+        first: x.to_bits(),
         second: 0,
     }
 }
@@ -227,16 +173,9 @@ fn real_cell(x: f64) -> Cell
 fn bool_cell(x: bool) -> Cell
     ensures { result ≡ cell_of (Value.Bool x) }
 {
-    if x {
-        return Cell {
-            kind: tags::BOOLEAN,
-            first: 1,
-            second: 0,
-        };
-    }
     Cell {
         kind: tags::BOOLEAN,
-        first: 0,
+        first: u64::from(x),
         second: 0,
     }
 }
@@ -245,67 +184,46 @@ fn bool_cell(x: bool) -> Cell
 pub fn int_of(a: u64) -> i64
     ensures { result ≡ int_of a }
 {
-    if a < 0x8000000000000000 {
-        return a as i64;
-    }
-    -1 - ((18446744073709551615 - a) as i64)
+    a.cast_signed()
 }
 
 // What a cell stands for as a value: where it stands for none, that there is none.
 pub fn value_of(v: Cell) -> Value
     ensures { result ≡ value_of v }
 {
-    if v.kind == tags::INTEGER {
-        return Value::Int(int_of(v.first));
-    }
-    if v.kind == tags::REAL {
-        if 0x7ff0000000000000 < v.first % 0x8000000000000000 {
-            return Value::Absent;
-        }
-        return Value::Real(f64::from_bits(v.first));
-    }
-    if v.kind == tags::TEXT {
-        return Value::Text {
+    match v.kind {
+        tags::INTEGER => Value::Int(int_of(v.first)),
+        tags::REAL if 0x7ff0000000000000 < v.first % 0x8000000000000000 => Value::Absent,
+        tags::REAL => Value::Real(f64::from_bits(v.first)),
+        tags::TEXT => Value::Text {
             start: index(v.first),
             len: index(v.second),
-        };
-    }
-    if v.kind == tags::BOOLEAN {
-        return Value::Bool(v.first == 1);
-    }
-    if v.kind == tags::OCTETS {
-        return Value::Octets {
+        },
+        tags::BOOLEAN => Value::Bool(v.first == 1),
+        tags::OCTETS => Value::Octets {
             start: index(v.first),
             len: index(v.second),
-        };
+        },
+        _ => Value::Absent,
     }
-    Value::Absent
 }
 
 // An integer's word, 0 of any other cell.
 pub fn number_of(v: Cell) -> u64
     ensures { number_in v ≡ result }
 {
-    if v.kind != tags::INTEGER {
-        return 0;
+    if v.kind == tags::INTEGER && v.second == 0 {
+        v.first
+    } else {
+        0
     }
-    if v.second != 0 {
-        return 0;
-    }
-    v.first
 }
 
 // Where octets begin and end in the message.
-#[derive(Clone, Copy)]
+#[derive(Clone, Copy, Default)]
 pub struct Span {
     pub start: usize,
     pub end: usize,
-}
-
-fn no_span() -> Span
-    ensures { result ≡ record { start = 0; end = 0 } }
-{
-    Span { start: 0, end: 0 }
 }
 
 // The octets of a relative identifier; none of any other cell, or where they do not lie in the message.
@@ -314,19 +232,11 @@ pub fn span_of(s: &[u8], v: Cell) -> Span
     ensures start_le_end { (result.start ≤ result.end) × (result.end ≤ length s.now) }
 {
     if v.kind != tags::NUMBERS {
-        return no_span();
-    }
-    let total = word(s.len());
-    if total < v.second {
-        return no_span();
-    }
-    if total - v.second < v.first {
-        return no_span();
+        return Span::default();
     }
     let start = index(v.first);
-    let len = index(v.second);
-    Span {
-        start,
-        end: start + len,
+    match start.checked_add(index(v.second)) {
+        Some(end) if end <= s.len() => Span { start, end },
+        _ => Span::default(),
     }
 }

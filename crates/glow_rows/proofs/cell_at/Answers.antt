@@ -1,20 +1,13 @@
-use mathlib.Core.Path.{◌∙◌}
-use Rattle.glow_rows.proofs.Words.{cell-rowless, cell-past, cell-words}
+use mathlib.Core.Path.{ap, ◌∙◌}
+use mathlib.Core.List.{List, []}
+use native.Mathlib.Omega.{arith}
+use Rattle.glow_rows.specs.Row.{cell_in}
+use Rattle.glow_rows.proofs.Words.{cell-in-row, cell-rowless}
 use Rattle.glow_rows.proofs.cell_at.Goals as goal
 
-pub returns-then-rows-i : goal.returns-then-rows-i
-returns-then-rows-i c =
-    let the-if1 = c.if-rows-i in
-    let the-absent = c.absent in
-    the-absent.ensures ∙ cell-rowless c.args.rows.now c.args.i c.args.c the-if1.true
+pub returns-in-Some : goal.returns-in-Some
+returns-in-Some c =
+    c.cell_in.ensures ∙ ap (λ (r : List _). cell_in r c.args.c) (c.in-Some.ensures.lookup.4 (omega arith) []) ∙ cell-in-row _ _ _
 
-pub returns-then-c-ge16 : goal.returns-then-c-ge16
-returns-then-c-ge16 c =
-    let the-if2 = c.if-c-ge16 in
-    let the-absent2 = c.absent-then-c-ge16 in
-    the-absent2.ensures ∙ cell-past c.args.rows.now c.args.i c.args.c the-if2.true
-
-pub returns : goal.returns
-returns c =
-    let the-if2 = c.if-c-ge16 in
-    cell-words c.args.rows.now c.args.i c.args.c the-if2.false
+pub returns-in-None : goal.returns-in-None
+returns-in-None c = c.absent.ensures ∙ cell-rowless _ _ _ c.in-None.ensures.lookup.3

@@ -8,7 +8,7 @@ use borrow.Author.Rules.{rules}
 use Rattle.glow_rows.proofs.cell_of.Goals as goal
 
 pub returns-in-Absent : goal.returns-in-Absent
-returns-in-Absent c = sym (ap cell_of c.in-Absent.is)
+returns-in-Absent c = c.absent.ensures ∙ sym (ap cell_of c.in-Absent.is)
 
 pub returns-in-Int : goal.returns-in-Int
 returns-in-Int c =
