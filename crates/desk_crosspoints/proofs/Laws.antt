@@ -6,9 +6,10 @@ use mathlib.Core.Bool.{Bool, true, false}
 use mathlib.Core.Logic.{⊎_elim}
 use native.Mathlib.Nat.{div-lt_iff_lt-mul}
 use native.Mathlib.Omega.{arith}
-use borrow.Author.Tests.{leb-true, ltb-true, ltb-false, le-leb, lt-leb, eq-eqb, ne_eqb}
-use lib.ListN.{length, take, drop, get_or, set, drop_of_length-le, length-drop}
-use lib.Seq.{drop-cons, length-take-le, take-suc-set, take_all}
+use borrow.Author.Tests.{leb-true, ltb-true, ltb-false, eqb-true, eqb-false, le-leb, lt-leb, eq-eqb, ne_eqb}
+use Rattle.std.proofs.Math.ListN.{replicate}
+use lib.ListN.{length, take, drop, get_or, drop_of_length-le, length-drop}
+use lib.Seq.{drop-cons, length-take-le}
 use lib.Dec.{leb, ltb, eqb}
 use Rattle.base_choices.specs.Choices.{pick, both}
 use Rattle.base_choices.proofs.Laws.{both_left, both_right}
@@ -111,10 +112,17 @@ unfolding count
 count-le [] = omega arith
 count-le (c ∷ cs) = omega (arith, bit_le c, count-le cs)
 
+pub count-none : (l : Cells) → length l ≡ 0 → count l ≡ 0
+count-none l h = omega (arith, count-le l, h)
+
 pub count-append : (a b : Cells) → count (a ++ b) ≡ count a + count b
 unfolding count
 count-append [] b = omega arith
 count-append (x ∷ xs) b = omega (arith, count-append xs b)
+
+pub both-none : (a b : Bool) → b ≡ false → both a b ≡ false
+both-none true b h = h
+both-none false b h = refl
 
 -- the rows' cells, legality
 module _ (w most : ℕ) (cells : Cells) where
@@ -126,10 +134,21 @@ module _ (w most : ℕ) (cells : Cells) where
   unfolding rows_fit
   rows_more t n k e = rw (k, e)
 
-  pub rows_end : (t : ℕ) → t ≤ 0 → rows_fit w most cells t ≡ true
+  pub rows_none : rows_fit w most cells 0 ≡ true
   unfolding rows_fit
-  rows_end zero h = refl
-  rows_end (suc n) h = absurd (omega arith)
+  rows_none = refl
+
+  -- one target over the limit, and all that come after it
+  pub rows-over : (t n : ℕ) → t < n → leb (count (row_at w cells t)) most ≡ false → rows_fit w most cells n ≡ false
+  unfolding rows_fit
+  rows-over t zero h e = absurd (omega arith)
+  rows-over t (suc n) h e = go (eqb t n) refl (λ (k : t < n). rows-over t n k e)
+    where
+      go : (u : Bool) → eqb t n ≡ u → (t < n → rows_fit w most cells n ≡ false) → rows_fit w most cells (suc n) ≡ false
+      go true z f = rows-not (suc n) n refl (ap (λ (k : ℕ). leb (count (row_at w cells k)) most) (sym (eqb-true t n z)) ∙ e)
+      go false z f =
+          both-none (leb (count (row_at w cells n)) most) (rows_fit w most cells n)
+          (f (⊎_elim (λ (q : t < n). q) (λ (q : n ≤ t). absurd (eqb-false t n z (omega (arith, q, h)))) (lt-or-le t n)))
 
   -- what the part handed on tells
   pub row-says : (n x k : ℕ) (b : Bool) → x ≡ n * w + w → count (take (x - n * w) (drop (n * w) cells)) ≡ k → leb k most ≡ b
@@ -251,24 +270,10 @@ module _ (f : Figures) where
   size_fits h = rw h
 
 -- opening
-pub clear-snoc : (n : ℕ) → clear n ++ (0 ∷ []) ≡ clear (suc n)
+pub clear-replicate : (n : ℕ) → replicate n 0 ≡ clear n
 unfolding clear
-clear-snoc zero = refl
-clear-snoc (suc n) = ap (λ (l : Cells). 0 ∷ l) (clear-snoc n)
-
-pub wipe-more : (l : Cells) (i : ℕ) → i < length l → take i l ≡ clear i → take (i + 1) (set l i 0) ≡ clear (i + 1)
-wipe-more l i h e =
-    let d : i + 1 ≡ suc i = omega arith in
-    ap (λ (k : ℕ). take k (set l i 0)) d ∙ take-suc-set l i 0 h ∙ ap (λ (x : Cells). x ++ (0 ∷ [])) e ∙ clear-snoc i ∙ ap clear (sym d)
-
-pub wipe-none : (l : Cells) → take 0 l ≡ clear 0
-unfolding clear
-wipe-none l = refl
-
-pub wipe-end : (l : Cells) (i n : ℕ) → length l ≡ n → i ≤ n → n ≤ i → take i l ≡ clear i → l ≡ clear n
-wipe-end l i n k a b e =
-    let d : i ≡ n = omega (arith, a, b) in
-    sym (take_all n l (omega (arith, k))) ∙ ap (λ (j : ℕ). take j l) (sym d) ∙ e ∙ ap clear d
+clear-replicate zero = refl
+clear-replicate (suc n) = ap (λ (l : Cells). 0 ∷ l) (clear-replicate n)
 
 module _ (d : Desk) (mode : ℕ) where
   pub open-figures : figures_fit d.figures ≡ false → desk_opened d mode ≡ answer 45 d.crosspoints

@@ -1,46 +1,28 @@
--- Loops of which a processor does many turns at once: cells counted by parts, the largest cell, and a count for each source.
-use Prim.Native.Nat.{ℕ, ◌+◌, ◌-◌, ◌*◌, ◌≤◌, ◌<◌, min}
+-- Loops of which a processor does many turns at once: the largest cell, and a count for each source.
+use Prim.Native.Nat.{ℕ, ◌+◌, ◌-◌, ◌*◌, ◌≤◌, ◌<◌, min, max}
 use mathlib.Core.Path.{◌≡◌, refl, sym, ap, ◌∙◌}
 use mathlib.Core.Bool.{Bool, true, false, true≢false}
 use mathlib.Core.Logic.{⊎_elim}
 use native.Mathlib.Omega.{arith}
-use borrow.Author.Tests.{leb-true, le-leb, eqb-true, eqb-false}
-use lib.ListN.{length, take, drop, get_or, set, length-set, take-append-drop, get_or-eq_default}
-use lib.Seq.{drop-drop, get_or-set_same, get_or-set_other}
+use borrow.Author.Tests.{leb-true, leb-false, le-leb, lt-leb, eqb-true, eqb-false}
+use lib.ListN.{length, take, drop, get_or, set, length-set, get_or-eq_default}
+use lib.Seq.{get_or-set_same, get_or-set_other}
 use lib.Dec.{leb, eqb}
 use Rattle.base_choices.specs.Choices.{pick, both}
 use Rattle.ber_integers.proofs.Radix.{lt-or-le}
-use Rattle.desk_crosspoints.specs.Crosspoints.{Cells, bit, count, all_bits, clear, holders, sources_fit}
+use Rattle.desk_crosspoints.specs.Crosspoints.{Cells, bit, all_bits, clear, holders, sources_fit}
 use Rattle.desk_crosspoints.proofs.Laws.{part-one, bit_le, bit-clear, bits-end, row_is, holders-more}
-use Rattle.desk_crosspoints.proofs.Laws.{count-append}
 use Rattle.desk_crosspoints.proofs.Counts.{clear-cell, clear-length}
 use Rattle.desk_crosspoints.proofs.Under.{row-cell, bits-tell, bits-from, sources-tell, sources-from}
 
-pub count-part : (l : Cells) (i j : ℕ) → i ≤ j → count (drop i l) ≡ count (take (j - i) (drop i l)) + count (drop j l)
-count-part l i j h =
-    let d : i + (j - i) ≡ j = omega (arith, h) in
-    ap count (sym (take-append-drop (j - i) (drop i l))) ∙ count-append (take (j - i) (drop i l)) (drop (j - i) (drop i l))
-    ∙ ap (λ (x : Cells). count (take (j - i) (drop i l)) + count x) (drop-drop (j - i) i l ∙ ap (λ (k : ℕ). drop k l) d)
-
 -- the largest of the cells before i
-module _ (a b : ℕ) where
-  pub larger-second : a < b → leb b 1 ≡ both (leb a 1) (leb b 1)
-  larger-second h = go (leb b 1) refl
-    where
-      go : (u : Bool) → leb b 1 ≡ u → u ≡ both (leb a 1) u
-      go true e = sym (ap (λ (v : Bool). both v true) (le-leb a 1 (omega (arith, h, leb-true b 1 e))))
-      go false e = none (leb a 1)
-        where
-          none : (v : Bool) → false ≡ both v false
-          none true = refl
-          none false = refl
-
-  pub larger-first : b ≤ a → leb a 1 ≡ both (leb a 1) (leb b 1)
-  larger-first h = go (leb a 1) refl
-    where
-      go : (u : Bool) → leb a 1 ≡ u → u ≡ both u (leb b 1)
-      go true e = sym (le-leb b 1 (omega (arith, h, leb-true a 1 e)))
-      go false e = refl
+pub max-bit : (a b : ℕ) → leb (max a b) 1 ≡ both (leb a 1) (leb b 1)
+max-bit a b = go (leb a 1) (leb b 1) refl refl
+  where
+    go : (u v : Bool) → leb a 1 ≡ u → leb b 1 ≡ v → leb (max a b) 1 ≡ both u v
+    go true true p q = le-leb (max a b) 1 (omega (arith, leb-true a 1 p, leb-true b 1 q))
+    go true false p q = lt-leb (max a b) 1 (omega (arith, leb-false b 1 q))
+    go false v p q = lt-leb (max a b) 1 (omega (arith, leb-false a 1 p))
 
 module _ (l : Cells) (i most : ℕ) where
   pub most-more : (next : ℕ) → i < length l → leb next 1 ≡ both (leb most 1) (leb (get_or l i 0) 1)

@@ -115,23 +115,10 @@ fn count_few(cells: &[u8]) -> u64
     ensures { count cells.now ≡ result }
 {
     let mut n: u8 = 0;
-    let mut i = 0;
-    while i < cells.len() {
-        n += bit(cells[i]);
-        i += 1;
+    for c in cells {
+        n += bit(*c);
     }
     wide(n)
-}
-
-// Where a part that begins at `from` ends: at most 192 on.
-fn part_end(from: usize, end: usize) -> usize
-    requires { from < end }
-    ensures { (from < result) × ((result ≤ end) × (result ≤ from + 192)) }
-{
-    if end - from < 192 {
-        return end;
-    }
-    from + 192
 }
 
 // How many cells are set.
@@ -139,23 +126,10 @@ pub fn count(cells: &[u8]) -> u64
     ensures { count cells.now ≡ result }
 {
     let mut n = 0;
-    let mut i: usize = 0;
-    while i < cells.len() {
-        let j = part_end(i, cells.len());
-        n += count_few(&cells[i..j]);
-        i = j;
+    for part in cells.chunks(192) {
+        n += count_few(part);
     }
     n
-}
-
-// The larger of two cells: 1 at most where both are.
-fn larger(a: u8, b: u8) -> u8
-    ensures { leb result 1 ≡ both (leb a 1) (leb b 1) }
-{
-    if a < b {
-        return b;
-    }
-    a
 }
 
 // Whether every cell is 0 or 1: whether the largest is. No cell ends the loop, so that a processor compares many at a time.
@@ -163,10 +137,8 @@ fn all_bits(cells: &[u8]) -> bool
     ensures { all_bits cells.now ≡ result }
 {
     let mut most: u8 = 0;
-    let mut i = 0;
-    while i < cells.len() {
-        most = larger(most, cells[i]);
-        i += 1;
+    for c in cells {
+        most = most.max(*c);
     }
     most <= 1
 }
@@ -218,9 +190,7 @@ fn rows_fit(n: usize, w: usize, most: u64, cells: &[u8]) -> bool
     requires { length cells.now ≡ n * w }
     ensures { rows_fit w most cells.now n ≡ result }
 {
-    let mut t = n;
-    while 0 < t {
-        t -= 1;
+    for t in 0..n {
         let from = t * w;
         let to = from + w;
         if most < count(&cells[from..to]) {
@@ -245,10 +215,8 @@ fn add_row(sums: &mut [u8], row: &[u8])
     requires { length sums.old ≡ length row.now }
     ensures { (s : ℕ) → get_or sums.new s 0 ≡ min (get_or sums.old s 0 + bit (get_or row.now s 0)) 2 }
 {
-    let mut i = 0;
-    while i < row.len() {
-        sums[i] = up_to_two(sums[i], row[i]);
-        i += 1;
+    for (s, c) in row.iter().enumerate() {
+        sums[s] = up_to_two(sums[s], *c);
     }
 }
 
@@ -258,12 +226,10 @@ fn columns_fit(n: usize, w: usize, cells: &[u8], sums: &mut [u8]) -> bool
     requires sums_value { sums.old ≡ clear w }
     ensures { sources_fit w n cells.now w ≡ result }
 {
-    let mut t = 0;
-    while t < n {
-        let from = t * w;
+    for target in 0..n {
+        let from = target * w;
         let to = from + w;
         add_row(sums, &cells[from..to]);
-        t += 1;
     }
     all_bits(sums)
 }
@@ -330,15 +296,13 @@ fn path_fits(path: &[u64]) -> bool
     if 16 < path.len() {
         return false;
     }
-    let mut i = 0;
-    while i < path.len() {
-        if path[i] < 1 {
+    for n in path {
+        if *n < 1 {
             return false;
         }
-        if 2147483647 < path[i] {
+        if 2147483647 < *n {
             return false;
         }
-        i += 1;
     }
     true
 }
@@ -357,11 +321,7 @@ pub fn desk_is_legal(f: Figures, path: &[u64], crosspoints: &[u8]) -> bool
 pub fn wipe(cells: &mut [u8])
     ensures { cells.new ≡ clear (length cells.old) }
 {
-    let mut i = 0;
-    while i < cells.len() {
-        cells[i] = 0;
-        i += 1;
-    }
+    cells.fill(0);
 }
 
 // Opens a desk: 0 and its crosspoints cleared; 45 for figures, mode or path out of range, 1 for crosspoints of another count than the figures' give, and they

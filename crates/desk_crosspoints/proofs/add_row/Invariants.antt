@@ -1,10 +1,5 @@
 use Rattle.desk_crosspoints.proofs.Sums.{Added}
-use Prim.Native.Nat.{◌-◌}
-use lib.ListN.{length}
 use Rattle.desk_crosspoints.proofs.add_row.Given as goal
 
-abbrev pub invariant-loop-i : goal.invariant-loop-i
-invariant-loop-i l = Added l.initial.sums l.row l.i l.sums
-
-abbrev pub decreases-loop-i : goal.decreases-loop-i
-decreases-loop-i l = length l.row - l.i
+abbrev pub invariant-loop-s : goal.invariant-loop-s
+invariant-loop-s l = Added l.initial.sums l.row l.s l.sums

@@ -1,53 +1,28 @@
-use Rattle.desk_crosspoints.proofs.Sums.{count-part}
-use Rattle.desk_crosspoints.proofs.Under.{take_short}
-use Rattle.desk_crosspoints.proofs.Laws.{count-end, count-le}
-use Prim.Native.Nat.{◌-◌}
+use Rattle.desk_crosspoints.proofs.Laws.{count-append, count-le, count-none}
+use Rattle.desk_crosspoints.specs.Crosspoints.{count}
+use Rattle.std.specs.Slice.Iter.{chunks_rest, chunks_size}
+use Prim.Native.Nat.{◌+◌}
+use mathlib.Core.Path.{◌≡◌, ap, ◌∙◌}
 use native.Mathlib.Omega.{arith}
-use lib.ListN.{drop}
 use Rattle.desk_crosspoints.proofs.count.Goals as goal
 
-pub loop-i-init : goal.loop-i-init
-loop-i-init c = omega arith
+-- what a part tells of the cells that were left
+part-told : (c : goal.After-count_few-n) → count (chunks_rest c.loop-part.part-iterator) ≡ count c.in-Some.part.now + count (chunks_rest c.next.new.self)
+part-told c = ap count c.in-Some.ensures.steps.1.0 ∙ count-append c.in-Some.part.now (chunks_rest c.next.new.self)
 
-pub part_end-j-requires : goal.part_end-j-requires
-part_end-j-requires c =
-    let the-loop-test = c.loop-i-test in
-    the-loop-test.true
-
-pub slice_bounds-count_few-count : goal.slice_bounds-count_few-count
-slice_bounds-count_few-count c =
-    let the-part-end = c.part_end-j in
-    omega (arith, the-part-end.ensures.0)
+pub loop-part-init : goal.loop-part-init
+loop-part-init c =
+    let e = ap chunks_rest c.into_iter-part-iterator.ensures.into_iter_gives ∙ c.chunks-part-items.ensures.rest in
+    (omega (arith, ap count e), ap chunks_size c.into_iter-part-iterator.ensures.into_iter_gives ∙ c.chunks-part-items.ensures.size)
 
 pub count_few-n-requires : goal.count_few-n-requires
-count_few-n-requires c =
-    let the-loop = c.loop-i in
-    let the-part-end = c.part_end-j in
-    omega (arith, take_short (the-part-end.result - the-loop.i) (drop the-loop.i c.args.cells.now), the-part-end.ensures.1.1)
+count_few-n-requires c = omega (arith, c.in-Some.ensures.steps.1.1, c.loop-part.invariant.1)
 
 pub overflow_add-n : goal.overflow_add-n
-overflow_add-n c =
-    let the-loop = c.loop-i in
-    let the-part-end = c.part_end-j in
-    let the-count-few = c.count_few-n in
-    let p = count-part c.args.cells.now the-loop.i the-part-end.result (omega (arith, the-part-end.ensures.0)) in
-    omega (arith, p, count-le c.args.cells.now, the-count-few.ensures, the-loop.invariant)
+overflow_add-n c = omega (arith, part-told c, count-le c.args.cells.now)
 
-pub loop-i-smaller : goal.loop-i-smaller
-loop-i-smaller c =
-    let the-part-end = c.part_end-j in
-    omega (arith, the-part-end.ensures.0, the-part-end.ensures.1.0)
-
-pub loop-i-preserved : goal.loop-i-preserved
-loop-i-preserved c =
-    let the-loop = c.loop-i in
-    let the-part-end = c.part_end-j in
-    let the-count-few = c.count_few-n in
-    let p = count-part c.args.cells.now the-loop.i the-part-end.result (omega (arith, the-part-end.ensures.0)) in
-    omega (arith, p, the-count-few.ensures, the-loop.invariant)
+pub loop-part-preserved : goal.loop-part-preserved
+loop-part-preserved c = (omega (arith, part-told c), c.in-Some.ensures.steps.0 ∙ c.loop-part.invariant.1)
 
 pub returns : goal.returns
-returns c =
-    let the-loop = c.loop-i in
-    let the-loop-test = c.loop-i-test in
-    omega (arith, count-end c.args.cells.now the-loop.i the-loop-test.false, the-loop.invariant)
+returns c = omega (arith, count-none _ c.in-None.ensures.steps.1.0)

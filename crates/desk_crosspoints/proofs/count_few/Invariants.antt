@@ -1,11 +1,8 @@
 use Rattle.desk_crosspoints.specs.Crosspoints.{count}
 use mathlib.Core.Path.{◌≡◌}
-use Prim.Native.Nat.{◌-◌, ◌+◌}
-use lib.ListN.{length, drop}
+use Prim.Native.Nat.{◌+◌}
+use lib.ListN.{drop}
 use Rattle.desk_crosspoints.proofs.count_few.Given as goal
 
-abbrev pub invariant-loop-i : goal.invariant-loop-i
-invariant-loop-i l = count l.cells ≡ l.n + count (drop l.i l.cells)
-
-abbrev pub decreases-loop-i : goal.decreases-loop-i
-decreases-loop-i l = length l.cells - l.i
+abbrev pub invariant-loop-c : goal.invariant-loop-c
+invariant-loop-c l = count l.cells ≡ l.n + count (drop l.c-index l.cells)
