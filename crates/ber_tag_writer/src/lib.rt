@@ -5,7 +5,6 @@ ghost use Rattle.std.specs.Prelude.{◌≡◌, ◌+◌, ◌*◌, ◌%◌, ◌≤
 ghost use Rattle.ber_integers.specs.Digits.{put, outcome};
 ghost use Rattle.ber_tags.specs.Write.{septets, bit, put_tag, length_octets, put_length};
 
-use base_casts::word;
 use ber_integers::Wrote;
 
 fn low(x: u64) -> u8
@@ -13,13 +12,6 @@ fn low(x: u64) -> u8
     ensures upper_bound { result < 128 }
 {
     (x % 128) as u8
-}
-
-fn small(x: u64) -> u8
-    requires { x < 256 }
-    ensures { result ≡ x }
-{
-    x as u8
 }
 
 // A number in groups of seven bits, the fewest, at a position of the output.
@@ -35,9 +27,7 @@ pub fn write_septets(v: u64, out: &mut [u8], at: usize) -> Wrote
     }
     out[at + n] = low(v);
     let mut r = v / 128;
-    let mut i = n;
-    while 0 < i {
-        i = i - 1;
+    for i in (0..n).rev() {
         out[at + i] = 128 + low(r);
         r = r / 128;
     }
@@ -69,7 +59,7 @@ pub fn write_tag(class: u8, constructed: bool, number: u64, out: &mut [u8], at: 
     }
     let first = lead(class, constructed);
     if number < 31 {
-        return ber_integers::write_octet(first + small(number), out, at);
+        return ber_integers::write_octet(first + number as u8, out, at);
     }
     if out.len() <= at {
         return Wrote::Out;
@@ -91,7 +81,7 @@ pub fn write_length(n: u64, out: &mut [u8], at: usize) -> Wrote
         return Wrote::Out;
     }
     if n < 128 {
-        return ber_integers::write_octet(small(n), out, at);
+        return ber_integers::write_octet(n as u8, out, at);
     }
     if out.len() <= at {
         return Wrote::Out;
@@ -99,7 +89,7 @@ pub fn write_length(n: u64, out: &mut [u8], at: usize) -> Wrote
     let k = ber_integers::octet_count(n);
     match ber_integers::write_octets(n, k, out, at + 1) {
         Wrote::Next(e) => {
-            out[at] = small(128 + word(k));
+            out[at] = 128 + k as u8;
             Wrote::Next(e)
         }
         Wrote::Out => Wrote::Out,

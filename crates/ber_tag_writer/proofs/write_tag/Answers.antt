@@ -17,7 +17,7 @@ pub returns-then-number-lt31 : goal.returns-then-number-lt31
 returns-then-number-lt31 c =
     tag-short _ _ _ _ _ c.if-class-gt3.false
     c.if-number-lt31.true
-    ∙ rw (c.lead-first.ensures.value, c.small.ensures) at
+    ∙ rw c.lead-first.ensures.value at
     c.write_octet.ensures
 
 pub returns-then-out-at : goal.returns-then-out-at
