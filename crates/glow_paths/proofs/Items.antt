@@ -68,9 +68,13 @@ pub qualified-low : (kind : ℕ) → kind < 5 → is_qualified kind ≡ false
 unfolding is_qualified
 qualified-low kind h = rw (lt-leb _ _ h)
 
-pub qualified-rest : (kind : ℕ) → 5 ≤ kind → is_qualified kind ≡ leb kind 7
+pub qualified-high : (kind : ℕ) → 7 < kind → is_qualified kind ≡ false
 unfolding is_qualified
-qualified-rest kind h = rw (le-leb _ _ h)
+qualified-high kind h = let l : 5 ≤ kind = omega arith in rw (le-leb _ _ l, lt-leb _ _ h)
+
+pub qualified_in : (kind : ℕ) → 5 ≤ kind → kind ≤ 7 → is_qualified kind ≡ true
+unfolding is_qualified
+qualified_in kind h k = rw (le-leb _ _ h, le-leb _ _ k)
 
 -- what a cell says
 module _ (s : List ℕ) (v : Cell) where

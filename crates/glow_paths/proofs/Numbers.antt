@@ -1,10 +1,12 @@
 -- The numbers of an identifier, one after another, and a path held against them.
-use Prim.Native.Nat.{ℕ, suc, ◌+◌, ◌≤◌, ◌<◌}
+use Prim.Native.Nat.{ℕ, zero, suc, ◌+◌, ◌-◌, ◌≤◌, ◌<◌}
+use Rattle.std.proofs.lemmas.Bool.{cases_lt}
 use mathlib.Core.Path.{◌≡◌, refl, sym, ap, subst, ◌∙◌}
 use mathlib.Core.List.{List, [], ◌∷◌}
-use mathlib.Core.Bool.{Bool, true, false}
+use mathlib.Core.Bool.{false}
 use native.Mathlib.Omega.{arith}
-use borrow.Author.Tests.{eq-eqb, ne_eqb}
+use borrow.Author.Tests.{eq-eqb, ne_eqb, lt-ltb, le-leb, lt-leb}
+use mathlib.Core.Logic.{⊎_elim}
 use lib.ListN.{length, drop, get_or, drop_of_length-le}
 use lib.Seq.{drop-cons}
 use lib.Dec.{leb}
@@ -12,7 +14,7 @@ use Rattle.ber_identifiers.specs.declared.Arc.{Arc}
 use Rattle.ber_identifiers.specs.declared.Arc.TheVariants.{Number, Range as Over, Refused as NoArc}
 use Rattle.ber_identifiers.specs.declared.Oid.{Oid}
 use Rattle.ber_identifiers.specs.declared.Oid.TheVariants.{Numbers, Range, Refused}
-use Rattle.ber_identifiers.specs.Identifier.{Arcs, bad, over, numbers, push, pass, judged, arc_at, arcs, arcs_from, oid_at}
+use Rattle.ber_identifiers.specs.Identifier.{Arcs, and_then, bad, over, numbers, push, pass, judged, arc_at, arcs, arcs_from, oid_at}
 use Rattle.ber_identifiers.proofs.Laws.{arcs-done, arcs-number, arcs-over, arcs-bad, oid-within}
 use Rattle.glow_paths.specs.Paths.{list_of, numbers_in, end_of, step_of, Left, Goes}
 use Rattle.glow_paths.specs.Paths.{same}
@@ -59,6 +61,29 @@ module _ (bs : List ℕ) (p end : ℕ) where
 
   pub goes-bad : (n after : ℕ) → p < end → arc_at bs p end ≡ NoArc → (xs : List ℕ) → Left bs p end xs → Goes bs end xs n after
   goes-bad n after h e xs k = absurd (bad-not xs (sym (arcs-bad bs end p k.0 h k.1.0 e) ∙ k.1.1))
+
+  some-left : (f : ℕ) (xs : List ℕ) → p < end → end - p ≤ f → arcs_from bs f p end ≡ numbers xs → (n : ℕ) × ((ys : List ℕ) × (xs ≡ n ∷ ys))
+  unfolding arcs_from
+  some-left zero xs h k e = absurd (omega arith)
+  some-left (suc f) xs h k e = go (arc_at bs p end) (λ (next : ℕ). arcs_from bs f next end) (simp (lt-ltb _ _ h) at e)
+    where
+      go : (a : Arc) (rest : ℕ → Arcs) → and_then a rest ≡ numbers xs → (n : ℕ) × ((ys : List ℕ) × (xs ≡ n ∷ ys))
+      go (Number n next) rest e = let z = pushed n (rest next) xs e in (n, (z.0, z.1.0))
+      go (Over next) rest e = absurd (passed (rest next) xs e)
+      go NoArc rest e = absurd (bad-not xs e)
+
+  -- at the path's end, and before it where no number is left
+  module _ (xs path : List ℕ) (j : ℕ) (k : Left bs p end xs) where
+    pub left_same : length path ≤ j → same xs (drop j path) ≡ leb end p
+    unfolding same
+    left_same l = ⊎_elim
+        (λ (h : p < end). let z = some-left k.0 xs h k.1.0 k.1.1 in rw (z.1.1, drop_of_length-le path l, lt-leb _ _ h))
+        (λ (h : end ≤ p). rw (left-none xs h k, drop_of_length-le path l, le-leb _ _ h))
+        (cases_lt p end)
+
+    pub left-fewer : end ≤ p → j < length path → same xs (drop j path) ≡ false
+    unfolding same
+    left-fewer h l = rw (left-none xs h k, drop-cons path j 0 l)
 
 -- where they end
 oid_count : Oid → ℕ
@@ -109,26 +134,13 @@ module _ (bs : List ℕ) where
   end_refused e = end_none (unlisted (arcs bs 0 (length bs)) (ap oid_count (whole ∙ e)))
 
 -- numbers held against the numbers of a path from j on
-module _ (xs path : List ℕ) (j : ℕ) where
-  pub same_none : xs ≡ [] → same xs (drop j path) ≡ leb (length path) j
+module _ (xs path : List ℕ) (j : ℕ) (x : ℕ) (ys : List ℕ) (e : xs ≡ x ∷ ys) where
+  pub same-other : j < length path → (get_or path j 0 ≡ x → ⊥) → same xs (drop j path) ≡ false
   unfolding same
-  same_none e = rw e (go (leb (length path) j) refl)
-    where
-      go : (u : Bool) → leb (length path) j ≡ u → same [] (drop j path) ≡ leb (length path) j
-      go true h = rw (h, drop_of_length-le path (borrow.Author.Tests.leb-true (length path) j h))
-      go false h = rw (h, drop-cons path j 0 (borrow.Author.Tests.leb-false (length path) j h))
+  same-other h d = rw (e, drop-cons path j 0 h, ne_eqb x (get_or path j 0) (λ z. d (sym z)))
 
-  module _ (x : ℕ) (ys : List ℕ) (e : xs ≡ x ∷ ys) where
-    pub same-short : length path ≤ j → same xs (drop j path) ≡ false
-    unfolding same
-    same-short h = rw (e, drop_of_length-le path h)
-
-    pub same-other : j < length path → (get_or path j 0 ≡ x → ⊥) → same xs (drop j path) ≡ false
-    unfolding same
-    same-other h d = rw (e, drop-cons path j 0 h, ne_eqb x (get_or path j 0) (λ z. d (sym z)))
-
-    pub same_more : j < length path → get_or path j 0 ≡ x → same xs (drop j path) ≡ same ys (drop (j + 1) path)
-    unfolding same
-    same_more h d =
-        let i : j + 1 ≡ suc j = omega arith in
-        rw (e, drop-cons path j 0 h, eq-eqb x (get_or path j 0) (sym d), i)
+  pub same_more : j < length path → get_or path j 0 ≡ x → same xs (drop j path) ≡ same ys (drop (j + 1) path)
+  unfolding same
+  same_more h d =
+      let i : j + 1 ≡ suc j = omega arith in
+      rw (e, drop-cons path j 0 h, eq-eqb x (get_or path j 0) (sym d), i)

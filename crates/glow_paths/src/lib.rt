@@ -25,8 +25,7 @@ pub fn list_end(octets: &[u8]) -> usize
 {
     match ber_identifiers::read_oid(octets, 0, octets.len()) {
         Oid::Numbers(_) => octets.len(),
-        Oid::Range => 0,
-        Oid::Refused => 0,
+        Oid::Range | Oid::Refused => 0,
     }
 }
 
@@ -45,11 +44,7 @@ pub fn next_number(octets: &[u8], p: usize, end: usize) -> Step
 {
     match ber_identifiers::read_number(octets, p, end) {
         Arc::Number { number, next } => Step { number, next },
-        Arc::Range { next: _ } => Step {
-            number: 0,
-            next: end,
-        },
-        Arc::Refused => Step {
+        Arc::Range { .. } | Arc::Refused => Step {
             number: 0,
             next: end,
         },
@@ -62,28 +57,23 @@ fn same_numbers(octets: &[u8], path: &[u64]) -> bool
 {
     let end = list_end(octets);
     let mut p: usize = 0;
-    let mut j: usize = 0;
-    while p < end {
+    for number in path {
+        if end <= p {
+            return false;
+        }
         let x = next_number(octets, p, end);
-        if path.len() <= j {
+        if *number != x.number {
             return false;
         }
-        if path[j] != x.number {
-            return false;
-        }
-        j += 1;
         p = x.next;
     }
-    path.len() <= j
+    end <= p
 }
 
 fn is_qualified(kind: u64) -> bool
     ensures { is_qualified kind ≡ result }
 {
-    if kind < kinds::QUALIFIED_PARAMETER {
-        return false;
-    }
-    kind <= kinds::QUALIFIED_MATRIX
+    matches!(kind, kinds::QUALIFIED_PARAMETER..=kinds::QUALIFIED_MATRIX)
 }
 
 // Whether the octets of a member are the numbers of a path.
@@ -102,38 +92,29 @@ fn climbs(path: &[u64], rows: &[[u64; 50]], count: usize, s: &[u8], entry: u64) 
     requires { (length path.now ≤ 16) × (count ≤ length rows.now) }
     ensures { same (full_path (items_in s.now rows.now count) entry) path.now ≡ result }
 {
-    let mut k = path.len();
+    let mut left = path;
     let mut p = entry;
-    while 0 < p {
-        if word(count) < p {
-            return k == 0;
-        }
+    while 0 < p && p <= word(count) {
         let i = index(p - 1);
         let v = cell_at(rows, i, places::KEY);
         if is_qualified(word_at(rows, i, KIND)) {
-            return same_part(s, v, &path[..k]);
+            return same_part(s, v, left);
         }
-        if k == 0 {
+        let Some((last, rest)) = left.split_last() else {
+            return false;
+        };
+        if *last != number_of(v) {
             return false;
         }
-        if path[k - 1] != number_of(v) {
-            return false;
-        }
-        k = k - 1;
+        left = rest;
         p = word_at(rows, i, PARENT);
     }
-    k == 0
+    left.is_empty()
 }
 
 // Whether an entry's full path is this one, on the first `count` rows, or as many as there are; none of over 16 numbers is.
 pub fn is_path(path: &[u64], rows: &[[u64; 50]], count: usize, s: &[u8], entry: u64) -> bool
     ensures { has_path (items_in s.now rows.now count) entry path.now ≡ result }
 {
-    if 16 < path.len() {
-        return false;
-    }
-    if rows.len() < count {
-        return climbs(path, rows, rows.len(), s, entry);
-    }
-    climbs(path, rows, count, s, entry)
+    path.len() <= 16 && climbs(path, rows, count.min(rows.len()), s, entry)
 }
