@@ -146,7 +146,7 @@ pub has-long : (es : List Item) (p : ℕ) (path : List ℕ) → 16 < length path
 unfolding has_path
 has-long es p path h = rw (lt-leb _ _ h)
 
-has-is : (es : List Item) (p : ℕ) (path : List ℕ) → length path ≤ 16 → has_path es p path ≡ same (full_path es p) path
+pub has-is : (es : List Item) (p : ℕ) (path : List ℕ) → length path ≤ 16 → has_path es p path ≡ same (full_path es p) path
 unfolding has_path
 has-is es p path h = rw (le-leb _ _ h)
 
