@@ -1,16 +1,20 @@
 -- One law for each answer of the definitions, at plain variables.
-use Prim.Native.Nat.{ℕ, zero, suc, ◌+◌, ◌-◌, ◌*◌, ◌%◌, ◌≤◌, ◌<◌}
+use Prim.Native.Nat.{ℕ, zero, suc, min, ◌+◌, ◌-◌, ◌*◌, ◌%◌, ◌≤◌, ◌<◌}
 use mathlib.Core.Path.{◌≡◌, refl, sym, ap, ◌∙◌}
 use mathlib.Core.List.{List, [], ◌∷◌, ◌++◌}
-use mathlib.Core.Bool.{Bool, true, false}
+use mathlib.Core.Bool.{Bool, true, false, ◌&&◌}
+use mathlib.Core.Logic.{⊎_elim}
 use native.Mathlib.Omega.{arith}
+use lib.Dec.{leb}
 use borrow.Author.Tests.{le-leb, lt-leb, lt-ltb, le-ltb, eq-eqb, ne_eqb}
 use lib.ListN.{length, take, drop, get_or, length-append, drop_of_length-le}
 use Rattle.ber_tags.specs.Write.{septets}
 use lib.ListN.{take-append-drop}
 use Rattle.ber_integers.specs.declared.Wrote.TheVariants.{Next}
 use Rattle.ber_integers.proofs.Laws.{put_in}
+use Rattle.ber_integers.proofs.Radix.{lt-or-le}
 use lib.Seq.{drop-cons}
+use Rattle.std.specs.List.{list_all}
 use Rattle.base_choices.specs.Choices.{pick}
 use Rattle.ber_integers.specs.Digits.{put, unchanged, outcome}
 use Rattle.ber_identifiers.specs.declared.Arc.{Arc}
@@ -84,6 +88,11 @@ from-big acc other p (b ∷ bs) h k =
     let e : arc_is (acc * 128 + b) (p + 1) ≡ arc_is (other * 128 + b) (p + 1) = sym (arc-over (acc * 128 + b) (p + 1) l) ∙ arc-over (other * 128 + b) (p + 1) m in
     rw (e, from-big (acc * 128 + b % 128) (other * 128 + b % 128) (p + 1) bs (omega arith) (omega arith))
 
+pub from-min : (acc p : ℕ) (bs : List ℕ) → arc_from (min acc 2147483648) p bs ≡ arc_from acc p bs
+from-min acc p bs =
+    ⊎_elim (λ (h : acc < 2147483648). let e : min acc 2147483648 ≡ acc = omega arith in rw e)
+    (λ (h : 2147483648 ≤ acc). from-big (min acc 2147483648) acc p bs (omega arith) (omega arith)) (lt-or-le acc 2147483648)
+
 -- the numbers of an identifier
 module _ (s : List ℕ) (end p : ℕ) where
   pub arcs-done : (f : ℕ) → end ≤ p → arcs_from s f p end ≡ numbers []
@@ -150,16 +159,15 @@ unfolding tally
 tally-done count b = let e : count + 0 ≡ count = omega arith in ap (λ (i : ℕ). pick b Range (Numbers i)) e
 
 -- numbers to be written
+pub range-all : (ns : List ℕ) → in_range ns ≡ list_all (λ (n : ℕ). leb n 2147483647) ns
+range-all [] = refl
+range-all (n ∷ ns) = rw (range-all ns) (go (leb n 2147483647) (list_all (λ (n : ℕ). leb n 2147483647) ns))
+  where
+    go : (b r : Bool) → pick b r false ≡ (b && r)
+    go true r = refl
+    go false r = refl
+
 module _ (ns : List ℕ) (i : ℕ) where
-  pub range-done : length ns ≤ i → in_range (drop i ns) ≡ true
-  range-done h = rw (drop_of_length-le ns h)
-
-  pub range-over : i < length ns → 2147483647 < get_or ns i 0 → in_range (drop i ns) ≡ false
-  range-over h k = rw (drop-cons ns i 0 h) (simp (lt-leb _ _ k))
-
-  pub range-more : i < length ns → get_or ns i 0 ≤ 2147483647 → in_range (drop (i + 1) ns) ≡ in_range (drop i ns)
-  range-more h k = let e : i + 1 ≡ suc i = omega arith in rw (e, drop-cons ns i 0 h) (simp (le-leb _ _ k))
-
   -- the octets of the numbers from i on
   pub octets-more : i < length ns → oid_octets (drop i ns) ≡ septets (get_or ns i 0) ++ oid_octets (drop (i + 1) ns)
   unfolding oid_octets
@@ -172,11 +180,24 @@ module _ (ns : List ℕ) (i : ℕ) where
   pub size-more : i < length ns → length (oid_octets (drop i ns)) ≡ length (septets (get_or ns i 0)) + length (oid_octets (drop (i + 1) ns))
   size-more h = ap length (octets-more h) ∙ length-append (septets (get_or ns i 0)) (oid_octets (drop (i + 1) ns))
 
-pub size-within : (ns : List ℕ) (i : ℕ) → length (oid_octets (drop i ns)) ≤ length (oid_octets ns)
+-- no number, and one before others
+pub octets-none : oid_octets [] ≡ []
 unfolding oid_octets
-size-within ns zero = omega arith
-size-within [] (suc i) = omega arith
-size-within (n ∷ ns) (suc i) = let r = size-within ns i in let e = length-append (septets n) (oid_octets ns) in omega arith
+octets-none = refl
+
+pub octets-cons : (n : ℕ) (ns : List ℕ) → oid_octets (n ∷ ns) ≡ septets n ++ oid_octets ns
+unfolding oid_octets
+octets-cons n ns = refl
+
+pub size-cons : (n : ℕ) (ns : List ℕ) → length (oid_octets (n ∷ ns)) ≡ length (septets n) + length (oid_octets ns)
+size-cons n ns = ap length (octets-cons n ns) ∙ length-append (septets n) (oid_octets ns)
+
+pub size-suffix : (xs ys ns : List ℕ) → xs ++ ys ≡ ns → length (oid_octets ys) ≤ length (oid_octets ns)
+size-suffix xs ys ns e = rw (sym e) (go xs)
+  where
+    go : (xs : List ℕ) → length (oid_octets ys) ≤ length (oid_octets (xs ++ ys))
+    go [] = omega arith
+    go (n ∷ xs) = let r = go xs in let m = size-cons n (xs ++ ys) in omega arith
 
 module _ (out : List ℕ) (at : ℕ) (ns : List ℕ) where
   pub put-range : in_range ns ≡ false → put_oid out at ns ≡ unchanged out

@@ -7,7 +7,6 @@ ghost use Rattle.ber_integers.specs.Readings.{Promised};
 ghost use Rattle.ber_identifiers.specs.Identifier.{arc_is, arc_at, oid_at, arc_says, arc_or, oid_says, oid_or, ArcWithin, in_range, oid_octets, put_oid};
 ghost use Rattle.ber_tags.specs.Write.{septets};
 
-use base_casts::wide;
 use ber_integers::Wrote;
 
 // One number of an identifier and the position after it, or one over 2,147,483,647, or 30.
@@ -51,17 +50,13 @@ pub fn read_number(s: &[u8], p: usize, end: usize) -> Arc
         return Arc::Refused;
     }
     let mut acc: u64 = 0;
-    let mut i = p;
-    while i < end {
+    for i in p..end {
         let b = s[i];
-        i = i + 1;
         if b < 128 {
-            return ended(acc * 128 + wide(b), i);
+            return ended(acc * 128 + u64::from(b), i + 1);
         }
-        acc = acc * 128 + wide(b % 128);
-        if 2147483647 < acc {
-            acc = 2147483648;
-        }
+        // Past the limit it does not matter how far.
+        acc = (acc * 128 + u64::from(b % 128)).min(2147483648);
     }
     Arc::Refused
 }
@@ -80,6 +75,7 @@ pub fn read_oid(s: &[u8], at: usize, n: usize) -> Oid
     let mut p = at;
     let mut count: usize = 0;
     let mut over = false;
+    // No index is counted: p goes on to the next number.
     while p < end {
         if s[p] < 128 {
             p = p + 1;
@@ -110,14 +106,7 @@ pub fn read_oid(s: &[u8], at: usize, n: usize) -> Oid
 fn in_range(ns: &[u64]) -> bool
     ensures { result ≡ in_range ns.now }
 {
-    let mut i: usize = 0;
-    while i < ns.len() {
-        if 2147483647 < ns[i] {
-            return false;
-        }
-        i = i + 1;
-    }
-    true
+    ns.iter().all(|n| *n <= 2147483647)
 }
 
 // How many octets a number takes.
@@ -133,10 +122,8 @@ fn oid_size(ns: &[u64]) -> usize
     ensures { result ≡ length (oid_octets ns.now) }
 {
     let mut total: usize = 0;
-    let mut i: usize = 0;
-    while i < ns.len() {
-        total = total + number_size(ns[i]);
-        i = i + 1;
+    for n in ns {
+        total += number_size(*n);
     }
     total
 }
@@ -157,11 +144,9 @@ pub fn write_oid(ns: &[u64], out: &mut [u8], at: usize) -> Wrote
     }
     let end = at + n;
     let mut p = end;
-    let mut i = ns.len();
-    while 0 < i {
-        i = i - 1;
-        p = p - number_size(ns[i]);
-        ber_tag_writer::write_septets(ns[i], out, p);
+    for n in ns.iter().rev() {
+        p -= number_size(*n);
+        ber_tag_writer::write_septets(*n, out, p);
     }
     Wrote::Next(end)
 }

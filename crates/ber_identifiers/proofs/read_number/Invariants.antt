@@ -5,9 +5,7 @@ use Rattle.ber_identifiers.specs.Identifier.{arc_from}
 use Rattle.ber_identifiers.proofs.read_number.Given as goal
 
 abbrev pub invariant-loop-i : goal.invariant-loop-i
-invariant-loop-i l =
-    (l.p ≤ l.i) × ((l.i ≤ l.end) × ((l.acc ≤ 2147483648) × (arc_from l.acc l.i (take (l.end - l.i) (drop l.i l.s)) ≡ arc_from 0 l.p
-    (take (l.end - l.p) (drop l.p l.s)))))
-
-abbrev pub decreases-loop-i : goal.decreases-loop-i
-decreases-loop-i l = l.end - l.i
+invariant-loop-i l = record {
+  small : l.acc ≤ 2147483648;
+  rest : arc_from l.acc l.i (take (l.end - l.i) (drop l.i l.s)) ≡ arc_from 0 l.p (take (l.end - l.p) (drop l.p l.s));
+}

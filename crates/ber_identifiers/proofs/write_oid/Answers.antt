@@ -1,103 +1,83 @@
-use Prim.Native.Nat.{◌≤◌, ◌<◌, ◌+◌, ◌-◌}
-use mathlib.Core.Path.{◌≡◌, refl, sym, ap, ◌∙◌}
+use Prim.Native.Nat.{ℕ, ◌≤◌, ◌+◌, ◌-◌}
+use mathlib.Core.Path.{◌≡◌, sym, ap, ◌∙◌}
+use mathlib.Core.List.{List, [], ◌∷◌, ◌++◌, append_assoc, append-nil}
 use native.Mathlib.Omega.{arith}
-use mathlib.Core.List.{[]}
-use lib.ListN.{length, drop, get_or}
+use lib.ListN.{length}
+use Rattle.std.specs.List.{push}
 use Rattle.ber_integers.proofs.Laws.{put-out}
 use Rattle.ber_integers.proofs.Output.{append-done}
 use Rattle.ber_tags.specs.Write.{septets}
-use mathlib.Core.Bool.{true}
-use Rattle.ber_identifiers.specs.Identifier.{in_range, oid_octets}
-use Rattle.ber_identifiers.proofs.Laws.{put-range, put-oid, put-empty, octets-done, octets-more, size-more, size-within}
-use Rattle.ber_identifiers.proofs.write_oid.Goals.{Else-not-in_range, After-number_size-p}
+use Rattle.ber_identifiers.specs.Identifier.{oid_octets}
+use Rattle.ber_identifiers.proofs.Laws.{put-range, put-oid, put-empty, octets-none, octets-cons, size-cons, size-suffix}
+use Rattle.ber_identifiers.proofs.write_oid.Goals.{After-number_size-p}
 use Rattle.ber_identifiers.proofs.write_oid.Goals as goal
 
-fine : (c : Else-not-in_range) → in_range c.args.ns.now ≡ true
-fine c = sym c.in_range.ensures ∙ c.if-not-in_range.false
+-- a number before those that are there
+before : (r r' done ns : List ℕ) (n : ℕ) → r ≡ push r' n → r ++ done ≡ ns → r' ++ (n ∷ done) ≡ ns
+before r r' done ns n e s = sym (append_assoc r' (n ∷ []) done) ∙ ap (λ (l : List ℕ). l ++ done) (sym e) ∙ s
 
--- the octets of the number before those that are there fit before them
-turn : (c : After-number_size-p)
-    → (c.number_size-p.result ≤ c.loop-i.p)
-    × ((c.args.at ≤ c.loop-i.p - c.number_size-p.result)
-    × (length (oid_octets (drop (c.loop-i.i - 1) c.args.ns.now))
-    ≡ c.number_size-p.result + length (oid_octets (drop c.loop-i.i c.args.ns.now))))
-turn c =
-    let h : c.loop-i.i - 1 < length c.args.ns.now = omega arith in
-    let i : c.loop-i.i - 1 + 1 ≡ c.loop-i.i = omega arith in
-    let m = rw i at (size-more c.args.ns.now (c.loop-i.i - 1) h) in
-    let w = size-within c.args.ns.now (c.loop-i.i - 1) in
-    let k = c.number_size-p.ensures.value in
-    let s = c.oid_size-n.ensures in
-    let e = c.loop-i.invariant.1.1.0 in
-    (omega arith, (omega arith, omega arith))
+-- none is left before them
+all : (r done ns : List ℕ) → length r ≡ 0 → r ++ done ≡ ns → done ≡ ns
+all [] done ns z s = s
+all (x ∷ r) done ns z s = absurd (omega arith)
+
+-- its octets fit before theirs
+turn : (at p k n : ℕ) (r done ns : List ℕ) → r ++ (n ∷ done) ≡ ns → k ≡ length (septets n) → p + length (oid_octets done) ≡ at + length (oid_octets ns)
+    → (at + k ≤ p) × (p - k + length (oid_octets (n ∷ done)) ≡ at + length (oid_octets ns))
+turn at p k n r done ns e h z =
+    let w : length (oid_octets (n ∷ done)) ≤ length (oid_octets ns) = size-suffix r (n ∷ done) ns e in
+    let m = size-cons n done in
+    (omega arith, omega arith)
 
 pub returns-then-not-in_range : goal.returns-then-not-in_range
 returns-then-not-in_range c = put-range _ _ _ (sym c.in_range.ensures ∙ c.if-not-in_range.true)
 
 pub returns-then-out-n : goal.returns-then-out-n
-returns-then-out-n c = put-oid _ _ _ (fine (goal.at.returns-then-out-n c).Else-not-in_range) ∙ put-out _ _ _ (omega arith)
-
-pub overflow_sub-out : goal.overflow_sub-out
-overflow_sub-out c = omega arith
+returns-then-out-n c = put-oid _ _ _ (sym c.in_range.ensures ∙ c.if-not-in_range.false) ∙ put-out _ _ _ (omega arith)
 
 pub returns-then-out-n-2 : goal.returns-then-out-n-2
-returns-then-out-n-2 c = put-oid _ _ _ (fine (goal.at.returns-then-out-n-2 c).Else-not-in_range) ∙ put-out _ _ _ (omega arith)
+returns-then-out-n-2 c = put-oid _ _ _ (sym c.in_range.ensures ∙ c.if-not-in_range.false) ∙ put-out _ _ _ (omega arith)
 
-pub overflow_add-end : goal.overflow_add-end
-overflow_add-end c = omega arith
-
-pub loop-i-init : goal.loop-i-init
-loop-i-init c =
-    let d : oid_octets (drop (length c.args.ns.now) c.args.ns.now) ≡ [] = octets-done c.args.ns.now (length c.args.ns.now) (omega arith) in
-    let z : length (oid_octets (drop (length c.args.ns.now) c.args.ns.now)) ≡ 0 = ap length d in
-    let f : c.args.at + c.oid_size-n.result ≤ length c.args.out.now = omega arith in
-    (omega arith, (refl, (omega arith, rw d (put-empty c.args.out.now (c.args.at + c.oid_size-n.result) f))))
-
-pub overflow_sub-i : goal.overflow_sub-i
-overflow_sub-i c = omega arith
-
-pub offset_bounds-ns-i : goal.offset_bounds-ns-i
-offset_bounds-ns-i c = omega arith
-
-pub bounds-ns-i : goal.bounds-ns-i
-bounds-ns-i c = omega arith
+pub loop-n-init : goal.loop-n-init
+loop-n-init c =
+    let i : c.into_iter-n-iterator.result.iter.rest.now ≡ c.args.ns.now = cc in
+    let z : length (oid_octets []) ≡ 0 = ap length octets-none in
+    record {
+      done = [];
+      split = append-nil _ ∙ i;
+      size = omega arith;
+      placed = rw octets-none (put-empty c.args.out.now (c.args.at + c.oid_size-n.result) (omega arith));
+    }
 
 pub overflow_sub-p : goal.overflow_sub-p
-overflow_sub-p c = let q = turn c in omega arith
+overflow_sub-p c =
+    let l = c.loop-n in
+    let e = before _ _ l.invariant.done c.args.ns.now _ c.in-Some.ensures.steps l.invariant.split in
+    let t = turn c.args.at l.p c.number_size-p.result _ _ l.invariant.done c.args.ns.now e c.number_size-p.ensures.value
+    (l.invariant.size ∙ ap (λ (n : ℕ). c.args.at + n) c.oid_size-n.ensures) in
+    omega (arith, t.0)
 
-pub offset_bounds-ns-i-in-loop-i : goal.offset_bounds-ns-i-in-loop-i
-offset_bounds-ns-i-in-loop-i c = omega arith
-
-pub bounds-ns-i-in-loop-i : goal.bounds-ns-i-in-loop-i
-bounds-ns-i-in-loop-i c = omega arith
-
-pub loop-i-smaller : goal.loop-i-smaller
-loop-i-smaller c = omega arith
-
-pub loop-i-preserved : goal.loop-i-preserved
-loop-i-preserved c =
-    let q = turn (goal.at.loop-i-preserved c).After-number_size-p in
-    let v = get_or c.args.ns.now (c.loop-i.i - 1) 0 in
-    let h : c.loop-i.i - 1 < length c.args.ns.now = omega arith in
-    let i : c.loop-i.i - 1 + 1 ≡ c.loop-i.i = omega arith in
-    let m = rw i at (octets-more c.args.ns.now (c.loop-i.i - 1) h) in
-    let e : c.loop-i.p ≡ c.loop-i.p - c.number_size-p.result + length (septets v) = omega arith in
-    let o = rw e at c.loop-i.invariant.1.1.1 in
-    let w = append-done c.args.out.now (c.loop-i.p - c.number_size-p.result) (septets v) (oid_octets (drop c.loop-i.i c.args.ns.now)) _ c.loop-i.out o _ _
-    c.write_septets.ensures in (
-      omega arith,
-      (
-        c.write_septets.auto.out ∙ c.loop-i.invariant.1.0,
-        (omega arith, rw m w.1),
-      ),
-    )
-
-pub shape_of-out : goal.shape_of-out
-shape_of-out c = c.loop-i.invariant.1.0
+pub loop-n-preserved : goal.loop-n-preserved
+loop-n-preserved c =
+    let l = c.loop-n in
+    let n = c.in-Some.n.now in
+    let e = before _ _ l.invariant.done c.args.ns.now n c.in-Some.ensures.steps l.invariant.split in
+    let t = turn c.args.at l.p c.number_size-p.result n _ l.invariant.done c.args.ns.now e c.number_size-p.ensures.value
+    (l.invariant.size ∙ ap (λ (n : ℕ). c.args.at + n) c.oid_size-n.ensures) in
+    let p : l.p ≡ l.p - c.number_size-p.result + length (septets n) = omega (arith, t.0, c.number_size-p.ensures.value) in
+    let o = rw p at l.invariant.placed in
+    let w = append-done c.args.out.now (l.p - c.number_size-p.result) (septets n) (oid_octets l.invariant.done) _ l.out o _ _ c.write_septets.ensures in
+    record {
+      done = n ∷ l.invariant.done;
+      split = e;
+      size = t.1 ∙ ap (λ (n : ℕ). c.args.at + n) (sym c.oid_size-n.ensures);
+      placed = rw octets-cons w.1;
+    }
 
 pub returns : goal.returns
 returns c =
-    let z : c.loop-i.i ≡ 0 = omega arith in
-    let t = rw z at c.loop-i.invariant.1.1.0 in
-    let p : c.loop-i.p ≡ c.args.at = omega arith in
-    put-oid _ _ _ (fine (goal.at.returns c).Else-not-in_range) ∙ rw (z, p) at c.loop-i.invariant.1.1.1
+    let l = c.loop-n in
+    let d = all _ l.invariant.done c.args.ns.now c.in-None.ensures.steps.0 l.invariant.split in
+    let s = rw d at l.invariant.size in
+    let p : l.p ≡ c.args.at = omega (arith, s, c.oid_size-n.ensures) in
+    put-oid _ _ _ (sym c.in_range.ensures ∙ c.if-not-in_range.false) ∙ rw (d, p) at l.invariant.placed
