@@ -7,16 +7,8 @@ ghost use Rattle.ber_integers.specs.Digits.{outcome};
 ghost use Rattle.ber_reals.specs.Write.{octets, form};
 ghost use Rattle.ber_values.specs.Write.{Sealable, put_head, bool_octet, part, put_part, put_primitive, put_value};
 
-use base_casts::word;
 use ber_integers::Wrote;
 use ber_values::Value;
-
-fn small(x: usize) -> u8
-    requires { x < 256 }
-    ensures { result ≡ x }
-{
-    x as u8
-}
 
 // Content octets that stand two octets past `at`, fewer than 128, get their tag and length.
 fn sealed(kind: u8, w: Wrote, out: &mut [u8], at: usize) -> Wrote
@@ -25,7 +17,7 @@ fn sealed(kind: u8, w: Wrote, out: &mut [u8], at: usize) -> Wrote
 {
     match w {
         Wrote::Next(e) => {
-            out[at + 1] = small(e - (at + 2));
+            out[at + 1] = (e - (at + 2)) as u8;
             out[at] = kind;
             Wrote::Next(e)
         }
@@ -95,11 +87,7 @@ pub fn write_part(src: &[u8], start: usize, len: usize, out: &mut [u8], at: usiz
     if out.len() - len < at {
         return Wrote::Out;
     }
-    let mut i = len;
-    while 0 < i {
-        i = i - 1;
-        out[at + i] = src[start + i];
-    }
+    out[at..at + len].copy_from_slice(&src[start..start + len]);
     Wrote::Next(at + len)
 }
 
@@ -108,7 +96,7 @@ fn write_text(kind: u8, src: &[u8], start: usize, len: usize, out: &mut [u8], at
     requires { kind < 31 }
     ensures { put_primitive out.old at kind (part src.now start len) ≡ outcome result out.new }
 {
-    let n = word(len);
+    let n = len as u64;
     if 4294967295 < n {
         return Wrote::Out;
     }
