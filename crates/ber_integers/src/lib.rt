@@ -3,13 +3,9 @@
 
 ghost use Rattle.std.specs.Prelude.{◌≡◌, [], ◌∷◌, ◌+◌, ◌-◌, ◌*◌, ◌^◌, ◌%◌, ◌≤◌, ◌<◌, length, take, drop, get_or};
 ghost use Rattle.std.specs.Int.Signed.{mag};
-ghost use Rattle.std.specs.Int.{w64};
-ghost use Rattle.std.proofs.Common.{of_z};
 ghost use Rattle.ber_integers.specs.Digits.{natural, digits, count, put, outcome};
 ghost use Rattle.ber_integers.specs.Readings.{Promised, integer_says, integer_or, natural_says, natural_or};
 ghost use Rattle.ber_integers.specs.Integer.{size_by, nine, unsigned_at, signed_at, integer_at, shortest};
-
-use base_casts::wide;
 
 // A natural number read, or octets refused.
 #[derive(Clone, Copy)]
@@ -108,7 +104,7 @@ fn nine_bits(s: &[u8], at: usize) -> u64
     requires { at + 2 ≤ length s.now }
     ensures { result ≡ nine (get_or s.now at 0) (get_or s.now (at + 1) 0) }
 {
-    (wide(s[at]) * 256 + wide(s[at + 1])) / 128
+    (u64::from(s[at]) * 256 + u64::from(s[at + 1])) / 128
 }
 
 // The integer whose content octets are the n octets at a position.
@@ -160,23 +156,13 @@ pub fn magnitude(x: i64) -> u64
     if x < 0 { (!x) as u64 } else { x as u64 }
 }
 
-// The bits in two's complement.
-fn bits_of(x: i64) -> u64
-    ensures { result ≡ of_z w64 x }
-{
-    if x < 0 {
-        0xFFFF_FFFF_FFFF_FFFF - magnitude(x)
-    } else {
-        magnitude(x)
-    }
-}
-
 // The fewest octets that hold m and a sign bit.
 fn size_of(m: u64) -> usize
     ensures { result ≡ size_by m m }
 {
     let mut r = m;
     let mut n: usize = 1;
+    // No index is counted: the loop ends where r is small.
     while 128 <= r {
         r = r / 256;
         n = n + 1;
@@ -189,7 +175,7 @@ pub fn write_int(x: i64, out: &mut [u8], at: usize) -> Wrote
     ensures { put out.old at (shortest x) ≡ outcome result out.new }
 {
     let n = size_of(magnitude(x));
-    write_octets(bits_of(x), n, out, at)
+    write_octets(x.cast_unsigned(), n, out, at)
 }
 
 // How many digits v has in a base, none for 0.
@@ -199,6 +185,7 @@ fn digit_count(base: u64, v: u64) -> usize
 {
     let mut r = v;
     let mut n: usize = 0;
+    // No index is counted: the loop ends where no digit is left.
     while 0 < r {
         r = r / base;
         n = n + 1;

@@ -30,8 +30,8 @@ loop-b-preserved c =
 
 pub returns-clause-value : goal.returns-clause-value
 returns-clause-value c =
-    let e = horner-done 256 c.loop-b.acc _ c.loop-b.b-index c.loop-b-test.false in
     let n : c.args.at + c.args.n - c.args.at ≡ c.args.n = omega arith in
+    let e = horner-done 256 c.loop-b.acc _ c.loop-b.b-index c.loop-b-test.false in
     sym e ∙ c.loop-b.invariant.rest ∙ ap (λ (m : ℕ). natural (take m (drop c.args.at c.args.s.now))) n
 
 pub returns-clause-upper_bound : goal.returns-clause-upper_bound

@@ -1,33 +1,18 @@
 use Rattle.ber_integers.proofs.Promises.{promised, integer-row}
-use Prim.Native.Nat.{ℕ, ◌≤◌, ◌<◌, ◌+◌, ◌-◌, ◌^◌}
+use Prim.Native.Nat.{◌<◌, ◌-◌, ◌^◌}
 use mathlib.Core.Path.{sym, ap, ◌∙◌}
 use native.Mathlib.Omega.{arith}
-use lib.ListN.{length, get_or}
 use mir.Syntax.{w64}
 use mir.Facts.{to_z_pos}
 use Rattle.ber_integers.specs.declared.Number.TheVariants.{Int}
 use Rattle.ber_integers.proofs.Laws.{signed-out, signed-none, signed-long, signed_is}
 use Rattle.ber_integers.proofs.Signs.{low_fits, low-is, high_fits, high_is, minus-fits, minus_is}
-use Rattle.ber_integers.proofs.read_signed.Goals.{After-ones, After-shared_slice_known-2-1}
+use Rattle.ber_integers.proofs.read_signed.Goals.{After-ones}
 use Rattle.ber_integers.proofs.read_signed.Goals as goal
-
--- what is known after the octets are read
-module _ (c : After-shared_slice_known-2-1) where
-  bytes : (i : ℕ) → get_or c.args.s.now i 0 < 256
-  bytes i = (c.shared_slice_known-2-1.given i).fits
-
-  some : 0 < c.args.n
-  some = omega (arith, c.if-n-eq0.false)
-
-  few : c.args.n ≤ 8
-  few = c.if-n-gt8.false
-
-  within : c.args.at + c.args.n ≤ length c.args.s.now
-  within = omega arith
 
 far : (c : After-ones) → c.ones.result - c.natural_of-v.result < 2 ^ 63
 far c =
-    rw c.natural_of-v.ensures.value (high_fits _ _ _ (λ i. (c.shared_slice_known-2-1.given i).fits) (omega (arith, c.if-n-eq0.false)) c.if-n-gt8.false (omega arith) c.if-s-at-lt128.false c.ones.result c.ones.ensures)
+    rw c.natural_of-v.ensures.value (high_fits _ _ _ (λ i. (c.type_inv.s i).fits) (omega (arith, c.if-n-eq0.false)) c.if-n-gt8.false (omega arith) c.if-s-at-lt128.false c.ones.result c.ones.ensures)
 
 pub returns-then-s-n : goal.returns-then-s-n
 returns-then-s-n c = promised integer-row (signed-out _ _ _ (omega arith))
@@ -45,7 +30,7 @@ pub overflow_cast-result : goal.overflow_cast-result
 overflow_cast-result c =
     record {
       sfits = rw c.natural_of-v.ensures.value
-          (low_fits _ _ _ (bytes (goal.at.overflow_cast-result c).After-shared_slice_known-2-1) (some (goal.at.overflow_cast-result c).After-shared_slice_known-2-1) (few (goal.at.overflow_cast-result c).After-shared_slice_known-2-1) (within (goal.at.overflow_cast-result c).After-shared_slice_known-2-1) c.if-s-at-lt128.true);
+          (low_fits _ _ _ (λ i. (c.type_inv.s i).fits) (omega (arith, c.if-n-eq0.false)) c.if-n-gt8.false (omega arith) c.if-s-at-lt128.true);
     }
 
 pub overflow_cast-result-else-s-at-lt128 : goal.overflow_cast-result-else-s-at-lt128
@@ -57,11 +42,11 @@ overflow_sub-result-else-s-at-lt128 c = minus-fits _ (far c)
 pub returns-then-s-at-lt128 : goal.returns-then-s-at-lt128
 returns-then-s-at-lt128 c =
     promised integer-row (let e = c.natural_of-v.ensures.value in
-    let k = low_fits _ _ _ (bytes (goal.at.returns-then-s-at-lt128 c).After-shared_slice_known-2-1) (some (goal.at.returns-then-s-at-lt128 c).After-shared_slice_known-2-1) (few (goal.at.returns-then-s-at-lt128 c).After-shared_slice_known-2-1) (within (goal.at.returns-then-s-at-lt128 c).After-shared_slice_known-2-1) c.if-s-at-lt128.true in
-    ap Int (rw e (to_z_pos w64 k) ∙ sym (low-is _ _ _ (bytes (goal.at.returns-then-s-at-lt128 c).After-shared_slice_known-2-1) (some (goal.at.returns-then-s-at-lt128 c).After-shared_slice_known-2-1) (few (goal.at.returns-then-s-at-lt128 c).After-shared_slice_known-2-1) (within (goal.at.returns-then-s-at-lt128 c).After-shared_slice_known-2-1) c.if-s-at-lt128.true)) ∙ signed_is _ _ _ (within (goal.at.returns-then-s-at-lt128 c).After-shared_slice_known-2-1) (some (goal.at.returns-then-s-at-lt128 c).After-shared_slice_known-2-1) (few (goal.at.returns-then-s-at-lt128 c).After-shared_slice_known-2-1))
+    let k = low_fits _ _ _ (λ i. (c.type_inv.s i).fits) (omega (arith, c.if-n-eq0.false)) c.if-n-gt8.false (omega arith) c.if-s-at-lt128.true in
+    ap Int (rw e (to_z_pos w64 k) ∙ sym (low-is _ _ _ (λ i. (c.type_inv.s i).fits) (omega (arith, c.if-n-eq0.false)) c.if-n-gt8.false (omega arith) c.if-s-at-lt128.true)) ∙ signed_is _ _ _ (omega arith) (omega (arith, c.if-n-eq0.false)) c.if-n-gt8.false)
 
 pub returns-else-s-at-lt128 : goal.returns-else-s-at-lt128
 returns-else-s-at-lt128 c =
     promised integer-row (ap Int (minus_is _ (far c) ∙ rw c.natural_of-v.ensures.value
-    (sym (high_is _ _ _ (bytes (goal.at.returns-else-s-at-lt128 c).After-shared_slice_known-2-1) (some (goal.at.returns-else-s-at-lt128 c).After-shared_slice_known-2-1) (few (goal.at.returns-else-s-at-lt128 c).After-shared_slice_known-2-1) (within (goal.at.returns-else-s-at-lt128 c).After-shared_slice_known-2-1) c.if-s-at-lt128.false c.ones.result c.ones.ensures)))
-    ∙ signed_is _ _ _ (within (goal.at.returns-else-s-at-lt128 c).After-shared_slice_known-2-1) (some (goal.at.returns-else-s-at-lt128 c).After-shared_slice_known-2-1) (few (goal.at.returns-else-s-at-lt128 c).After-shared_slice_known-2-1))
+    (sym (high_is _ _ _ (λ i. (c.type_inv.s i).fits) (omega (arith, c.if-n-eq0.false)) c.if-n-gt8.false (omega arith) c.if-s-at-lt128.false c.ones.result c.ones.ensures)))
+    ∙ signed_is _ _ _ (omega arith) (omega (arith, c.if-n-eq0.false)) c.if-n-gt8.false)

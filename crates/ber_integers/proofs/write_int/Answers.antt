@@ -17,7 +17,7 @@ returns c =
     c.magnitude.ensures.value ∙ ap mag r in
     let n : c.size_of-n.result ≡ size x = c.size_of-n.ensures
     ∙ ap (λ (i : ℕ). size_by i i) m in
-    let b : c.bits_of.result ≡ of_z w64 x = c.bits_of.ensures ∙ ap (of_z w64) r in
-    let e : digits 256 c.size_of-n.result c.bits_of.result ≡ shortest x =
+    let b : c.cast_unsigned.result ≡ of_z w64 x = c.cast_unsigned.ensures ∙ ap (of_z w64) r in
+    let e : digits 256 c.size_of-n.result c.cast_unsigned.result ≡ shortest x =
     rw (n, b) (bits-octets x c.ranges.x) in
     ap (put c.args.out.now c.args.at) (sym e) ∙ c.write_octets.ensures
