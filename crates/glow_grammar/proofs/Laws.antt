@@ -1,14 +1,16 @@
 -- One law for each answer of the definitions by which a number or a name fits, at plain variables.
-use Prim.Native.Nat.{ℕ, zero, suc, ◌+◌, ◌-◌, ◌≤◌, ◌<◌}
+use Prim.Native.Nat.{ℕ, zero, suc, ◌+◌, ◌-◌, ◌≤◌, ◌<◌, min}
 use mathlib.Core.Path.{◌≡◌, refl, sym, ap, ◌∙◌}
 use mathlib.Core.List.{List, [], ◌∷◌}
-use mathlib.Core.Bool.{Bool, true, false}
-use mathlib.Core.Logic.{⊎_elim}
+use mathlib.Core.Bool.{Bool, true, false, not, ◌||◌}
+use Rattle.std.specs.List.{list_any}
+use mathlib.Core.Logic.{◌⊎◌, ⊎_elim}
 use native.Mathlib.Omega.{arith}
 use borrow.Author.Tests.{eqb-true, le-leb, lt-leb, eq-eqb, ne_eqb}
 use lib.ListN.{length, take, drop, get_or, drop_of_length-le, length-drop}
-use lib.Seq.{drop-cons, take_all}
+use lib.Seq.{take_all}
 use lib.Dec.{leb, eqb}
+use Rattle.std.proofs.lemmas.List.{take_min}
 use lib.IntN.{ℤ, pos, negsuc}
 use mir.Syntax.{w64}
 use mir.Val.{SFits}
@@ -126,78 +128,60 @@ word-range what (negsuc n) h = go (eqb what 9) refl
 
 -- identifiers
 module _ (b : ℕ) where
-  pub letter-low : 97 ≤ b → is_letter b ≡ leb b 122
+  pub letter_in : ((65 ≤ b) × (b ≤ 90)) ⊎ ((97 ≤ b) × (b ≤ 122)) → is_letter b ≡ true
   unfolding is_letter
-  letter-low h = simp (le-leb _ _ h)
+  letter_in =
+      ⊎_elim
+      (λ (h : (65 ≤ b) × (b ≤ 90)). let l : b < 97 = omega arith in simp (lt-leb _ _ l, le-leb _ _ h.0, le-leb _ _ h.1))
+      (λ (h : (97 ≤ b) × (b ≤ 122)). simp (le-leb _ _ h.0, le-leb _ _ h.1))
 
-  pub letter-upper : b < 97 → 65 ≤ b → b ≤ 90 → is_letter b ≡ true
+  pub letter-out : ((b < 65) ⊎ (90 < b)) × ((b < 97) ⊎ (122 < b)) → is_letter b ≡ eqb b 95
   unfolding is_letter
-  letter-upper h k l = simp (lt-leb _ _ h, le-leb _ _ k, le-leb _ _ l)
+  letter-out h =
+      ⊎_elim
+      (λ (l : b < 97).
+      ⊎_elim (λ (k : b < 65). let d : b ≡ 95 → ⊥ = λ e. omega arith in simp (lt-leb _ _ l, lt-leb _ _ k, ne_eqb _ _ d))
+      (λ (k : 90 < b). let m : 65 ≤ b = omega arith in simp (lt-leb _ _ l, le-leb _ _ m, lt-leb _ _ k)) h.0)
+      (λ (l : 122 < b).
+      let m : 97 ≤ b = omega arith in
+      let d : b ≡ 95 → ⊥ = λ e. omega arith in
+      simp (le-leb _ _ m, lt-leb _ _ l, ne_eqb _ _ d))
+      h.1
 
-  pub letter-line : b < 97 → 65 ≤ b → 90 < b → is_letter b ≡ eqb b 95
-  unfolding is_letter
-  letter-line h k l = simp (lt-leb _ _ h, le-leb _ _ k, lt-leb _ _ l)
+slash-any : (bs : List ℕ) → no_slash bs ≡ not (list_any (λ (y : ℕ). eqb y 47) bs)
+unfolding no_slash
+slash-any [] = refl
+slash-any (b ∷ bs) = go (eqb b 47) _ _ (slash-any bs)
+  where
+    go : (t : Bool) (n a : Bool) → n ≡ not a → pick t false n ≡ not (t || a)
+    go true n a e = refl
+    go false n a e = e
 
-  pub letter-none : b < 97 → b < 65 → is_letter b ≡ false
-  unfolding is_letter
-  letter-none h k = simp (lt-leb _ _ h, lt-leb _ _ k)
+-- a text that the message cuts off
+-- a text, as far as the message holds it
+pub name-cut : (s : List ℕ) (start len m : ℕ) → m ≡ min len (length s - start)
+    → take m (take (length s - start) (drop start s)) ≡ take len (drop start s)
+name-cut s start len m e =
+    let l = length-drop start s in
+    let d : m ≡ min len (length (drop start s)) = e ∙ ap (min len) (sym l) in
+    ap (take m) (take_all (length s - start) (drop start s) (omega arith)) ∙ rw d (take_min len (drop start s))
 
-pub seen_here : (b x : ℕ) → b ≡ 47 → eqb 1 0 ≡ pick (eqb b 47) false (eqb x 0)
-seen_here b x h = simp (eq-eqb _ _ h)
+pub name-none : (bs : List ℕ) → length bs < 1 → is_name bs ≡ false
+unfolding is_name
+name-none [] e = refl
+name-none (b ∷ bs) e = absurd (omega (arith, e))
 
-pub seen-not : (b x : ℕ) → (b ≡ 47 → ⊥) → eqb x 0 ≡ pick (eqb b 47) false (eqb x 0)
-seen-not b x h = simp (ne_eqb _ _ h)
+pub name-end : (s : List ℕ) (i n : ℕ) → length s ≤ i → is_name (take n (drop i s)) ≡ false
+unfolding is_name
+name-end s i zero h = refl
+name-end s i (suc n) h = rw (drop_of_length-le s h)
 
-module _ (s : List ℕ) where
-  part-one : (i n : ℕ) → i < length s → take (suc n) (drop i s) ≡ get_or s i 0 ∷ take n (drop (i + 1) s)
-  part-one i n h = let d : i + 1 ≡ suc i = omega arith in rw (d, drop-cons s i 0 h)
+pub name-letter : (bs : List ℕ) → is_letter (get_or bs 0 0) ≡ false → is_name bs ≡ false
+unfolding is_name
+name-letter [] e = refl
+name-letter (b ∷ bs) e = rw e
 
-  part_none : (i n : ℕ) → length s ≤ i → take n (drop i s) ≡ []
-  part_none i zero h = refl
-  part_none i (suc n) h = rw (drop_of_length-le s h)
-
-  -- one octet more, and none left
-  pub slash-step : (i to before after : ℕ) → i < to → to ≤ length s → eqb after 0 ≡ pick (eqb (get_or s i 0) 47) false (eqb before 0)
-      → both (eqb before 0) (no_slash (take (to - i) (drop i s))) ≡ both (eqb after 0) (no_slash (take (to - (i + 1)) (drop (i + 1) s)))
-  unfolding no_slash
-  slash-step i to before after h k e =
-      let d : to - i ≡ suc (to - (i + 1)) = omega arith in
-      let l : i < length s = omega arith in
-      rw (d, part-one i (to - (i + 1)) l, e) (go (eqb (get_or s i 0) 47) (eqb before 0) (no_slash (take (to - (i + 1)) (drop (i + 1) s))))
-    where
-      go : (t x n : Bool) → both x (pick t false n) ≡ both (pick t false x) n
-      go true true n = refl
-      go true false n = refl
-      go false x n = refl
-
-  pub slash-done : (i to before : ℕ) → to ≤ i → both (eqb before 0) (no_slash (take (to - i) (drop i s))) ≡ eqb before 0
-  unfolding no_slash
-  slash-done i to before h = let d : to - i ≡ 0 = omega arith in rw d (go (eqb before 0))
-    where
-      go : (x : Bool) → both x true ≡ x
-      go true = refl
-      go false = refl
-
-  -- a text that the message cuts off
-  pub text-cut : (start len : ℕ) → length s - start ≤ len → take len (drop start s) ≡ take (length s - start) (drop start s)
-  text-cut start len h =
-      let d = length-drop start s in
-      take_all len (drop start s) (omega arith) ∙ sym (take_all (length s - start) (drop start s) (omega arith))
-
-  pub name-none : (i n : ℕ) → n ≡ 0 → is_name (take n (drop i s)) ≡ false
-  unfolding is_name
-  name-none i n e = rw e
-
-  pub name-end : (i n : ℕ) → length s ≤ i → is_name (take n (drop i s)) ≡ false
-  unfolding is_name
-  name-end i n h = rw (part_none i n h)
-
-  pub name-letter : (i n : ℕ) → (n ≡ 0 → ⊥) → i < length s → is_letter (get_or s i 0) ≡ false → is_name (take n (drop i s)) ≡ false
-  unfolding is_name
-  name-letter i zero l h e = absurd (l refl)
-  name-letter i (suc n) l h e = rw (part-one i n h, e)
-
-  pub name-rest : (i n : ℕ) → (n ≡ 0 → ⊥) → i < length s → is_letter (get_or s i 0) ≡ true → is_name (take n (drop i s)) ≡ no_slash (take n (drop i s))
-  unfolding is_name
-  name-rest i zero l h e = absurd (l refl)
-  name-rest i (suc n) l h e = rw (part-one i n h, e)
+pub name-rest : (bs : List ℕ) → 1 ≤ length bs → is_letter (get_or bs 0 0) ≡ true → is_name bs ≡ not (list_any (λ (y : ℕ). eqb y 47) bs)
+unfolding is_name
+name-rest [] h e = absurd (omega (arith, h))
+name-rest (b ∷ bs) h e = rw e (slash-any (b ∷ bs))

@@ -42,7 +42,7 @@ says (e ∷ l) i (suc k) v h =
     let q : i + suc k ≡ suc i + k = omega arith in
     says l (suc i) k v (subst (λ (n : ℕ). Says l (suc i) n v) q h.1)
 
-table_at : (l : List ℕ) (n v : ℕ) → Says l 0 n v → get_or l n 0 ≡ v
+pub table_at : (l : List ℕ) (n v : ℕ) → Says l 0 n v → get_or l n 0 ≡ v
 table_at l n v h = let q : n ≡ 0 + n = omega arith in says l 0 n v (subst (λ (m : ℕ). Says l 0 m v) q h)
 
 pub rule-at : (row n v : ℕ) → Says (get_or members row []) 0 n v → rule_of row n ≡ v

@@ -6,11 +6,10 @@ pub mod rows;
 pub mod rules;
 pub mod tags;
 
-ghost use Rattle.std.specs.Prelude.{◌≡◌, ◌-◌, ◌≤◌, false, eqb, length, take, drop};
-ghost use Rattle.base_choices.specs.Choices.{pick};
-ghost use Rattle.glow_grammar.specs.Grammar.{rule_of, required, is_set, contents_of, kind_in};
+ghost use Rattle.std.specs.Prelude.{◌≡◌, [], ◌∷◌, get_or, take, drop};
+ghost use Rattle.glow_grammar.specs.Grammar.{no, body, kids, links, rule_of, required, is_set, contents_of, kind_in};
 ghost use Rattle.ber_values.specs.Value.{is_listed};
-ghost use Rattle.glow_grammar.specs.Leaf.{expects, least, most, word_in, is_letter, no_slash, is_name};
+ghost use Rattle.glow_grammar.specs.Leaf.{expects, least, most, word_in, is_letter, is_name};
 
 use glow_rows::{Cell, kinds, tags as universal};
 
@@ -21,15 +20,25 @@ pub enum Leaf {
     Refused(u64, usize),
 }
 
-// The members of each row, by context number.
-fn of_element(n: u64) -> u64
-    ensures { rule_of 1 n ≡ result }
+// The members of each row, by context number: of an element, whose key is its number or its path.
+fn of_element(key: u64, n: u64) -> u64
+    ensures { get_or (key ∷ body ∷ kids ∷ []) n no ≡ result }
 {
     match n {
-        0 => rules::STEP,
+        0 => key,
         1 => rules::BODY,
         2 => rules::KIDS,
         _ => rules::NONE,
+    }
+}
+
+// The same of a matrix.
+fn of_matrix(key: u64, n: u64) -> u64
+    ensures { get_or (key ∷ body ∷ kids ∷ no ∷ no ∷ links ∷ []) n no ≡ result }
+{
+    match n {
+        5 => rules::LINKS,
+        _ => of_element(key, n),
     }
 }
 
@@ -39,41 +48,6 @@ fn of_command(n: u64) -> u64
     match n {
         0 => rules::INT_32,
         1 => rules::INT_32,
-        _ => rules::NONE,
-    }
-}
-
-fn of_matrix(n: u64) -> u64
-    ensures { rule_of 4 n ≡ result }
-{
-    match n {
-        0 => rules::STEP,
-        1 => rules::BODY,
-        2 => rules::KIDS,
-        5 => rules::LINKS,
-        _ => rules::NONE,
-    }
-}
-
-fn of_qualified(n: u64) -> u64
-    ensures { rule_of 5 n ≡ result }
-{
-    match n {
-        0 => rules::PATH,
-        1 => rules::BODY,
-        2 => rules::KIDS,
-        _ => rules::NONE,
-    }
-}
-
-fn of_qualified_matrix(n: u64) -> u64
-    ensures { rule_of 7 n ≡ result }
-{
-    match n {
-        0 => rules::PATH,
-        1 => rules::BODY,
-        2 => rules::KIDS,
-        5 => rules::LINKS,
         _ => rules::NONE,
     }
 }
@@ -144,13 +118,13 @@ pub fn rule_of(row: u64, n: u64) -> u64
     ensures { rule_of row n ≡ result }
 {
     match row {
-        kinds::PARAMETER => of_element(n),
+        kinds::PARAMETER => of_element(rules::STEP, n),
         kinds::COMMAND => of_command(n),
-        kinds::NODE => of_element(n),
-        kinds::MATRIX => of_matrix(n),
-        kinds::QUALIFIED_PARAMETER => of_qualified(n),
-        kinds::QUALIFIED_NODE => of_qualified(n),
-        kinds::QUALIFIED_MATRIX => of_qualified_matrix(n),
+        kinds::NODE => of_element(rules::STEP, n),
+        kinds::MATRIX => of_matrix(rules::STEP, n),
+        kinds::QUALIFIED_PARAMETER => of_element(rules::PATH, n),
+        kinds::QUALIFIED_NODE => of_element(rules::PATH, n),
+        kinds::QUALIFIED_MATRIX => of_matrix(rules::PATH, n),
         kinds::CONNECTION => of_connection(n),
         kinds::STREAM_ENTRY => of_stream_entry(n),
         rows::PARAMETER_CONTENTS => of_parameter(n),
@@ -311,63 +285,19 @@ pub fn in_range(what: u64, w: u64) -> bool
 fn is_letter(b: u8) -> bool
     ensures { is_letter b ≡ result }
 {
-    if 97 <= b {
-        return b <= 122;
-    }
-    if 65 <= b {
-        if b <= 90 {
-            return true;
-        }
-        return b == 95;
-    }
-    false
-}
-
-// Whether a "/" was seen, or this octet is one: 1, else 0.
-fn seen(before: u8, b: u8) -> u8
-    ensures { eqb result 0 ≡ pick (eqb b 47) false (eqb before 0) }
-{
-    if b == 47 { 1 } else { before }
-}
-
-// Whether no octet from one place up to another is "/". No octet ends the loop, so that a processor looks at many at a time.
-fn no_slash(s: &[u8], from: usize, to: usize) -> bool
-    requires { (from ≤ to) × (to ≤ length s.now) }
-    ensures { no_slash (take (to - from) (drop from s.now)) ≡ result }
-{
-    let mut slash: u8 = 0;
-    let mut i = from;
-    while i < to {
-        slash = seen(slash, s[i]);
-        i += 1;
-    }
-    slash == 0
-}
-
-// Where the octets of a text end, or the message.
-fn end_of(s: &[u8], start: usize, len: usize) -> usize
-    requires { start ≤ length s.now }
-    ensures lower_bound { (start ≤ result) × (result ≤ length s.now) }
-    ensures s_value { take len (drop start s.now) ≡ take (result - start) (drop start s.now) }
-{
-    if s.len() - start < len {
-        return s.len();
-    }
-    start + len
+    b.is_ascii_alphabetic() || b == b'_'
 }
 
 // Whether a text is an identifier.
 pub fn is_name(s: &[u8], start: usize, len: usize) -> bool
     ensures { is_name (take len (drop start s.now)) ≡ result }
 {
-    if len == 0 {
-        return false;
-    }
     if s.len() <= start {
         return false;
     }
-    if !is_letter(s[start]) {
+    let name = &s[start..][..len.min(s.len() - start)];
+    let [first, ..] = name else {
         return false;
-    }
-    no_slash(s, start, end_of(s, start, len))
+    };
+    is_letter(*first) && !name.contains(&b'/')
 }

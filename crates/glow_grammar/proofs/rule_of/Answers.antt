@@ -3,6 +3,7 @@ use Rattle.glow_grammar.proofs.Tables.{rule-row, rule-none}
 use Rattle.glow_grammar.proofs.rule_of.Goals as goal
 
 pub returns-in-1 : goal.returns-in-1
+unfolding rule_of members
 returns-in-1 c = rule-row _ c.in-1.is c.of_element.ensures
 
 pub returns-in-2 : goal.returns-in-2
@@ -13,17 +14,20 @@ unfolding rule_of members
 returns-in-3 c = rule-row _ c.in-3.is c.of_element-in-3.ensures
 
 pub returns-in-4 : goal.returns-in-4
+unfolding rule_of members
 returns-in-4 c = rule-row _ c.in-4.is c.of_matrix.ensures
 
 pub returns-in-5 : goal.returns-in-5
-returns-in-5 c = rule-row _ c.in-5.is c.of_qualified.ensures
+unfolding rule_of members
+returns-in-5 c = rule-row _ c.in-5.is c.of_element-in-5.ensures
 
 pub returns-in-6 : goal.returns-in-6
 unfolding rule_of members
-returns-in-6 c = rule-row _ c.in-6.is c.of_qualified-in-6.ensures
+returns-in-6 c = rule-row _ c.in-6.is c.of_element-in-6.ensures
 
 pub returns-in-7 : goal.returns-in-7
-returns-in-7 c = rule-row _ c.in-7.is c.of_qualified_matrix.ensures
+unfolding rule_of members
+returns-in-7 c = rule-row _ c.in-7.is c.of_matrix-in-7.ensures
 
 pub returns-in-8 : goal.returns-in-8
 returns-in-8 c = rule-row _ c.in-8.is c.of_connection.ensures
