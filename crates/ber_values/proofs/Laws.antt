@@ -8,6 +8,7 @@ use native.Mathlib.Omega.{arith}
 use borrow.Author.Tests.{le-leb, lt-leb, eq-eqb, ne_eqb}
 use lib.ListN.{length, take, drop, get_or}
 use lib.Dec.{leb, eqb}
+use Rattle.ber_integers.proofs.Radix.{lt-or-le}
 use Rattle.ber_integers.specs.Integer.{integer_at}
 use Rattle.ber_integers.proofs.Laws.{part-cons, length_part}
 use Rattle.ber_reals.specs.Real.{real_at}
@@ -151,6 +152,9 @@ listed-1 kind e = rw e
 pub listed-2 : (kind : ℕ) → kind ≡ 2 → true ≡ is_listed kind
 unfolding is_listed
 listed-2 kind e = rw e
+
+pub listed-small : (kind : ℕ) → 1 ≤ kind → kind ≤ 2 → true ≡ is_listed kind
+listed-small kind h k = ⊎_elim (λ (l : kind < 2). listed-1 kind (omega arith)) (λ (l : 2 ≤ kind). listed-2 kind (omega arith)) (lt-or-le kind 2)
 
 pub listed-4 : (kind : ℕ) → kind ≡ 4 → true ≡ is_listed kind
 unfolding is_listed

@@ -55,13 +55,7 @@ pub fn read_bool(s: &[u8], at: usize, n: usize) -> Flag
 fn holds(s: &[u8], start: usize, len: usize) -> bool
     ensures { result ≡ leb (start + len) (length s.now) }
 {
-    if s.len() < len {
-        return false;
-    }
-    if s.len() - len < start {
-        return false;
-    }
-    true
+    len <= s.len() && start <= s.len() - len
 }
 
 fn of_flag(f: Flag, at: usize, next: usize) -> Answer
@@ -113,22 +107,7 @@ fn of_real(x: Read, at: usize, next: usize) -> Answer
 fn listed(kind: u64) -> bool
     ensures { result ≡ is_listed kind }
 {
-    if kind == 1 {
-        return true;
-    }
-    if kind == 2 {
-        return true;
-    }
-    if kind == 4 {
-        return true;
-    }
-    if kind == 9 {
-        return true;
-    }
-    if kind == 12 {
-        return true;
-    }
-    false
+    matches!(kind, 1 | 2 | 4 | 9 | 12)
 }
 
 // The value of a listed kind, whose octets are there.
@@ -137,24 +116,18 @@ fn of_kind(s: &[u8], at: usize, kind: u64, start: usize, len: usize) -> Answer
     ensures { result ≡ kind_at s.now at kind start len }
 {
     let next = start + len;
-    if kind == 1 {
-        return of_flag(read_bool(s, start, len), at, next);
-    }
-    if kind == 2 {
-        return of_number(ber_integers::read_int(s, start, len), at, next);
-    }
-    if kind == 4 {
-        return Answer::Found {
+    match kind {
+        1 => of_flag(read_bool(s, start, len), at, next),
+        2 => of_number(ber_integers::read_int(s, start, len), at, next),
+        4 => Answer::Found {
             value: Value::Octets { start, len },
             next,
-        };
-    }
-    if kind == 9 {
-        return of_real(ber_reals::read_real(s, start, len), at, next);
-    }
-    Answer::Found {
-        value: Value::Text { start, len },
-        next,
+        },
+        9 => of_real(ber_reals::read_real(s, start, len), at, next),
+        _ => Answer::Found {
+            value: Value::Text { start, len },
+            next,
+        },
     }
 }
 
