@@ -52,10 +52,7 @@ struct Taken {
 fn first(sources: &[u64]) -> u64
     ensures { get_or sources.now 0 0 ≡ result }
 {
-    if 0 < sources.len() {
-        return sources[0];
-    }
-    0
+    sources.first().copied().unwrap_or(0)
 }
 
 // A source taken from every one of n targets, rows of w cells.
@@ -63,9 +60,7 @@ fn take_from(cells: &mut [u8], n: u64, w: u64, s: u64)
     requires { (length cells.old ≡ n * w) × (s + 1 ≤ w) }
     ensures { cells.new ≡ taken_from w cells.old s n }
 {
-    let mut t = n;
-    while 0 < t {
-        t -= 1;
+    for t in (0..n).rev() {
         let i = index(t * w + s);
         cells[i] = 0;
     }
@@ -90,18 +85,6 @@ fn free(f: Figures, sources: &[u64], operation: u64, ones: u64, cells: &mut [u8]
     take_from(cells, f.targets, f.sources, first(sources));
 }
 
-// One list of cells over another of the same length.
-fn copy(to: &mut [u8], from: &[u8])
-    requires { length to.old ≡ length from.now }
-    ensures { to.new ≡ from.now }
-{
-    let mut i = 0;
-    while i < from.len() {
-        to[i] = from[i];
-        i += 1;
-    }
-}
-
 // Other cells for a target.
 fn put_row(cells: &mut [u8], target: u64, row: &[u8])
     requires { target * length row.now + length row.now ≤ length cells.old }
@@ -110,7 +93,7 @@ fn put_row(cells: &mut [u8], target: u64, row: &[u8])
     let t = index(target);
     let from = t * row.len();
     let to = from + row.len();
-    copy(&mut cells[from..to], row);
+    cells[from..to].copy_from_slice(row);
 }
 
 // A request on a legal desk whose total is known; `row` is scratch, a cell for each source.
@@ -298,14 +281,12 @@ fn serve(
     ensures { served_in (desk_at f path.now cells.old) rows.now count s.now answers.old
         ≡ outcome 0 result answers.new cells.new }
 {
-    let mut i: usize = 0;
     let mut n: usize = 0;
     let mut total = desk_requests::total_of(f, cells);
-    while i < count {
+    for i in 0..count {
         let taken = take_entry(f, path, rows, count, i, s, cells, answers, n, total);
         n = taken.next;
         total = taken.total;
-        i += 1;
     }
     n
 }

@@ -1,32 +1,44 @@
 -- One law for each answer of the definitions, at plain variables.
 use Prim.Native.Nat.{ℕ, zero, suc, ◌+◌, ◌*◌, ◌≤◌, ◌<◌}
 use mathlib.Core.Path.{◌≡◌, refl, sym, ap, ◌∙◌}
-use mathlib.Core.List.{List, [], ◌∷◌, ◌++◌}
-use mathlib.Core.Bool.{true, false}
+use mathlib.Core.List.{List, [], ◌∷◌}
+use mathlib.Core.Bool.{Bool, true, false, true≢false}
+use mathlib.Core.Logic.{◌↔◌}
 use native.Mathlib.Omega.{arith}
-use borrow.Author.Tests.{lt-ltb, le-ltb, ne_eqb}
-use lib.ListN.{length, take, drop, get_or, set}
-use lib.Seq.{take-suc, take-suc-set, take_all}
+use borrow.Author.Tests.{lt-ltb, le-ltb, ltb-true, ne_eqb}
+use lib.ListN.{length, drop, get_or, set}
 use lib.Dec.{ltb, eqb}
 use Rattle.desk_crosspoints.specs.declared.Figures.{Figures}
-use Rattle.base_choices.specs.Choices.{both}
+use Rattle.base_choices.specs.Choices.{pick, both}
 use Rattle.desk_crosspoints.specs.Crosspoints.{Cells, count, clear, taken_from}
 use Rattle.desk_crosspoints.proofs.Laws.{part_none, part-one, both-no, both_yes}
 use Rattle.desk_requests.specs.Request.{marked, named, all_below, replaces, becomes}
 
 -- loops over a list
-module _ (l : List ℕ) (i : ℕ) where
-  pub below_end : (n : ℕ) → length l ≤ i → all_below n (drop i l) ≡ true
-  unfolding all_below
-  below_end n h = rw (part_none l i h)
+below-tell : (n : ℕ) (l : List ℕ) → all_below n l ≡ true → (k : ℕ) → k < length l → get_or l k 0 < n
+unfolding all_below
+below-tell n [] h k q = absurd (omega (arith, q))
+below-tell n (s ∷ ss) h k q = go (ltb s n) refl h (λ (e : all_below n ss ≡ true) (j : ℕ) (r : j < length ss). below-tell n ss e j r) k q
+  where
+    go : (u : Bool) → ltb s n ≡ u → pick u (all_below n ss) false ≡ true
+        → (all_below n ss ≡ true → (j : ℕ) → j < length ss → get_or ss j 0 < n) → (k : ℕ) → k < length (s ∷ ss) → get_or (s ∷ ss) k 0 < n
+    go true e r f zero q = ltb-true s n e
+    go true e r f (suc j) q = f r j (omega (arith, q))
+    go false e r f k q = absurd (true≢false (sym r))
 
-  pub below-not : (n : ℕ) → i < length l → n ≤ get_or l i 0 → all_below n (drop i l) ≡ false
-  unfolding all_below
-  below-not n h e = rw (part-one l i h) (simp (le-ltb _ _ e))
+below-from : (n : ℕ) (l : List ℕ) → ((k : ℕ) → k < length l → get_or l k 0 < n) → all_below n l ≡ true
+unfolding all_below
+below-from n [] h = refl
+below-from n (s ∷ ss) h = simp (lt-ltb s n (h 0 (omega arith))) (below-from n ss (λ k q. h (suc k) (omega (arith, q))))
 
-  pub below_more : (n : ℕ) → i < length l → get_or l i 0 < n → all_below n (drop i l) ≡ all_below n (drop (i + 1) l)
-  unfolding all_below
-  below_more n h e = rw (part-one l i h) (simp (lt-ltb _ _ e))
+-- every source is below n: by its test, and at each place
+pub below-is : (n : ℕ) (l : List ℕ) (b : Bool) → (b ≡ true ↔ ((k : ℕ) → k < length l → get_or l k 0 < n)) → all_below n l ≡ b
+below-is n l true h = below-from n l (h.0 refl)
+below-is n l false h = go (all_below n l) refl
+  where
+    go : (u : Bool) → all_below n l ≡ u → all_below n l ≡ false
+    go true e = absurd (true≢false (sym (h.1 (below-tell n l e))))
+    go false e = e
 
 pub marked-end : (v : ℕ) (r : Cells) (l : List ℕ) (i : ℕ) → length l ≤ i → marked v r (drop i l) ≡ r
 unfolding marked
@@ -46,17 +58,6 @@ pub taken_more : (w : ℕ) (cells cells' : Cells) (s t n : ℕ) → t ≡ suc n 
     → taken_from w cells s t ≡ taken_from w cells' s n
 unfolding taken_from
 taken_more w cells cells' s t n k e = rw (k, e)
-
-pub copy_more : (to from : Cells) (i v : ℕ) → i < length from → length to ≡ length from → v ≡ get_or from i 0 → take i to ≡ take i from
-    → take (i + 1) (set to i v) ≡ take (i + 1) from
-copy_more to from i v h k g e =
-    let d : i + 1 ≡ suc i = omega arith in
-    ap (λ (j : ℕ). take j (set to i v)) d ∙ take-suc-set to i v (omega (arith, h, k))
-    ∙ ap (λ (x : Cells). x ++ (v ∷ [])) e ∙ ap (λ (x : ℕ). take i from ++ (x ∷ [])) g
-    ∙ sym (take-suc from i 0 h) ∙ ap (λ (j : ℕ). take j from) (sym d)
-
-pub copy-end : (to from : Cells) (i : ℕ) → length from ≤ i → length to ≡ length from → take i to ≡ take i from → to ≡ from
-copy-end to from i h k e = sym (take_all i to (omega (arith, h, k))) ∙ e ∙ take_all i from h
 
 pub replaces-not : (k n : ℕ) → 2 ≤ k → both (ltb k 2) (eqb n 1) ≡ false
 replaces-not k n h = both-no _ _ (le-ltb _ _ h)

@@ -30,24 +30,15 @@ pub struct Judged {
 fn all_below(n: u64, sources: &[u64]) -> bool
     ensures { all_below n sources.now ≡ result }
 {
-    let mut i = 0;
-    while i < sources.len() {
-        if n <= sources[i] {
-            return false;
-        }
-        i += 1;
-    }
-    true
+    sources.iter().all(|s| *s < n)
 }
 
 // The cells of the sources named set to v; a source past the cells' end does nothing.
 fn mark(cells: &mut [u8], sources: &[u64], v: u8)
     ensures { cells.new ≡ marked v cells.old sources.now }
 {
-    let mut i = 0;
-    while i < sources.len() {
-        put(cells, sources[i], v);
-        i += 1;
+    for s in sources {
+        put(cells, *s, v);
     }
 }
 
@@ -156,11 +147,8 @@ fn get_row(row: &mut [u8], cells: &[u8], target: u64)
     ensures { row.new ≡ row_at (length row.old) cells.now target }
 {
     let from = index(target) * row.len();
-    let mut i = 0;
-    while i < row.len() {
-        row[i] = cells[from + i];
-        i += 1;
-    }
+    let to = from + row.len();
+    row.copy_from_slice(&cells[from..to]);
 }
 
 // 0, 43 or 44 for a target's cells after the request, which `row` then holds; `ones` counts the sources named.

@@ -92,13 +92,11 @@ fn list_sources(cells: &[u8], list: &mut [u64]) -> usize
     ensures upper_bound { result ≤ length cells.now }
 {
     let mut n = 0;
-    let mut s = 0;
-    while s < cells.len() {
-        if cells[s] != 0 {
+    for (s, c) in cells.iter().enumerate() {
+        if *c != 0 {
             list[n] = word(s);
             n += 1;
         }
-        s += 1;
     }
     n
 }
