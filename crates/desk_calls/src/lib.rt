@@ -60,7 +60,7 @@ fn take_from(cells: &mut [u8], n: u64, w: u64, s: u64)
     requires { (length cells.old ≡ n * w) × (s + 1 ≤ w) }
     ensures { cells.new ≡ taken_from w cells.old s n }
 {
-    for t in (0..n).rev() {
+    for t in 0..n {
         let i = index(t * w + s);
         cells[i] = 0;
     }

@@ -49,15 +49,32 @@ pub marked_more : (v : ℕ) (r r' : Cells) (l : List ℕ) (i : ℕ) → i < leng
 unfolding marked
 marked_more v r r' l i h e = rw (part-one l i h, e)
 
-pub taken-end : (w : ℕ) (cells : Cells) (s t : ℕ) → t ≤ 0 → taken_from w cells s t ≡ cells
-unfolding taken_from
-taken-end w cells s zero h = refl
-taken-end w cells s (suc n) h = absurd (omega arith)
+-- 0 at two places, in either order
+set-swap : (l : Cells) (i j : ℕ) → set (set l i 0) j 0 ≡ set (set l j 0) i 0
+set-swap [] i j = refl
+set-swap (x ∷ xs) zero zero = refl
+set-swap (x ∷ xs) zero (suc j) = refl
+set-swap (x ∷ xs) (suc i) zero = refl
+set-swap (x ∷ xs) (suc i) (suc j) = ap (λ (l : Cells). x ∷ l) (set-swap xs i j)
 
-pub taken_more : (w : ℕ) (cells cells' : Cells) (s t n : ℕ) → t ≡ suc n → cells' ≡ set cells (n * w + s) 0
-    → taken_from w cells s t ≡ taken_from w cells' s n
-unfolding taken_from
-taken_more w cells cells' s t n k e = rw (k, e)
+module _ (w : ℕ) (s : ℕ) where
+  pub taken_none : (cells : Cells) → cells ≡ taken_from w cells s 0
+  unfolding taken_from
+  taken_none cells = refl
+
+  taken-set : (cells : Cells) (i t : ℕ) → taken_from w (set cells i 0) s t ≡ set (taken_from w cells s t) i 0
+  unfolding taken_from
+  taken-set cells i zero = refl
+  taken-set cells i (suc t) = ap (λ (l : Cells). taken_from w l s t) (set-swap cells i (t * w + s)) ∙ taken-set (set cells (t * w + s) 0) i t
+
+  taken-one : (cells : Cells) (t : ℕ) → taken_from w (set cells (t * w + s) 0) s t ≡ taken_from w cells s (t + 1)
+  unfolding taken_from
+  taken-one cells t = let d : t + 1 ≡ suc t = omega arith in rw d refl
+
+  -- the source taken from one target more
+  pub taken_more : (cells now : Cells) (t i : ℕ) → now ≡ taken_from w cells s t → i ≡ t * w + s → set now i 0 ≡ taken_from w cells s (t + 1)
+  taken_more cells now t i e q =
+      ap (λ (l : Cells). set l i 0) e ∙ ap (λ (k : ℕ). set (taken_from w cells s t) k 0) q ∙ sym (taken-set cells (t * w + s) t) ∙ taken-one cells t
 
 pub replaces-not : (k n : ℕ) → 2 ≤ k → both (ltb k 2) (eqb n 1) ≡ false
 replaces-not k n h = both-no _ _ (le-ltb _ _ h)

@@ -18,7 +18,7 @@ overflow_add-to c =
 pub returns : goal.returns
 returns c =
     let the-index = c.index-t in
-    let the_copy = c.copy in
+    let the_copy = c.copy_from_slice in
     let q = ap (λ (x : ℕ). x * length c.args.row.now) the-index.ensures in
     let p = ap (λ (x : ℕ). x + length c.args.row.now) q in
-    row_put (length c.args.row.now) c.args.cells.now c.args.target _ _ _ _ the_copy.ensures q p
+    row_put (length c.args.row.now) c.args.cells.now c.args.target _ _ _ _ the_copy.ensures.after q p

@@ -20,12 +20,6 @@ take_entry-taken-requires c =
       cells_value_2 = i.1.1.1.1.1;
     }
 
-pub overflow_add-i : goal.overflow_add-i
-overflow_add-i c = omega arith
-
-pub loop-i-smaller : goal.loop-i-smaller
-loop-i-smaller c = omega arith
-
 pub loop-i-preserved : goal.loop-i-preserved
 loop-i-preserved c =
     let the-loop = c.loop-i in
@@ -49,4 +43,4 @@ pub returns : goal.returns
 returns c =
     let the-loop = c.loop-i in
     let the-loop-test = c.loop-i-test in
-    the-loop.invariant.0 ∙ serve-end _ _ _ c.requires.1.1.0 _ _ _ _ the-loop-test.false
+    the-loop.invariant.0 ∙ serve-end _ _ _ c.requires.1.1.0 _ _ _ _ (omega arith)

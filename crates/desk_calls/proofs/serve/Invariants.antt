@@ -1,5 +1,5 @@
 use mathlib.Core.Path.{◌≡◌}
-use Prim.Native.Nat.{◌-◌, ◌≤◌}
+use Prim.Native.Nat.{◌≤◌}
 use lib.ListN.{length}
 use mathlib.Core.Bool.{true}
 use Rattle.desk_crosspoints.specs.Desk.{desk_at}
@@ -14,6 +14,3 @@ invariant-loop-i l =
     (left_from (desk_at l.f l.path l.cells) l.rows l.count l.s l.i) l.answers)
     × ((l.n ≤ l.i) × ((length l.cells ≡ length l.initial.cells) ×
     ((length l.answers ≡ length l.initial.answers) × ((legal l.f l.cells ≡ true) × (total_of l.f l.cells ≡ l.total)))))
-
-abbrev pub decreases-loop-i : goal.decreases-loop-i
-decreases-loop-i l = l.count - l.i
