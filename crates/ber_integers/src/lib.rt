@@ -157,7 +157,7 @@ pub fn magnitude(x: i64) -> u64
 }
 
 // The fewest octets that hold m and a sign bit.
-fn size_of(m: u64) -> usize
+pub fn size_of(m: u64) -> usize
     ensures { result ≡ size_by m m }
 {
     let mut r = m;

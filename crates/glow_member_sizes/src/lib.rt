@@ -2,8 +2,7 @@
 #![tactic(auto)]
 
 ghost use Rattle.std.specs.Prelude.{◌≡◌, true, false, List, [], ℕ, ◌+◌, length};
-ghost use Rattle.std.specs.Int.Signed.{mag};
-ghost use Rattle.ber_integers.specs.Integer.{shortest, size_by};
+ghost use Rattle.ber_integers.specs.Integer.{shortest};
 ghost use Rattle.glow_grammar.specs.Leaf.{expects, leaf_at};
 ghost use Rattle.glow_trees.specs.Content.{content_of, is_part, int_of};
 ghost use Rattle.glow_trees.specs.Legal.{is_real, word_suits};
@@ -11,10 +10,10 @@ ghost use Rattle.glow_member_sizes.specs.Spelling.{spelling};
 ghost use Rattle.glow_member_sizes.specs.Sizes.{cap, tagged_size, next_of, WordSized, is_kept, member_size};
 
 use base_casts::{index, word};
-use ber_integers::Wrote;
+use ber_integers::{Wrote, magnitude, size_of};
 use glow_grammar::{Leaf, rules};
 use glow_leaves::NO_WORD;
-use glow_rows::{Cell, MOST_BYTES, tags};
+use glow_rows::{Cell, MOST_BYTES, int_of, tags};
 
 // The octets of the longest message, and the size of what is longer or not legal.
 pub const MESSAGE_LIMIT: u64 = MOST_BYTES as u64;
@@ -63,34 +62,11 @@ pub fn place(w: Wrote) -> usize
     }
 }
 
-// How far the integer of a word is from 0, or from -1 where it is below 0.
-fn distance(w: u64) -> u64
-    ensures { result ≡ mag (int_of w) }
-{
-    if w < 0x8000000000000000 {
-        return w;
-    }
-    18446744073709551615 - w
-}
-
-// The fewest octets that hold m and a sign bit.
-fn size_of(m: u64) -> u64
-    ensures { result ≡ size_by m m }
-{
-    let mut r = m;
-    let mut n: u64 = 1;
-    while 128 <= r {
-        r = r / 256;
-        n = n + 1;
-    }
-    n
-}
-
 // The content octets of an integer.
 fn int_size(w: u64) -> u64
     ensures { length (shortest (int_of w)) ≡ result }
 {
-    size_of(distance(w))
+    word(size_of(magnitude(int_of(w))))
 }
 
 // The content octets of a real.
