@@ -4,7 +4,12 @@ use mathlib.Core.Path.{◌≡◌, refl, sym, ap, ◌∙◌}
 use mathlib.Core.Logic.{⊎_elim}
 use mathlib.Core.Bool.{Bool, true, false, cond}
 use native.Mathlib.Omega.{arith}
-use borrow.Author.Tests.{le-leb, lt-leb, le-ltb, lt-ltb}
+use native.Mathlib.Nat.{div-le_self}
+use borrow.Author.Tests.{le-leb, lt-leb, le-ltb, lt-ltb, eq-eqb, ne_eqb}
+use lib.Count.{trailing_le}
+use lib.Dec.{eqb}
+use lib.Ieee.Digits.{size-le}
+use mir.Val.{bool_byte}
 use lib.ListN.{length}
 use lib.IntN.{ℤ, pos, negsuc}
 use lib.Ieee as Ieee
@@ -17,7 +22,8 @@ use Rattle.ber_reals.proofs.Powers.{Is, minus_is}
 use Rattle.ber_reals.proofs.Laws.{and-false}
 use Rattle.ber_reals.proofs.Doubles.{odd_is}
 use Rattle.ber_reals.proofs.WriteLaws.{is_negative, field, low, number-form, odd-of, bits-nan, bits-inf, bits-zero, bits_small, bits-normal}
-use Rattle.ber_real_sizes.specs.Sizes.{is_form, is_written, written_size, highest, saves, least_size, number_size, number_least}
+use Rattle.ber_real_sizes.specs.Sizes.{is_form, is_written, written_size, highest, saves, least_size, number_size, number_least, HasSizes}
+use Rattle.ber_real_sizes.specs.declared.Content.TheVariants.{Number}
 use Rattle.ber_real_sizes.proofs.Laws.{written-number, power-some, power-few, power-more}
 use Rattle.ber_real_sizes.proofs.Least.{least-written}
 
@@ -76,12 +82,13 @@ module _ (w b u : ℕ) (e : w ≡ number_size b (minus u 1074)) where
   least-saved h l =
       ap (λ (i : ℕ). i - 1) e ∙ ap (λ (t : Bool). number_size b (minus u 1074) - cond t 1 0) (sym (saved (minus u 1074) (minus_is u 1074) h l))
 
--- an answer by the bits of a mantissa that was halved z times
-pub halved-at : (f : ℕ → ℤ → ℕ) (q u z b r : ℕ) → z ≡ halvings q → b ≡ size (q / 2 ^ z) → r ≡ f b (minus (u + z) 1074)
-    → r ≡ f (size (odd_part q)) (minus (u + halvings q) 1074)
-halved-at f q u z b r d e h = h ∙ ap (λ (i : ℕ). f i (minus (u + z) 1074)) e ∙ ap (λ (i : ℕ). f (size (q / 2 ^ i)) (minus (u + i) 1074)) d
-
 -- ---- a double by its fields
+
+number-bounds : (q u : ℕ) → q < 2 ^ 53 → u < 2048 → (size (odd_part q) ≤ 64) × (u + halvings q < 4096)
+number-bounds q u h k =
+    let o : q / 2 ^ halvings q ≤ q = div-le_self q (2 ^ halvings q) in
+    let t = trailing_le 64 q in
+    (size-le (q / 2 ^ halvings q) 64 (omega arith), omega arith)
 
 pos_of : (n : ℕ) → (n ≡ 0 → ⊥) → 0 < n
 pos_of zero h = absurd (h refl)
@@ -165,6 +172,27 @@ module _ (n : ℕ) where
   least-normal e h =
       let l = low-lt in
       finite-least (is_negative n) q (field n - 1) (omega arith) (omega arith) ∙ sym (ap least_size (bits-normal n (pos_of (field n) e) h))
+
+  -- both sizes
+  pub small-sizes : field n ≡ 0 → (low n ≡ 0 → ⊥) → HasSizes x (Number (size (odd_part (low n))) (0 + halvings (low n)))
+  small-sizes e h =
+      let l = low-lt in
+      let b = number-bounds (low n) 0 (omega arith) (omega arith) in
+      (b.0, (b.1, (written_small e h, least-small e h)))
+
+  pub normal-sizes : (field n ≡ 0 → ⊥) → (field n ≡ 2047 → ⊥) → HasSizes x (Number (size (odd_part q)) (field n - 1 + halvings q))
+  normal-sizes e h =
+      let l = low-lt in
+      let b = number-bounds q (field n - 1) (omega arith) (omega arith) in
+      (b.0, (b.1, (written-normal e h, least-normal e h)))
+
+  pub no-number : field n ≡ 2047 → (r : ℕ) → r ≡ bool_byte (eqb (low n) 0) → (r ≡ written_size x) × (r ≡ least_size x)
+  no-number f r e =
+      ⊎_elim (λ (l : low n ≡ 0). let d : r ≡ 1 = e ∙ ap bool_byte (eq-eqb (low n) 0 l) in (d ∙ written-inf f l, d ∙ least-inf f l))
+      (λ (l : 0 < low n).
+      let k : low n ≡ 0 → ⊥ = λ z. omega arith in
+      let d : r ≡ 0 = e ∙ ap bool_byte (ne_eqb (low n) 0 k) in (d ∙ written-nan f k, d ∙ least-nan f k))
+      (none_or_some (low n))
 
   -- ---- whether it is written
 

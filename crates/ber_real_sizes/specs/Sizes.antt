@@ -1,11 +1,13 @@
 -- How many content octets a double takes: as it is written, and at least, among all octets that are read as it.
 -- Written is scale 0 and an odd mantissa. A power of two just over 127 takes two exponent octets so; a scale of up to 3 and the bits that the mantissa's
 -- first octet leaves free can bring the exponent down to 127, which takes one.
-use Rattle.std.specs.Prelude.{ℕ, ◌+◌, ◌-◌, ◌*◌, ◌/◌, ◌^◌, List, [], ◌∷◌, Bool, true, false, cond, ◌&&◌, length, leb, ltb, ℤ, pos, negsuc, Float}
+use Rattle.std.specs.Prelude.{◌≡◌, ℕ, ◌+◌, ◌-◌, ◌*◌, ◌/◌, ◌^◌, ◌≤◌, ◌<◌, List, [], ◌∷◌, Bool, true, false, cond, ◌&&◌, length, leb, ltb, ℤ, pos, negsuc, Float}
 use Rattle.std.specs.Int.Signed.{mag}
 use Rattle.std.specs.Float.{nan, inf, fin}
-use Rattle.std.specs.Float.Ieee.{size}
+use Rattle.std.specs.Float.Ieee.{size, minus}
 use Rattle.base_choices.specs.Choices.{pick}
+use Rattle.ber_real_sizes.specs.declared.Content.{Content}
+use Rattle.ber_real_sizes.specs.declared.Content.TheVariants.{Number, Octets}
 use Rattle.ber_integers.specs.Digits.{digits}
 use Rattle.ber_integers.specs.Integer.{shortest}
 use Rattle.ber_reals.specs.Write.{Form, unwritten, octets, form}
@@ -72,3 +74,9 @@ number_size b p = 1 + length (shortest p) + octets_for b
 
 abbrev pub number_least : ℕ → ℤ → ℕ
 number_least b p = number_size b p - cond (saves b p) 1 0
+
+-- both sizes of a double hang on this
+abbrev pub HasSizes : Float → Content → Type 0
+HasSizes x (Number b units) =
+    (b ≤ 64) × ((units < 4096) × ((number_size b (minus units 1074) ≡ written_size x) × (number_least b (minus units 1074) ≡ least_size x)))
+HasSizes x (Octets n) = (n ≡ written_size x) × (n ≡ least_size x)

@@ -2,25 +2,16 @@
 #![tactic(auto)]
 
 ghost use Rattle.std.specs.Prelude.{◌≡◌, ◌+◌, ◌≤◌, ◌<◌, ◌^◌};
-ghost use Rattle.std.specs.Int.Count.{count_trailing_zeros};
 ghost use Rattle.std.specs.Float.Ieee.{minus, size, of_bits};
 ghost use Rattle.std.specs.Float.{binary64};
 ghost use Rattle.ber_reals.specs.Number.{odd_part, halvings};
-ghost use Rattle.ber_real_sizes.specs.Sizes.{is_written, written_size, least_size, number_size, number_least};
+ghost use Rattle.ber_real_sizes.specs.Sizes.{is_written, written_size, least_size, number_size, number_least, HasSizes};
 
-// How often m can be halved.
-fn zeros_of(m: u64) -> u64
-    ensures { result ≡ count_trailing_zeros 64 m }
-{
-    u64::trailing_zeros(m) as u64
-}
-
-// How many binary digits m has.
-fn digits_of(m: u64) -> u64
-    ensures value { result ≡ size m }
-    ensures upper_bound { result ≤ 64 }
-{
-    64 - u64::leading_zeros(m) as u64
+// What a double's size hangs on: the binary digits of its odd mantissa and its power units - 1,074; of an infinity, a zero or a NaN the size itself.
+#[derive(Clone, Copy)]
+enum Content {
+    Number { digits: u64, units: u64 },
+    Octets(usize),
 }
 
 // The written octets of an odd mantissa of b bits and the power units - 1,074.
@@ -55,21 +46,33 @@ fn least_at(b: u64, units: u64) -> usize
     written - 1
 }
 
-// The written octets of a number q * 2 ^ (units - 1,074).
-fn finite_written(q: u64, units: u64) -> usize
+// The number q * 2 ^ (units - 1,074).
+fn number(q: u64, units: u64) -> Content
     requires { (0 < q) × (q < 2 ^ 53) × (units < 2048) }
-    ensures { result ≡ number_size (size (odd_part q)) (minus (units + halvings q) 1074) }
+    ensures { result ≡ Content.Number (size (odd_part q)) (units + halvings q) }
 {
-    let zeros = zeros_of(q);
-    written_at(digits_of(q >> zeros), units + zeros)
+    let zeros = ber_reals::halvings(q);
+    Content::Number {
+        digits: ber_reals::bits(q >> zeros),
+        units: units + zeros,
+    }
 }
 
-fn finite_least(q: u64, units: u64) -> usize
-    requires { (0 < q) × (q < 2 ^ 53) × (units < 2048) }
-    ensures { result ≡ number_least (size (odd_part q)) (minus (units + halvings q) 1074) }
+fn content_of(bits: u64) -> Content
+    ensures { HasSizes (of_bits binary64 bits) result }
 {
-    let zeros = zeros_of(q);
-    least_at(digits_of(q >> zeros), units + zeros)
+    let field = bits % 0x8000_0000_0000_0000 / 0x10_0000_0000_0000;
+    let low = bits % 0x10_0000_0000_0000;
+    if field == 2047 {
+        return Content::Octets(usize::from(low == 0));
+    }
+    if field != 0 {
+        return number(0x10_0000_0000_0000 + low, field - 1);
+    }
+    if low == 0 {
+        return Content::Octets(0);
+    }
+    number(low, 0)
 }
 
 // Whether the double of these bits is written: minus zero and a NaN are not.
@@ -89,40 +92,18 @@ pub fn is_written(bits: u64) -> bool
 pub fn written_size(bits: u64) -> usize
     ensures { result ≡ written_size (of_bits binary64 bits) }
 {
-    let field = bits % 0x8000_0000_0000_0000 / 0x10_0000_0000_0000;
-    let low = bits % 0x10_0000_0000_0000;
-    if field == 2047 {
-        if low == 0 {
-            return 1;
-        }
-        return 0;
+    match content_of(bits) {
+        Content::Number { digits, units } => written_at(digits, units),
+        Content::Octets(n) => n,
     }
-    if field == 0 {
-        if low == 0 {
-            return 0;
-        }
-        return finite_written(low, 0);
-    }
-    finite_written(0x10_0000_0000_0000 + low, field - 1)
 }
 
 // The fewest content octets that are read as the double of these bits; 0 where it is not written.
 pub fn least_size(bits: u64) -> usize
     ensures { result ≡ least_size (of_bits binary64 bits) }
 {
-    let field = bits % 0x8000_0000_0000_0000 / 0x10_0000_0000_0000;
-    let low = bits % 0x10_0000_0000_0000;
-    if field == 2047 {
-        if low == 0 {
-            return 1;
-        }
-        return 0;
+    match content_of(bits) {
+        Content::Number { digits, units } => least_at(digits, units),
+        Content::Octets(n) => n,
     }
-    if field == 0 {
-        if low == 0 {
-            return 0;
-        }
-        return finite_least(low, 0);
-    }
-    finite_least(0x10_0000_0000_0000 + low, field - 1)
 }
