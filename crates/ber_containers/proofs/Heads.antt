@@ -1,4 +1,6 @@
 -- A tag that was read ends after its first octet, and its content before the container's end.
+use Rattle.std.specs.Prelude.{Result, Ok, Err}
+use Rattle.ber_tags.specs.declared.Length.{Length}
 use Prim.Native.Nat.{ℕ, zero, suc, ◌+◌, ◌-◌, ◌*◌, ◌%◌, ◌^◌, ◌≤◌, ◌<◌}
 use mathlib.Core.Path.{◌≡◌, refl}
 use mathlib.Core.List.{List}
@@ -10,22 +12,18 @@ use lib.Dec.{leb, ltb, eqb}
 use Rattle.base_choices.proofs.Laws.{pick-by}
 use Rattle.ber_integers.specs.Digits.{natural}
 use Rattle.ber_integers.proofs.Radix.{digit-more, power_le}
-use Rattle.ber_tags.specs.declared.Numbered.{Numbered}
-use Rattle.ber_tags.specs.declared.Numbered.TheVariants.{Number, Refused as NoNumber}
-use Rattle.ber_tags.specs.declared.Sized.{Sized}
-use Rattle.ber_tags.specs.declared.Sized.TheVariants.{Length as Long, Refused as NoLength}
 use Rattle.ber_tags.specs.declared.Head.{Head}
 use Rattle.ber_tags.specs.declared.Head.TheVariants.{Tag as HeadTag, Refused as NoHead}
 use Rattle.ber_containers.specs.Progress.{Fits}
 use Rattle.ber_tags.specs.Tag.{stop, long_number, tag_number, sized, length_at, head_of, after_number, head_at}
 
-abbrev pub NumberAhead : ℕ → ℕ → ℕ → Numbered → Type 0
-NumberAhead at p len (Number n q) = (p < q) × ((at < len) × (n < 268435456))
-NumberAhead at p len (NoNumber place) = Unit {0}
+abbrev pub NumberAhead : ℕ → ℕ → ℕ → Result (ℕ × ℕ) ℕ → Type 0
+NumberAhead at p len (Ok (n, q)) = (p < q) × ((at < len) × (n < 268435456))
+NumberAhead at p len (Err place) = Unit {0}
 
-abbrev pub SizedAhead : ℕ → ℕ → Sized → Type 0
-SizedAhead p bound (Long l next) = (p < next) × Fits bound next l
-SizedAhead p bound (NoLength place) = Unit {0}
+abbrev pub SizedAhead : ℕ → ℕ → Result (Length × ℕ) ℕ → Type 0
+SizedAhead p bound (Ok (l, next)) = (p < next) × Fits bound next l
+SizedAhead p bound (Err place) = Unit {0}
 
 abbrev pub HeadAhead : ℕ → ℕ → ℕ → Head → Type 0
 HeadAhead at bound len (HeadTag c b n l next) = (at < len) × ((at < next) × ((n < 268435456) × Fits bound next l))
@@ -52,9 +50,9 @@ module _ (s : List ℕ) (at bound : ℕ) where
       weaken (long_number s at bound k (acc * 128 + get_or s p 0 % 128) (p + 1))
       (long-ahead k (i + 1) (acc * 128 + get_or s p 0 % 128) (p + 1) (omega arith) (digit-more 128 i a m) h)))
     where
-      weaken : (r : Numbered) → NumberAhead at (p + 1) (length s) r → NumberAhead at p (length s) r
-      weaken (Number n q) w = (omega arith, w.1)
-      weaken (NoNumber place) w = tt
+      weaken : (r : Result (ℕ × ℕ) ℕ) → NumberAhead at (p + 1) (length s) r → NumberAhead at p (length s) r
+      weaken (Ok (n, q)) w = (omega arith, w.1)
+      weaken (Err place) w = tt
 
   number-ahead : NumberAhead at at (length s) (tag_number s at bound)
   unfolding tag_number
@@ -66,9 +64,9 @@ module _ (s : List ℕ) (at bound : ℕ) where
       (λ e. pick-by (NumberAhead at at (length s)) (eqb (get_or s (at + 1) 0) 128) (λ e. tt)
       (λ e. weaken (long_number s at bound 4 0 (at + 1)) (long-ahead 4 0 0 (at + 1) refl (omega arith) h)))))
     where
-      weaken : (r : Numbered) → NumberAhead at (at + 1) (length s) r → NumberAhead at at (length s) r
-      weaken (Number n q) w = (omega arith, w.1)
-      weaken (NoNumber place) w = tt
+      weaken : (r : Result (ℕ × ℕ) ℕ) → NumberAhead at (at + 1) (length s) r → NumberAhead at at (length s) r
+      weaken (Ok (n, q)) w = (omega arith, w.1)
+      weaken (Err place) w = tt
 
   sized-ahead : (p len next : ℕ) → p < next → SizedAhead p bound (sized at bound len next)
   unfolding sized
@@ -90,12 +88,12 @@ module _ (s : List ℕ) (at bound : ℕ) where
   unfolding head_at
   head-ahead = by_number (tag_number s at bound) number-ahead
     where
-      by_length : (p : ℕ) (b n : ℕ) (z : Sized) → (at < p) → (at < length s) → n < 268435456 → SizedAhead p bound z → HeadAhead at bound (length s)
+      by_length : (p : ℕ) (b n : ℕ) (z : Result (Length × ℕ) ℕ) → (at < p) → (at < length s) → n < 268435456 → SizedAhead p bound z → HeadAhead at bound (length s)
           (head_of b n z)
-      by_length p b n (Long l next) h k m w = (k, (omega arith, (m, w.1)))
-      by_length p b n (NoLength place) h k m w = tt
+      by_length p b n (Ok (l, next)) h k m w = (k, (omega arith, (m, w.1)))
+      by_length p b n (Err place) h k m w = tt
 
-      by_number : (r : Numbered) → NumberAhead at at (length s) r → HeadAhead at bound (length s) (after_number s at bound r)
-      by_number (Number n p) w = by_length p (get_or s at 0) n (length_at s at bound (leb 32 (get_or s at 0 % 64)) p) w.0 w.1.0 w.1.1
+      by_number : (r : Result (ℕ × ℕ) ℕ) → NumberAhead at at (length s) r → HeadAhead at bound (length s) (after_number s at bound r)
+      by_number (Ok (n, p)) w = by_length p (get_or s at 0) n (length_at s at bound (leb 32 (get_or s at 0 % 64)) p) w.0 w.1.0 w.1.1
           (length-ahead (leb 32 (get_or s at 0 % 64)) p)
-      by_number (NoNumber place) w = tt
+      by_number (Err place) w = tt

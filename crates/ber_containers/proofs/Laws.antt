@@ -1,4 +1,5 @@
 -- One law for each answer of the definitions, at plain variables.
+use Rattle.std.specs.Prelude.{Result, Ok, Err}
 use Prim.Native.Nat.{ℕ, zero, suc, ◌+◌, ◌-◌, ◌≤◌, ◌<◌}
 use mathlib.Core.Path.{◌≡◌, refl, subst}
 use mathlib.Core.List.{List}
@@ -16,9 +17,6 @@ use Rattle.ber_containers.specs.declared.No.{No}
 use Rattle.ber_containers.specs.declared.Open.{Open}
 use Rattle.ber_containers.specs.declared.Tag.{Tag}
 use Rattle.ber_containers.specs.declared.Stands.TheVariants.{Ended, Here, Refused}
-use Rattle.ber_containers.specs.declared.Found.TheVariants.{Value, Refused as NotFound}
-use Rattle.ber_containers.specs.declared.Onto.{Onto}
-use Rattle.ber_containers.specs.declared.Onto.TheVariants.{Next, Refused as Stopped}
 use Rattle.ber_containers.specs.declared.Crossing.TheVariants.{Over, Past, Into, Refused as Stuck}
 use Rattle.ber_containers.specs.Ends.{no, bit, open_of, of_head, zero_at, closing_at, standing_at, deep, enter_at, first_at, last_at, is_tag}
 use Rattle.ber_containers.specs.Passing.{skipped, cross_at, through_by, Through, passed_at}
@@ -129,41 +127,41 @@ module _ (s : List ℕ) (p : ℕ) (o : Open) (k : ℕ) where
   unfolding enter_at
   enter-here e d = simp (e, d)
 
-  pub first_ended : {n : ℕ} → standing_at s p o ≡ Ended n → first_at s p o k ≡ NotFound (no 33 p)
+  pub first_ended : {n : ℕ} → standing_at s p o ≡ Ended n → first_at s p o k ≡ Err (no 33 p)
   unfolding first_at
   first_ended e = rw e
 
-  pub first-no : {n : No} → standing_at s p o ≡ Refused n → first_at s p o k ≡ NotFound n
+  pub first-no : {n : No} → standing_at s p o ≡ Refused n → first_at s p o k ≡ Err n
   unfolding first_at
   first-no e = rw e
 
-  pub first-form : {t : Tag} → standing_at s p o ≡ Here t → eqb t.inner.definite o.definite ≡ false → first_at s p o k ≡ NotFound (no 31 p)
+  pub first-form : {t : Tag} → standing_at s p o ≡ Here t → eqb t.inner.definite o.definite ≡ false → first_at s p o k ≡ Err (no 31 p)
   unfolding first_at
   first-form e a = simp (e, a)
 
   pub first-deep : {t : Tag} → standing_at s p o ≡ Here t → eqb t.inner.definite o.definite ≡ true → deep t.constructed k ≡ true
-      → first_at s p o k ≡ NotFound (no 32 p)
+      → first_at s p o k ≡ Err (no 32 p)
   unfolding first_at
   first-deep e a d = simp (e, a, d)
 
   pub first-here : {t : Tag} → standing_at s p o ≡ Here t → eqb t.inner.definite o.definite ≡ true → deep t.constructed k ≡ false
-      → first_at s p o k ≡ Value t
+      → first_at s p o k ≡ Ok t
   unfolding first_at
   first-here e a d = simp (e, a, d)
 
-  pub last-ended : {n : ℕ} → standing_at s p o ≡ Ended n → last_at s p o k ≡ Next n
+  pub last-ended : {n : ℕ} → standing_at s p o ≡ Ended n → last_at s p o k ≡ Ok n
   unfolding last_at
   last-ended e = rw e
 
-  pub last-no : {n : No} → standing_at s p o ≡ Refused n → last_at s p o k ≡ Stopped n
+  pub last-no : {n : No} → standing_at s p o ≡ Refused n → last_at s p o k ≡ Err n
   unfolding last_at
   last-no e = rw e
 
-  pub last-deep : {t : Tag} → standing_at s p o ≡ Here t → deep t.constructed k ≡ true → last_at s p o k ≡ Stopped (no 32 p)
+  pub last-deep : {t : Tag} → standing_at s p o ≡ Here t → deep t.constructed k ≡ true → last_at s p o k ≡ Err (no 32 p)
   unfolding last_at
   last-deep e d = simp (e, d)
 
-  pub last-here : {t : Tag} → standing_at s p o ≡ Here t → deep t.constructed k ≡ false → last_at s p o k ≡ Stopped (no 33 p)
+  pub last-here : {t : Tag} → standing_at s p o ≡ Here t → deep t.constructed k ≡ false → last_at s p o k ≡ Err (no 33 p)
   unfolding last_at
   last-here e d = simp (e, d)
 
@@ -183,20 +181,20 @@ module _ (s : List ℕ) (p : ℕ) (o : Open) (k : ℕ) where
   unfolding cross_at
   cross-into e c d = simp (e, eq-eqb _ _ c, ne_eqb _ _ d)
 
-  pub cross-past : {t : Tag} {n : ℕ} → standing_at s p o ≡ Here t → (t.constructed ≡ 1 → ⊥) → skipped s t ≡ Next n → cross_at s p o k ≡ Past n
+  pub cross-past : {t : Tag} {n : ℕ} → standing_at s p o ≡ Here t → (t.constructed ≡ 1 → ⊥) → skipped s t ≡ Ok n → cross_at s p o k ≡ Past n
   unfolding cross_at
   cross-past e c d = simp (e, ne_eqb _ _ c, d)
 
-  pub cross-cut : {t : Tag} {n : No} → standing_at s p o ≡ Here t → (t.constructed ≡ 1 → ⊥) → skipped s t ≡ Stopped n → cross_at s p o k ≡ Stuck n
+  pub cross-cut : {t : Tag} {n : No} → standing_at s p o ≡ Here t → (t.constructed ≡ 1 → ⊥) → skipped s t ≡ Err n → cross_at s p o k ≡ Stuck n
   unfolding cross_at
   cross-cut e c d = simp (e, ne_eqb _ _ c, d)
 
 module _ (s : List ℕ) (t : Tag) where
-  pub skip-cut : length s < t.inner.end → skipped s t ≡ Stopped (no 30 (length s))
+  pub skip-cut : length s < t.inner.end → skipped s t ≡ Err (no 30 (length s))
   unfolding skipped
   skip-cut h = simp (lt-leb _ _ h)
 
-  pub skip-next : t.inner.end ≤ length s → skipped s t ≡ Next t.inner.end
+  pub skip-next : t.inner.end ≤ length s → skipped s t ≡ Ok t.inner.end
   unfolding skipped
   skip-next h = simp (le-leb _ _ h)
 
@@ -215,34 +213,34 @@ module _ (t : Tag) (class c number : ℕ) where
 
 -- what is passed over, by turns
 module _ (s : List ℕ) (k : ℕ) (o : Open) (p : ℕ) where
-  pub through-over : {n : ℕ} → cross_at s p o k ≡ Over n → Through s k o p (Next n)
+  pub through-over : {n : ℕ} → cross_at s p o k ≡ Over n → Through s k o p (Ok n)
   unfolding through_by
   through-over e zero h = absurd (omega arith)
   through-over e (suc f) h = simp e
 
-  pub through-stuck : {n : No} → cross_at s p o k ≡ Stuck n → Through s k o p (Stopped n)
+  pub through-stuck : {n : No} → cross_at s p o k ≡ Stuck n → Through s k o p (Err n)
   unfolding through_by
   through-stuck e zero h = absurd (omega arith)
   through-stuck e (suc f) h = simp e
 
-  pub through-past : {n : ℕ} {x : Onto} → cross_at s p o k ≡ Past n → p < length s → p < n → Through s k o n x → Through s k o p x
+  pub through-past : {n : ℕ} {x : Result ℕ No} → cross_at s p o k ≡ Past n → p < length s → p < n → Through s k o n x → Through s k o p x
   unfolding through_by
   through-past e w l r zero h = absurd (omega arith)
   through-past e w l r (suc f) h = simp e (r f (omega arith))
 
   module _ {t : Tag} (e : cross_at s p o k ≡ Into t) (a : Ahead s p t) where
-    pub through-into : {n : ℕ} {x : Onto} → Through s (k - 1) t.inner t.start (Next n) → t.start ≤ n → Through s k o n x → Through s k o p x
+    pub through-into : {n : ℕ} {x : Result ℕ No} → Through s (k - 1) t.inner t.start (Ok n) → t.start ≤ n → Through s k o n x → Through s k o p x
     unfolding through_by
     through-into i l r zero h = absurd (omega arith)
     through-into i l r (suc f) h = simp (e, i f (omega arith)) (r f (omega arith))
 
-    pub through-in-stuck : {n : No} → Through s (k - 1) t.inner t.start (Stopped n) → Through s k o p (Stopped n)
+    pub through-in-stuck : {n : No} → Through s (k - 1) t.inner t.start (Err n) → Through s k o p (Err n)
     unfolding through_by
     through-in-stuck i zero h = absurd (omega arith)
     through-in-stuck i (suc f) h = simp (e, i f (omega arith))
 
 module _ (s : List ℕ) (t : Tag) (k : ℕ) where
-  pub passed-in : {x : Onto} → t.constructed ≡ 1 → Through s k t.inner t.start x → passed_at s t k ≡ x
+  pub passed-in : {x : Result ℕ No} → t.constructed ≡ 1 → Through s k t.inner t.start x → passed_at s t k ≡ x
   unfolding passed_at
   passed-in c i = simp (eq-eqb _ _ c) (i (suc (length s)) (omega arith))
 
@@ -250,6 +248,6 @@ module _ (s : List ℕ) (t : Tag) (k : ℕ) where
   unfolding passed_at
   passed-skip c = simp (ne_eqb _ _ c)
 
-pub onto-later : (p q : ℕ) (r : Onto) → p ≤ q → OntoOnward q r → OntoOnward p r
-onto-later p q (Next n) h w = omega arith
-onto-later p q (Stopped n) h w = tt
+pub onto-later : (p q : ℕ) (r : Result ℕ No) → p ≤ q → OntoOnward q r → OntoOnward p r
+onto-later p q (Ok n) h w = omega arith
+onto-later p q (Err n) h w = tt

@@ -1,4 +1,6 @@
 -- With which numbers each call refuses, whatever is handed in.
+use Rattle.std.specs.Prelude.{Result, Ok, Err}
+use Rattle.ber_containers.specs.declared.No.{No}
 use Prim.Native.Nat.{ℕ, zero, suc, ◌+◌, ◌-◌, ◌≤◌, ◌<◌}
 use mathlib.Core.Path.{sym, subst}
 use mathlib.Core.List.{List}
@@ -13,8 +15,6 @@ use Rattle.ber_containers.specs.declared.Open.{Open}
 use Rattle.ber_containers.specs.declared.Tag.{Tag}
 use Rattle.ber_containers.specs.declared.Stands.{Stands}
 use Rattle.ber_containers.specs.declared.Stands.TheVariants.{Ended, Here, Refused}
-use Rattle.ber_containers.specs.declared.Onto.{Onto}
-use Rattle.ber_containers.specs.declared.Onto.TheVariants.{Next, Refused as Stopped}
 use Rattle.ber_containers.specs.declared.Crossing.{Crossing}
 use Rattle.ber_containers.specs.declared.Crossing.TheVariants.{Over, Past, Into, Refused as Stuck}
 use Rattle.ber_containers.specs.Ends.{of_head, zero_at, closing_at, standing_at, deep, counted, enter_at, first_of, first_at, last_of, last_at}
@@ -95,7 +95,7 @@ module _ (s : List ℕ) where
   past_by : {p : ℕ} → p < length s → (t : Tag) → p < t.inner.end → Crosses p (past_of (skipped s t))
   unfolding skipped
   past_by {p} a t b =
-      pick-by (λ (x : Onto). Crosses p (past_of x)) (leb t.inner.end (length s)) (λ z. (a, b)) (λ z. hit enter_numbers 30 tt)
+      pick-by (λ (x : Result ℕ No). Crosses p (past_of x)) (leb t.inner.end (length s)) (λ z. (a, b)) (λ z. hit enter_numbers 30 tt)
 
   cross-by : (p k : ℕ) (x : Stands) → Onward s p x → StandsBy stand_numbers x → Crosses p (cross_of s p k x)
   cross-by p k (Ended n) a h = a
@@ -110,15 +110,15 @@ module _ (s : List ℕ) where
   cross-numbers p k o = cross-by p k (standing_at s p o) (standing-onward s p o) (standing-numbers p o)
 
   -- an answer from p on
-  abbrev From : ℕ → Onto → Type 0
-  From p (Next n) = p ≤ n
-  From p (Stopped e) = OneOf enter_numbers e.0
+  abbrev From : ℕ → Result ℕ No → Type 0
+  From p (Ok n) = p ≤ n
+  From p (Err e) = OneOf enter_numbers e.0
 
-  from-earlier : {p q : ℕ} → p ≤ q → (x : Onto) → From q x → From p x
-  from-earlier h (Next n) w = omega (arith, h, w)
-  from-earlier h (Stopped e) w = w
+  from-earlier : {p q : ℕ} → p ≤ q → (x : Result ℕ No) → From q x → From p x
+  from-earlier h (Ok n) w = omega (arith, h, w)
+  from-earlier h (Err e) w = w
 
-  on-crossing : (p : ℕ) (x : Crossing) (past : ℕ → Onto) (into : Tag → Onto) → Crosses p x
+  on-crossing : (p : ℕ) (x : Crossing) (past : ℕ → Result ℕ No) (into : Tag → Result ℕ No) → Crosses p x
       → ((n : ℕ) → p < length s → p < n → From p (past n))
       → ((t : Tag) → p < length s → p < t.start → From p (into t)) → From p (on_crossing x past into)
   on-crossing p (Over n) past into w f g = w
@@ -126,9 +126,9 @@ module _ (s : List ℕ) where
   on-crossing p (Into t) past into w f g = g t w.0 w.1
   on-crossing p (Stuck e) past into w f g = w
 
-  on-wards : (p q : ℕ) (x : Onto) (go : ℕ → Onto) → From q x → ((n : ℕ) → q ≤ n → From p (go n)) → From p (onwards x go)
-  on-wards p q (Next n) go w f = f n w
-  on-wards p q (Stopped e) go w f = w
+  on-wards : (p q : ℕ) (x : Result ℕ No) (go : ℕ → Result ℕ No) → From q x → ((n : ℕ) → q ≤ n → From p (go n)) → From p (onwards x go)
+  on-wards p q (Ok n) go w f = f n w
+  on-wards p q (Err e) go w f = w
 
   -- fuel that is more than what is left of the message never runs out: each turn goes on
   through-numbers : (f k : ℕ) (o : Open) (p : ℕ) → length s - p < f → From p (through_by f s k o p)
@@ -144,9 +144,9 @@ module _ (s : List ℕ) where
       (through-numbers f (k - 1) t.inner t.start (omega (arith, a, b, l)))
       (λ n c. from-earlier (omega (arith, b, c)) (through_by f s k o n) (through-numbers f k o n (omega (arith, a, b, c, l)))))
 
-  from-by : (p : ℕ) (x : Onto) → From p x → OntoBy enter_numbers x
-  from-by p (Next n) w = tt
-  from-by p (Stopped e) w = w
+  from-by : (p : ℕ) (x : Result ℕ No) → From p x → OntoBy enter_numbers x
+  from-by p (Ok n) w = tt
+  from-by p (Err e) w = w
 
   pub passed-numbers : (t : Tag) (k : ℕ) → OntoBy enter_numbers (passed_at s t k)
   unfolding passed_at

@@ -1,4 +1,5 @@
 -- The stack of `nests`: the containers around the open one, their forms and ends in the first d cells of two arrays.
+use Rattle.std.specs.Prelude.{Result, Ok, Err}
 use Prim.Native.Nat.{ℕ, zero, suc, ◌+◌, ◌-◌, ◌/◌, ◌%◌, ◌≤◌, ◌<◌}
 use mathlib.Core.Path.{◌≡◌, refl, sym, subst, ◌∙◌}
 use mathlib.Core.List.{List}
@@ -9,8 +10,6 @@ use Rattle.ber_containers.specs.declared.No.{No}
 use Rattle.ber_containers.specs.declared.Open.{Open}
 use Rattle.ber_containers.specs.declared.Tag.{Tag}
 use Rattle.ber_containers.specs.declared.Stands.TheVariants.{Ended, Here}
-use Rattle.ber_containers.specs.declared.Onto.{Onto}
-use Rattle.ber_containers.specs.declared.Onto.TheVariants.{Next, Refused as Stopped}
 use Rattle.ber_containers.specs.Ends.{standing_at}
 use Rattle.ber_containers.specs.Passing.{Through}
 use Rattle.ber_containers.specs.Progress.{OntoOnward}
@@ -20,11 +19,11 @@ use Rattle.ber_containers.specs.Short.{open_by, Short}
 use Rattle.ber_containers.proofs.Quick.{ahead_of, short-here, tag-definite}
 
 -- with d containers around it, an open container that gives z leads to y
-abbrev pub Final : List ℕ → ℕ → List ℕ → List ℕ → ℕ → Onto → Onto → Type 0
+abbrev pub Final : List ℕ → ℕ → List ℕ → List ℕ → ℕ → Result ℕ No → Result ℕ No → Type 0
 Final s k forms ends zero z y = z ≡ y
-Final s k forms ends (suc d) (Stopped n) y = Stopped n ≡ y
-Final s k forms ends (suc d) (Next p) y =
-    (z : Onto) × ((Through s (k - d) (open_by (get_or forms d 0) (get_or ends d 0)) p z) × (OntoOnward p z × Final s k forms ends d z y))
+Final s k forms ends (suc d) (Err n) y = Err n ≡ y
+Final s k forms ends (suc d) (Ok p) y =
+    (z : Result ℕ No) × ((Through s (k - d) (open_by (get_or forms d 0) (get_or ends d 0)) p z) × (OntoOnward p z × Final s k forms ends d z y))
 
 -- what is left of the open container x from p on, and of those around it, is what the container o holds from the start on
 pub record Going (s : List ℕ) (k : ℕ) (o : Open) (from : ℕ) (forms ends : List ℕ) (d p : ℕ) (x : Open) : Type 0 where
@@ -32,20 +31,20 @@ pub record Going (s : List ℕ) (k : ℕ) (o : Open) (from : ℕ) (forms ends : 
   pub ends-long : length ends ≡ 64
   pub fits : d ≤ 64
   pub deep : d ≤ k
-  pub onward : (z y : Onto) → Through s (k - d) x p z → OntoOnward p z → Final s k forms ends d z y → (Through s k o from y) × OntoOnward from y
+  pub onward : (z y : Result ℕ No) → Through s (k - d) x p z → OntoOnward p z → Final s k forms ends d z y → (Through s k o from y) × OntoOnward from y
 
 module _ (s : List ℕ) (k : ℕ) (forms ends : List ℕ) where
   -- a refusal is the whole's
-  final-stopped : (d : ℕ) {n : No} {y : Onto} → Stopped n ≡ y → Final s k forms ends d (Stopped n) y
+  final-stopped : (d : ℕ) {n : No} {y : Result ℕ No} → Err n ≡ y → Final s k forms ends d (Err n) y
   final-stopped zero e = e
   final-stopped (suc d) e = e
 
   -- cells from d on do not count
   module _ (i a b : ℕ) where
-    final-below : (d : ℕ) (z y : Onto) → d ≤ i → Final s k (set forms i a) (set ends i b) d z y → Final s k forms ends d z y
+    final-below : (d : ℕ) (z y : Result ℕ No) → d ≤ i → Final s k (set forms i a) (set ends i b) d z y → Final s k forms ends d z y
     final-below zero z y h f = f
-    final-below (suc d) (Stopped n) y h f = f
-    final-below (suc d) (Next p) y h f =
+    final-below (suc d) (Err n) y h f = f
+    final-below (suc d) (Ok p) y h f =
         let e : get_or (set forms i a) d 0 ≡ get_or forms d 0 = get_or-set_other forms i d a 0 (λ q. omega arith) in
         let g : get_or (set ends i b) d 0 ≡ get_or ends d 0 = get_or-set_other ends i d b 0 (λ q. omega arith) in
         let t : Through s (k - d) (open_by (get_or forms d 0) (get_or ends d 0)) p f.0 =
@@ -66,13 +65,13 @@ going_start s k o from forms ends f e = record {
 }
 
 module _ (s : List ℕ) (k : ℕ) (o : Open) (from : ℕ) (forms ends : List ℕ) (d p : ℕ) (x : Open) (g : Going s k o from forms ends d p x) where
-  pub going-stuck : {n : No} → Through s (k - d) x p (Stopped n) → Through s k o from (Stopped n)
-  going-stuck {n} t = (g.onward (Stopped n) (Stopped n) t tt (final-stopped s k forms ends d refl)).0
+  pub going-stuck : {n : No} → Through s (k - d) x p (Err n) → Through s k o from (Err n)
+  going-stuck {n} t = (g.onward (Err n) (Err n) t tt (final-stopped s k forms ends d refl)).0
 
-  pub going_done : {z : ℕ} → standing_at s p x ≡ Ended z → p ≤ z → d ≡ 0 → (Through s k o from (Next z)) × (from ≤ z)
+  pub going_done : {z : ℕ} → standing_at s p x ≡ Ended z → p ≤ z → d ≡ 0 → (Through s k o from (Ok z)) × (from ≤ z)
   going_done {z} e l h =
-      g.onward (Next z) (Next z) (through-over s (k - d) x p (cross-ended s p x (k - d) e)) l
-      (subst (λ i. Final s k forms ends i (Next z) (Next z)) (sym h) refl)
+      g.onward (Ok z) (Ok z) (through-over s (k - d) x p (cross-ended s p x (k - d) e)) l
+      (subst (λ i. Final s k forms ends i (Ok z) (Ok z)) (sym h) refl)
 
   pub going-up : {z : ℕ} → standing_at s p x ≡ Ended z → p ≤ z → (d ≡ 0 → ⊥)
       → Going s k o from forms ends (d - 1) z (open_by (get_or forms (d - 1) 0) (get_or ends (d - 1) 0))
@@ -86,8 +85,8 @@ module _ (s : List ℕ) (k : ℕ) (o : Open) (from : ℕ) (forms ends : List ℕ
         fits = omega arith;
         deep = omega arith;
         onward = λ m y t r f.
-            g.onward (Next z) y (through-over s (k - d) x p (cross-ended s p x (k - d) e)) l
-            (subst (λ i. Final s k forms ends i (Next z) y) w (m, (t, (r, f))));
+            g.onward (Ok z) y (through-over s (k - d) x p (cross-ended s p x (k - d) e)) l
+            (subst (λ i. Final s k forms ends i (Ok z) y) w (m, (t, (r, f))));
       }
 
   module _ {t : Tag} (e : standing_at s p x ≡ Here t) where
@@ -108,16 +107,16 @@ module _ (s : List ℕ) (k : ℕ) (o : Open) (from : ℕ) (forms ends : List ℕ
 
     module _ (c : t.constructed ≡ 1) (h : d < k) (v : d < 64) where
       -- a container inside that gives z
-      inward : (z y : Onto) → Through s (k - (d + 1)) t.inner t.start z → OntoOnward t.start z
+      inward : (z y : Result ℕ No) → Through s (k - (d + 1)) t.inner t.start z → OntoOnward t.start z
           → Final s k (set forms d x.definite) (set ends d x.end) (suc d) z y → (Through s k o from y) × OntoOnward from y
-      inward (Stopped n) y r l f =
+      inward (Err n) y r l f =
           let a = ahead_of s p x e in
           let b : k - (d + 1) ≡ k - d - 1 = omega arith in
           let u : k - d ≡ 0 → ⊥ = λ q. omega arith in
-          let j : Through s (k - d - 1) t.inner t.start (Stopped n) = subst (λ i. Through s i t.inner t.start (Stopped n)) b r in
-          g.onward (Stopped n) y (through-in-stuck s (k - d) x p (cross-into s p x (k - d) e c u) a j) tt
+          let j : Through s (k - d - 1) t.inner t.start (Err n) = subst (λ i. Through s i t.inner t.start (Err n)) b r in
+          g.onward (Err n) y (through-in-stuck s (k - d) x p (cross-into s p x (k - d) e c u) a j) tt
           (final-stopped s k forms ends d f)
-      inward (Next m) y r l f =
+      inward (Ok m) y r l f =
           let a = ahead_of s p x e in
           let b : k - (d + 1) ≡ k - d - 1 = omega arith in
           let u : k - d ≡ 0 → ⊥ = λ q. omega arith in
@@ -127,7 +126,7 @@ module _ (s : List ℕ) (k : ℕ) (o : Open) (from : ℕ) (forms ends : List ℕ
           subst (λ i. Through s (k - d) (open_by x.definite i) m f.0) (get_or-set_same ends d x.end 0 ve)
           (subst (λ i. Through s (k - d) (open_by i (get_or (set ends d x.end) d 0)) m f.0)
           (get_or-set_same forms d x.definite 0 vf) f.1.0) in
-          let j : Through s (k - d - 1) t.inner t.start (Next m) = subst (λ i. Through s i t.inner t.start (Next m)) b r in
+          let j : Through s (k - d - 1) t.inner t.start (Ok m) = subst (λ i. Through s i t.inner t.start (Ok m)) b r in
           let q : p ≤ m = omega (arith, a.later) in
           g.onward f.0 y (through-into s (k - d) x p (cross-into s p x (k - d) e c u) a j l w)
           (onto-later p m f.0 q f.1.1.0)
@@ -147,7 +146,7 @@ module _ (s : List ℕ) (k : ℕ) (o : Open) (from : ℕ) (forms ends : List ℕ
 
 -- a value that was told at once, passed over
 pub value-past : (s : List ℕ) (p : ℕ) (o : Open) {n : ℕ} → Short s p o.end n → n < 128 → get_or s p 0 % 64 < 32 → p + 2 + n ≤ length s
-    → (k : ℕ) (x : Onto) → Through s k o (p + 2 + n) x → Through s k o p x
+    → (k : ℕ) (x : Result ℕ No) → Through s k o (p + 2 + n) x → Through s k o p x
 value-past s p o {n} q h b l k x t =
     let e = short-here s p o q (tag-definite (get_or s p 0) (p + 2) n o.end refl refl refl h) in
     let c : get_or s p 0 % 64 / 32 ≡ 1 → ⊥ = λ i. omega arith in

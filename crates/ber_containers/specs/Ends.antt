@@ -1,6 +1,6 @@
 -- What stands at a position of an open container, and what surrounds the one value of an outer tag (document 01, "Values").
 -- A refusal is its number and its place (request 09).
-use Rattle.std.specs.Prelude.{ℕ, ◌+◌, List, Bool, true, false, length, get_or, leb, eqb}
+use Rattle.std.specs.Prelude.{ℕ, ◌+◌, List, Bool, true, false, length, get_or, leb, eqb, Result, Ok, Err}
 use Rattle.base_choices.specs.Choices.{pick, unless}
 use Rattle.ber_tags.specs.declared.Length.{Length}
 use Rattle.ber_tags.specs.declared.Length.TheVariants.{Definite, Indefinite}
@@ -12,10 +12,6 @@ use Rattle.ber_containers.specs.declared.Open.{Open}
 use Rattle.ber_containers.specs.declared.Tag.{Tag}
 use Rattle.ber_containers.specs.declared.Stands.{Stands}
 use Rattle.ber_containers.specs.declared.Stands.TheVariants.{Ended, Here, Refused}
-use Rattle.ber_containers.specs.declared.Found.{Found}
-use Rattle.ber_containers.specs.declared.Found.TheVariants.{Value, Refused as NotFound}
-use Rattle.ber_containers.specs.declared.Onto.{Onto}
-use Rattle.ber_containers.specs.declared.Onto.TheVariants.{Next, Refused as Stopped}
 
 abbrev pub no : ℕ → ℕ → No
 no number place = (number, place)
@@ -66,23 +62,23 @@ enter_at s p o k = counted p k (standing_at s p o)
 
 -- "An outer tag around one value .. has the same form, definite or indefinite, as the value inside": the value of the outer tag c is
 -- not missing (33), of the same form (31), not too deep (32)
-abbrev pub first_of : ℕ → Open → ℕ → Stands → Found
-first_of p c k (Ended n) = NotFound (no 33 p)
+abbrev pub first_of : ℕ → Open → ℕ → Stands → Result Tag No
+first_of p c k (Ended n) = Err (no 33 p)
 first_of p c k (Here t) =
-    unless (eqb t.inner.definite c.definite) (NotFound (no 31 p))
-    (pick (deep t.constructed k) (NotFound (no 32 p)) (Value t))
-first_of p c k (Refused n) = NotFound n
+    unless (eqb t.inner.definite c.definite) (Err (no 31 p))
+    (pick (deep t.constructed k) (Err (no 32 p)) (Ok t))
+first_of p c k (Refused n) = Err n
 
-unfoldable pub first_at : List ℕ → ℕ → Open → ℕ → Found
+unfoldable pub first_at : List ℕ → ℕ → Open → ℕ → Result Tag No
 first_at s p c k = first_of p c k (standing_at s p c)
 
 -- "one value": nothing stands after it. The place after the outer tag's end
-abbrev pub last_of : ℕ → ℕ → Stands → Onto
-last_of p k (Ended n) = Next n
-last_of p k (Here t) = Stopped (no (pick (deep t.constructed k) 32 33) p)
-last_of p k (Refused n) = Stopped n
+abbrev pub last_of : ℕ → ℕ → Stands → Result ℕ No
+last_of p k (Ended n) = Ok n
+last_of p k (Here t) = Err (no (pick (deep t.constructed k) 32 33) p)
+last_of p k (Refused n) = Err n
 
-unfoldable pub last_at : List ℕ → ℕ → Open → ℕ → Onto
+unfoldable pub last_at : List ℕ → ℕ → Open → ℕ → Result ℕ No
 last_at s p c k = last_of p k (standing_at s p c)
 
 unfoldable pub is_tag : Tag → ℕ → ℕ → ℕ → Bool

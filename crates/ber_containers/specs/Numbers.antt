@@ -1,12 +1,10 @@
 -- With which of document 01's numbers each call refuses: the answer carries the number beside its place.
-use Rattle.std.specs.Prelude.{ℕ, List, [], ◌∷◌}
+use Rattle.ber_containers.specs.declared.No.{No}
+use Rattle.ber_containers.specs.declared.Tag.{Tag}
+use Rattle.std.specs.Prelude.{ℕ, List, [], ◌∷◌, Result, Ok, Err}
 use types.Run.{OneOf}
 use Rattle.ber_containers.specs.declared.Stands.{Stands}
 use Rattle.ber_containers.specs.declared.Stands.TheVariants.{Ended, Here, Refused}
-use Rattle.ber_containers.specs.declared.Found.{Found}
-use Rattle.ber_containers.specs.declared.Found.TheVariants.{Value, Refused as NotFound}
-use Rattle.ber_containers.specs.declared.Onto.{Onto}
-use Rattle.ber_containers.specs.declared.Onto.TheVariants.{Next, Refused as Stopped}
 
 -- what stands at a place: "30 BER: bad tag, length .., a tag 00 that ends nothing, bytes run out"
 abbrev pub stand_numbers : List ℕ
@@ -30,10 +28,10 @@ StandsBy ks (Ended n) = Unit {0}
 StandsBy ks (Here t) = Unit {0}
 StandsBy ks (Refused e) = OneOf ks e.0
 
-abbrev pub FoundBy : List ℕ → Found → Type 0
-FoundBy ks (Value t) = Unit {0}
-FoundBy ks (NotFound e) = OneOf ks e.0
+abbrev pub FoundBy : List ℕ → Result Tag No → Type 0
+FoundBy ks (Ok t) = Unit {0}
+FoundBy ks (Err e) = OneOf ks e.0
 
-abbrev pub OntoBy : List ℕ → Onto → Type 0
-OntoBy ks (Next n) = Unit {0}
-OntoBy ks (Stopped e) = OneOf ks e.0
+abbrev pub OntoBy : List ℕ → Result ℕ No → Type 0
+OntoBy ks (Ok n) = Unit {0}
+OntoBy ks (Err e) = OneOf ks e.0

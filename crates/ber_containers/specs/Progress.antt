@@ -1,14 +1,11 @@
 -- How far on an answer is: what the second `ensures` of a function says. It ends the loops and the recursion, and keeps sums from wrapping.
-use Rattle.std.specs.Prelude.{ℕ, ◌+◌, ◌≤◌, ◌<◌, List, length}
+use Rattle.ber_containers.specs.declared.No.{No}
+use Rattle.std.specs.Prelude.{ℕ, ◌+◌, ◌≤◌, ◌<◌, List, length, Result, Ok, Err}
 use Rattle.ber_tags.specs.declared.Length.{Length}
 use Rattle.ber_tags.specs.declared.Length.TheVariants.{Definite, Indefinite}
 use Rattle.ber_containers.specs.declared.Tag.{Tag}
 use Rattle.ber_containers.specs.declared.Stands.{Stands}
 use Rattle.ber_containers.specs.declared.Stands.TheVariants.{Ended, Here, Refused}
-use Rattle.ber_containers.specs.declared.Found.{Found}
-use Rattle.ber_containers.specs.declared.Found.TheVariants.{Value, Refused as NotFound}
-use Rattle.ber_containers.specs.declared.Onto.{Onto}
-use Rattle.ber_containers.specs.declared.Onto.TheVariants.{Next, Refused as Stopped}
 use Rattle.ber_containers.specs.declared.Crossing.{Crossing}
 use Rattle.ber_containers.specs.declared.Crossing.TheVariants.{Over as Ends, Past, Into, Refused as Stuck}
 
@@ -29,13 +26,13 @@ Onward s p (Ended n) = p ≤ n
 Onward s p (Here t) = Ahead s p t
 Onward s p (Refused n) = Unit {0}
 
-abbrev pub FoundOnward : List ℕ → ℕ → Found → Type 0
-FoundOnward s p (Value t) = Ahead s p t
-FoundOnward s p (NotFound n) = Unit {0}
+abbrev pub FoundOnward : List ℕ → ℕ → Result Tag No → Type 0
+FoundOnward s p (Ok t) = Ahead s p t
+FoundOnward s p (Err n) = Unit {0}
 
-abbrev pub OntoOnward : ℕ → Onto → Type 0
-OntoOnward p (Next n) = p ≤ n
-OntoOnward p (Stopped n) = Unit {0}
+abbrev pub OntoOnward : ℕ → Result ℕ No → Type 0
+OntoOnward p (Ok n) = p ≤ n
+OntoOnward p (Err n) = Unit {0}
 
 abbrev pub CrossOnward : List ℕ → ℕ → Crossing → Type 0
 CrossOnward s p (Ends n) = p ≤ n

@@ -1,11 +1,10 @@
 -- For the quick answers `shut` and `short`: what stands at a place, told at once where tag and length take one octet each, or where a container
 -- ends. They may give up, with a number that is no answer; when they do is left free, and what else they answer is what the general definition gives.
-use Rattle.std.specs.Prelude.{ℕ, ◌+◌, ◌/◌, ◌%◌, ◌≤◌, ◌<◌, ◌≡◌, List, length, get_or, ltb}
+use Rattle.std.specs.Prelude.{ℕ, ◌+◌, ◌/◌, ◌%◌, ◌≤◌, ◌<◌, ◌≡◌, List, length, get_or, ltb, Ok}
 use Rattle.base_choices.specs.Choices.{pick}
 use Rattle.ber_containers.specs.declared.Open.{Open}
 use Rattle.ber_containers.specs.declared.Tag.{Tag}
 use Rattle.ber_containers.specs.declared.Stands.TheVariants.{Ended, Here}
-use Rattle.ber_containers.specs.declared.Onto.TheVariants.{Next}
 use Rattle.ber_containers.specs.Ends.{standing_at}
 use Rattle.ber_containers.specs.Passing.{Through}
 
@@ -48,4 +47,4 @@ TagTold s p o t = (t.start ≡ not_shut → ⊥) → standing_at s p o ≡ Here 
 
 -- any answer but not_shut is the place after all that a container holds from a place on
 abbrev pub Passes : List ℕ → ℕ → Open → ℕ → ℕ → Type 0
-Passes s from o k r = (r ≡ not_shut → ⊥) → (Through s k o from (Next r)) × (from ≤ r)
+Passes s from o k r = (r ≡ not_shut → ⊥) → (Through s k o from (Ok r)) × (from ≤ r)

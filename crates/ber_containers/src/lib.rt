@@ -1,11 +1,9 @@
 // Containers of tags, lengths and values: what stands at a place, what surrounds the one value of an outer tag, and what is passed over.
 #![tactic(auto)]
 
-ghost use Rattle.std.specs.Prelude.{ℕ, ◌+◌, ◌-◌, ◌≤◌, ◌<◌, ◌≡◌, true, length, eqb};
+ghost use Rattle.std.specs.Prelude.{ℕ, ◌+◌, ◌-◌, ◌≤◌, ◌<◌, ◌≡◌, true, length, eqb, Result, Err};
 ghost use Rattle.ber_containers.specs.Ends.{open_of, bit, zero_at, closing_at, standing_at, deep, enter_at, first_at, last_at, is_tag};
 ghost use Rattle.ber_containers.specs.declared.No.{No};
-ghost use Rattle.ber_containers.specs.declared.Onto.{Onto};
-ghost use Rattle.ber_containers.specs.declared.Onto.TheVariants.{Refused as Stopped};
 ghost use Rattle.ber_containers.specs.Passing.{skipped, cross_at, Through, passed_at};
 ghost use Rattle.ber_containers.specs.Short.{open_by, not_shut, short_tag, Shuts, Shortens, TagTold, Passes};
 ghost use Rattle.ber_containers.specs.Progress.{Fits, Onward, FoundOnward, OntoOnward, CrossOnward};
@@ -289,43 +287,43 @@ pub fn entering(s: &[u8], p: usize, o: Open, k: usize) -> Stands
 }
 
 // The one value of the open outer tag c.
-pub fn first(s: &[u8], p: usize, c: Open, k: usize) -> Found
+pub fn first(s: &[u8], p: usize, c: Open, k: usize) -> Result<Tag, No>
     ensures k_value { first_at s.now p c k ≡ result }
     ensures found_onward { FoundOnward s.now p result }
 {
     match standing(s, p, c.definite, c.end) {
-        Stands::Ended(next) => Found::Refused(No(33, p)),
-        Stands::Refused(n) => Found::Refused(n),
+        Stands::Ended(next) => Err(No(33, p)),
+        Stands::Refused(n) => Err(n),
         Stands::Here(t) => {
             let inner = t.inner;
             if !agree(inner.definite, c.definite) {
-                return Found::Refused(No(31, p));
+                return Err(No(31, p));
             }
             if too_deep(t.constructed, k) {
-                return Found::Refused(No(32, p));
+                return Err(No(32, p));
             }
-            Found::Value(t)
+            Ok(t)
         }
     }
 }
 
 // Nothing stands after that value.
-pub fn last(s: &[u8], p: usize, c: Open, k: usize) -> Onto
+pub fn last(s: &[u8], p: usize, c: Open, k: usize) -> Result<usize, No>
     ensures k_value { last_at s.now p c k ≡ result }
     ensures onto_onward { OntoOnward p result }
 {
     let z = shut(s, p, c);
     if z != NOT_SHUT {
-        return Onto::Next(z);
+        return Ok(z);
     }
     match standing(s, p, c.definite, c.end) {
-        Stands::Ended(next) => Onto::Next(next),
-        Stands::Refused(n) => Onto::Refused(n),
+        Stands::Ended(next) => Ok(next),
+        Stands::Refused(n) => Err(n),
         Stands::Here(t) => {
             if too_deep(t.constructed, k) {
-                return Onto::Refused(No(32, p));
+                return Err(No(32, p));
             }
-            Onto::Refused(No(33, p))
+            Err(No(33, p))
         }
     }
 }
@@ -343,16 +341,16 @@ pub fn is_tag(t: Tag, class: u64, constructed: u64, number: u64) -> bool
 }
 
 // The content of a tag that is not constructed, passed over.
-fn skip(s: &[u8], t: Tag) -> Onto
+fn skip(s: &[u8], t: Tag) -> Result<usize, No>
     ensures t_value { skipped s.now t ≡ result }
     ensures onto_onward { OntoOnward t.inner.end result }
 {
     let inner = t.inner;
     let end = inner.end;
     if s.len() < end {
-        return Onto::Refused(No(30, s.len()));
+        return Err(No(30, s.len()));
     }
-    Onto::Next(end)
+    Ok(end)
 }
 
 // One turn of passing over what the open container o holds.
@@ -371,15 +369,15 @@ fn cross(s: &[u8], p: usize, o: Open, k: usize) -> Crossing
                 return Crossing::Into(t);
             }
             match skip(s, t) {
-                Onto::Next(next) => Crossing::Past(next),
-                Onto::Refused(n) => Crossing::Refused(n),
+                Ok(next) => Crossing::Past(next),
+                Err(n) => Crossing::Refused(n),
             }
         }
     }
 }
 
 // All that the open container o holds from a place on.
-fn through(s: &[u8], from: usize, o: Open, k: usize) -> Onto
+fn through(s: &[u8], from: usize, o: Open, k: usize) -> Result<usize, No>
     ensures through { Through s.now k o from result }
     ensures onto_onward { OntoOnward from result }
 {
@@ -387,20 +385,20 @@ fn through(s: &[u8], from: usize, o: Open, k: usize) -> Onto
     loop {
         match cross(s, p, o, k) {
             Crossing::Over(next) => {
-                return Onto::Next(next);
+                return Ok(next);
             }
             Crossing::Refused(n) => {
-                return Onto::Refused(n);
+                return Err(n);
             }
             Crossing::Past(next) => {
                 p = next;
             }
             Crossing::Into(t) => match through(s, t.start, t.inner, less(k)) {
-                Onto::Next(next) => {
+                Ok(next) => {
                     p = next;
                 }
-                Onto::Refused(n) => {
-                    return Onto::Refused(n);
+                Err(n) => {
+                    return Err(n);
                 }
             },
         }
@@ -459,19 +457,19 @@ fn stopped(
     definite: u64,
     end: usize,
     k: usize,
-) -> Onto
-    requires { (n : No) → Through s.now left here p (Stopped n) → Through s.now k (open_by definite end) from (Stopped n) }
+) -> Result<usize, No>
+    requires { (n : No) → Through s.now left here p (Err n) → Through s.now k (open_by definite end) from (Err n) }
     ensures through { Through s.now k (open_by definite end) from result }
     ensures onto_onward { OntoOnward from result }
 {
     if let Crossing::Refused(n) = cross(s, p, here, left) {
-        return Onto::Refused(n);
+        return Err(n);
     }
     through(s, from, Open { definite, end }, k)
 }
 
 // The same as `through` in one loop, with the containers around the open one on a stack.
-fn nests(s: &[u8], from: usize, definite: u64, end: usize, k: usize) -> Onto
+fn nests(s: &[u8], from: usize, definite: u64, end: usize, k: usize) -> Result<usize, No>
     ensures through { Through s.now k (open_by definite end) from result }
     ensures onto_onward { OntoOnward from result }
 {
@@ -484,7 +482,7 @@ fn nests(s: &[u8], from: usize, definite: u64, end: usize, k: usize) -> Onto
         let z = shut(s, p, here);
         if z != NOT_SHUT {
             if d == 0 {
-                return Onto::Next(z);
+                return Ok(z);
             }
             d = d - 1;
             p = z;
@@ -519,7 +517,7 @@ fn nests(s: &[u8], from: usize, definite: u64, end: usize, k: usize) -> Onto
 
 // Passes over values from a place on whose tags and lengths take one octet each, up to the first that is another.
 fn values(s: &[u8], from: usize, end: usize) -> usize
-    ensures by_index { (k definite : ℕ) (x : Onto) → Through s.now k (open_by definite end) result x
+    ensures by_index { (k definite : ℕ) (x : Result ℕ No) → Through s.now k (open_by definite end) result x
         → Through s.now k (open_by definite end) from x }
     ensures lower_bound { from ≤ result }
 {
@@ -541,14 +539,14 @@ fn values(s: &[u8], from: usize, end: usize) -> usize
 }
 
 // All that a container holds from a place on. A stack is laid out only where there is a container inside it.
-fn within(s: &[u8], from: usize, definite: u64, end: usize, k: usize) -> Onto
+fn within(s: &[u8], from: usize, definite: u64, end: usize, k: usize) -> Result<usize, No>
     ensures through { Through s.now k (open_by definite end) from result }
     ensures onto_onward { OntoOnward from result }
 {
     let p = values(s, from, end);
     let z = shut(s, p, Open { definite, end });
     if z != NOT_SHUT {
-        return Onto::Next(z);
+        return Ok(z);
     }
     nests(s, p, definite, end, k)
 }
@@ -562,13 +560,13 @@ pub fn over(s: &[u8], from: usize, definite: u64, end: usize, k: usize) -> usize
         return z;
     }
     match within(s, from, definite, end, k) {
-        Onto::Next(next) => next,
-        Onto::Refused(n) => NOT_SHUT,
+        Ok(next) => next,
+        Err(n) => NOT_SHUT,
     }
 }
 
 // A tag's value, passed over.
-pub fn passed(s: &[u8], t: Tag, k: usize) -> Onto
+pub fn passed(s: &[u8], t: Tag, k: usize) -> Result<usize, No>
     ensures k_value { passed_at s.now t k ≡ result }
     ensures onto_onward { t.start ≤ t.inner.end → OntoOnward t.start result }
 {

@@ -1,4 +1,5 @@
 -- One law for each answer of the definitions, at plain variables.
+use Rattle.std.specs.Prelude.{Some}
 use Prim.Native.Nat.{ℕ, zero, suc, min, ◌+◌, ◌-◌, ◌*◌, ◌%◌, ◌≤◌, ◌<◌}
 use mathlib.Core.Path.{◌≡◌, refl, sym, ap, ◌∙◌}
 use mathlib.Core.List.{List, [], ◌∷◌, ◌++◌}
@@ -10,7 +11,6 @@ use borrow.Author.Tests.{le-leb, lt-leb, lt-ltb, le-ltb, eq-eqb, ne_eqb}
 use lib.ListN.{length, take, drop, get_or, length-append, drop_of_length-le}
 use Rattle.ber_tags.specs.Write.{septets}
 use lib.ListN.{take-append-drop}
-use Rattle.ber_integers.specs.declared.Wrote.TheVariants.{Next}
 use Rattle.ber_integers.proofs.Laws.{put_in}
 use Rattle.ber_integers.proofs.Radix.{lt-or-le}
 use lib.Seq.{drop-cons}
@@ -208,7 +208,7 @@ module _ (out : List ℕ) (at : ℕ) (ns : List ℕ) where
   unfolding put_oid
   put-oid e = rw e
 
-pub put-empty : (out : List ℕ) (at : ℕ) → at ≤ length out → put out at [] ≡ outcome (Next at) out
+pub put-empty : (out : List ℕ) (at : ℕ) → at ≤ length out → put out at [] ≡ outcome (Some at) out
 put-empty out at h =
     let e : at + 0 ≡ at = omega arith in
     let k : at + 0 ≤ length out = omega arith in

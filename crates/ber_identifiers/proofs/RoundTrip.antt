@@ -1,4 +1,5 @@
 -- Relative identifiers: what is written is read back, and only what is written of some numbers is read as them.
+use Rattle.std.specs.Prelude.{Some, None}
 use Prim.Native.Nat.{ℕ, zero, suc, ◌+◌, ◌-◌, ◌*◌, ◌/◌, ◌%◌, ◌^◌, ◌≤◌, ◌<◌}
 use mathlib.Core.Path.{◌≡◌, refl, sym, ap, ◌∙◌}
 use mathlib.Core.List.{List, [], ◌∷◌, ◌++◌, append_assoc}
@@ -11,7 +12,6 @@ use lib.Seq.{take-append-add, drop-drop, take-add, take_at, take-take, get_or-ta
 use Rattle.ber_integers.proofs.Laws.{length_part}
 use lib.Arith.{digits_div, digits_mod}
 use borrow.Author.Tests.{le-leb, lt-leb, lt-ltb, le-ltb}
-use Rattle.ber_integers.specs.declared.Wrote.TheVariants.{Next, Out}
 use Rattle.ber_integers.specs.Digits.{Put, horner, digits, count, count_by, outcome}
 use Rattle.ber_integers.proofs.Radix.{lt-or-le, none_or_some, Below, length_digits, digits-below, digits-horner, natural-lt, horner-split}
 use Rattle.ber_integers.proofs.Radix.{count-holds, count-least, power_le}
@@ -89,13 +89,13 @@ arcs-read (n ∷ ns) r s p end f rest t e w k =
     (omega arith) w q.1.0)
 
 -- Numbers written into an output are read from it, with nothing left.
-pub written_read : (out : List ℕ) (at : ℕ) (ns : List ℕ) (e : ℕ) (o : List ℕ) → put_oid out at ns ≡ outcome (Next e) o
+pub written_read : (out : List ℕ) (at : ℕ) (ns : List ℕ) (e : ℕ) (o : List ℕ) → put_oid out at ns ≡ outcome (Some e) o
     → (arcs o at (e - at) ≡ numbers ns) × (oid_at o at (e - at) ≡ Numbers (length ns))
 written_read out at ns e o d = go (in_range ns) refl
   where
     go : (b : Bool) → in_range ns ≡ b → (arcs o at (e - at) ≡ numbers ns) × (oid_at o at (e - at) ≡ Numbers (length ns))
     go false r =
-        let c : Out ≡ Next e = ap (λ (p : Put). p.answer) (sym (put-range out at ns r) ∙ d) in
+        let c : None ≡ Some e = ap (λ (p : Put). p.answer) (sym (put-range out at ns r) ∙ d) in
         let z : ◌≡◌ {A = ℕ} 0 1 = cc in absurd (omega arith)
     go true r =
         let bs = oid_octets ns in

@@ -7,8 +7,6 @@ ghost use Rattle.ber_integers.specs.Readings.{Promised};
 ghost use Rattle.ber_identifiers.specs.Identifier.{arc_is, arc_at, oid_at, arc_says, arc_or, oid_says, oid_or, ArcWithin, in_range, oid_octets, put_oid};
 ghost use Rattle.ber_tags.specs.Write.{septets};
 
-use ber_integers::Wrote;
-
 // One number of an identifier and the position after it, or one over 2,147,483,647, or 30.
 #[derive(Clone, Copy)]
 pub enum Arc {
@@ -129,18 +127,18 @@ fn oid_size(ns: &[u64]) -> usize
 }
 
 // The content octets of an identifier at a position of the output.
-pub fn write_oid(ns: &[u64], out: &mut [u8], at: usize) -> Wrote
+pub fn write_oid(ns: &[u64], out: &mut [u8], at: usize) -> Option<usize>
     ensures { put_oid out.old at ns.now ≡ outcome result out.new }
 {
     if !in_range(ns) {
-        return Wrote::Out;
+        return None;
     }
     let n = oid_size(ns);
     if out.len() < n {
-        return Wrote::Out;
+        return None;
     }
     if out.len() - n < at {
-        return Wrote::Out;
+        return None;
     }
     let end = at + n;
     let mut p = end;
@@ -148,5 +146,5 @@ pub fn write_oid(ns: &[u64], out: &mut [u8], at: usize) -> Wrote
         p -= number_size(*n);
         ber_tag_writer::write_septets(*n, out, p);
     }
-    Wrote::Next(end)
+    Some(end)
 }

@@ -1,4 +1,5 @@
 -- One law for each answer of the definitions, at plain variables.
+use Rattle.std.specs.Prelude.{ℤ, Option, Some, None}
 use Prim.Native.Nat.{ℕ, zero, suc, ◌+◌, ◌-◌, ◌*◌, ◌/◌, ◌%◌, ◌^◌, ◌≤◌, ◌<◌}
 use mathlib.Core.Path.{◌≡◌, refl, sym, ap, ◌∙◌}
 use mathlib.Core.List.{List, [], ◌∷◌, ◌++◌}
@@ -11,31 +12,27 @@ use Rattle.std.proofs.lemmas.List.{drop_all}
 use lib.Seq.{drop-cons, take-suc, set_at, set_split, length-take-le}
 use mathlib.Core.List.{append_assoc, append-nil}
 use lib.ListN.{set, take-append-drop}
-use Rattle.ber_integers.specs.declared.Natural.TheVariants.{Nat, Refused as NoNat}
-use Rattle.ber_integers.specs.declared.Wrote.TheVariants.{Next}
 use Rattle.base_choices.specs.Choices.{pick}
 use Rattle.ber_integers.specs.Digits.{natural, digits, count_by, horner, put, unchanged, outcome}
 use lib.Dec.{leb}
 use lib.ListN.{length-take, length-drop}
 use lib.IntN.{pos, negsuc}
-use Rattle.ber_integers.specs.declared.Number.{Number}
-use Rattle.ber_integers.specs.declared.Number.TheVariants.{Int, Refused}
 use Rattle.ber_integers.specs.Integer.{unsigned_at, signed, twos, signed_at, nine, nine_free, integer, integer_at, size_by}
 
 module _ (s : List ℕ) (at n : ℕ) where
-  pub unsigned-long : 8 < n → NoNat ≡ unsigned_at s at n
+  pub unsigned-long : 8 < n → None ≡ unsigned_at s at n
   unfolding unsigned_at
   unsigned-long h = simp (lt-leb _ _ h)
 
-  pub unsigned-out : length s < at + n → NoNat ≡ unsigned_at s at n
+  pub unsigned-out : length s < at + n → None ≡ unsigned_at s at n
   unfolding unsigned_at
   unsigned-out h = go (leb n 8)
     where
-      go : (b : Bool) → NoNat ≡ pick b (pick (leb (at + n) (length s)) (Nat (natural (take n (drop at s)))) NoNat) NoNat
+      go : (b : Bool) → None ≡ pick b (pick (leb (at + n) (length s)) (Some (natural (take n (drop at s)))) None) None
       go true = simp (lt-leb _ _ h)
       go false = refl
 
-  pub unsigned_is : n ≤ 8 → at + n ≤ length s → Nat (natural (take n (drop at s))) ≡ unsigned_at s at n
+  pub unsigned_is : n ≤ 8 → at + n ≤ length s → Some (natural (take n (drop at s))) ≡ unsigned_at s at n
   unfolding unsigned_at
   unsigned_is h k = simp (le-leb _ _ h, le-leb _ _ k)
 
@@ -71,20 +68,20 @@ unfolding signed
 signed_high e h = rw e (simp (le-ltb _ _ h))
 
 module _ (bs : List ℕ) where
-  pub twos-none : length bs ≡ 0 → Refused ≡ twos bs
+  pub twos-none : length bs ≡ 0 → None ≡ twos bs
   unfolding twos
   twos-none h = simp (eq-eqb _ _ h)
 
-  pub twos-long : 8 < length bs → Refused ≡ twos bs
+  pub twos-long : 8 < length bs → None ≡ twos bs
   unfolding twos
   twos-long h = let z : length bs ≡ 0 → ⊥ = λ e. omega arith in simp (ne_eqb _ _ z, lt-leb _ _ h)
 
-  pub twos-is : 0 < length bs → length bs ≤ 8 → Int (signed bs) ≡ twos bs
+  pub twos-is : 0 < length bs → length bs ≤ 8 → Some (signed bs) ≡ twos bs
   unfolding twos
   twos-is h k = let z : length bs ≡ 0 → ⊥ = λ e. omega arith in simp (ne_eqb _ _ z, le-leb _ _ k)
 
 module _ (s : List ℕ) (at n : ℕ) where
-  pub signed-out : length s < at + n → Refused ≡ signed_at s at n
+  pub signed-out : length s < at + n → None ≡ signed_at s at n
   unfolding signed_at
   signed-out h = simp (lt-leb _ _ h)
 
@@ -92,28 +89,28 @@ module _ (s : List ℕ) (at n : ℕ) where
   unfolding signed_at
   signed-within h = simp (le-leb _ _ h)
 
-  pub signed-none : at + n ≤ length s → n ≡ 0 → Refused ≡ signed_at s at n
+  pub signed-none : at + n ≤ length s → n ≡ 0 → None ≡ signed_at s at n
   signed-none h e = twos-none _ (length_part s at n h ∙ e) ∙ signed-within h
 
-  pub signed-long : at + n ≤ length s → 8 < n → Refused ≡ signed_at s at n
+  pub signed-long : at + n ≤ length s → 8 < n → None ≡ signed_at s at n
   signed-long h k = twos-long _ (rw (length_part s at n h) k) ∙ signed-within h
 
-  pub signed_is : at + n ≤ length s → 0 < n → n ≤ 8 → Int (signed (take n (drop at s))) ≡ signed_at s at n
+  pub signed_is : at + n ≤ length s → 0 < n → n ≤ 8 → Some (signed (take n (drop at s))) ≡ signed_at s at n
   signed_is h k l = twos-is _ (rw (length_part s at n h) k) (rw (length_part s at n h) l) ∙ signed-within h
 
 -- integers: the nine-bit rule before the rest
-pub free-short : (bs : List ℕ) (r : Number) → length bs < 2 → r ≡ nine_free bs r
+pub free-short : (bs : List ℕ) (r : Option ℤ) → length bs < 2 → r ≡ nine_free bs r
 unfolding nine_free
 free-short [] r h = refl
 free-short (a ∷ []) r h = refl
 free-short (a ∷ (b ∷ bs)) r h = absurd (omega arith)
 
-module _ (a b : ℕ) (bs : List ℕ) (r : Number) where
-  pub free-zeros : nine a b ≡ 0 → Refused ≡ nine_free (a ∷ (b ∷ bs)) r
+module _ (a b : ℕ) (bs : List ℕ) (r : Option ℤ) where
+  pub free-zeros : nine a b ≡ 0 → None ≡ nine_free (a ∷ (b ∷ bs)) r
   unfolding nine_free
   free-zeros h = simp (eq-eqb _ _ h)
 
-  pub free-ones : nine a b ≡ 511 → Refused ≡ nine_free (a ∷ (b ∷ bs)) r
+  pub free-ones : nine a b ≡ 511 → None ≡ nine_free (a ∷ (b ∷ bs)) r
   unfolding nine_free
   free-ones h = let z : nine a b ≡ 0 → ⊥ = λ e. omega arith in simp (ne_eqb _ _ z, eq-eqb _ _ h)
 
@@ -122,7 +119,7 @@ module _ (a b : ℕ) (bs : List ℕ) (r : Number) where
   free-else h k = simp (ne_eqb _ _ h, ne_eqb _ _ k)
 
 module _ (s : List ℕ) (at n : ℕ) where
-  pub integer-out : length s < at + n → Refused ≡ integer_at s at n
+  pub integer-out : length s < at + n → None ≡ integer_at s at n
   unfolding integer_at
   integer-out h = simp (lt-leb _ _ h)
 
@@ -137,10 +134,10 @@ module _ (s : List ℕ) (at n : ℕ) where
   two : at + n ≤ length s → 2 ≤ n → take n (drop at s) ≡ get_or s at 0 ∷ (get_or s (at + 1) 0 ∷ take (n - 1 - 1) (drop (at + 1 + 1) s))
   two h k = part-cons s at n (omega arith) h ∙ ap (λ (l : List ℕ). get_or s at 0 ∷ l) (part-cons s (at + 1) (n - 1) (omega arith) (omega arith))
 
-  pub integer-zeros : at + n ≤ length s → 2 ≤ n → nine (get_or s at 0) (get_or s (at + 1) 0) ≡ 0 → Refused ≡ integer_at s at n
+  pub integer-zeros : at + n ≤ length s → 2 ≤ n → nine (get_or s at 0) (get_or s (at + 1) 0) ≡ 0 → None ≡ integer_at s at n
   integer-zeros h k e = free-zeros _ _ _ (signed_at s at n) e ∙ rw (two h k) at (integer-within h)
 
-  pub integer-ones : at + n ≤ length s → 2 ≤ n → nine (get_or s at 0) (get_or s (at + 1) 0) ≡ 511 → Refused ≡ integer_at s at n
+  pub integer-ones : at + n ≤ length s → 2 ≤ n → nine (get_or s at 0) (get_or s (at + 1) 0) ≡ 511 → None ≡ integer_at s at n
   integer-ones h k e = free-ones _ _ _ (signed_at s at n) e ∙ rw (two h k) at (integer-within h)
 
   pub integer-free : at + n ≤ length s → 2 ≤ n → (nine (get_or s at 0) (get_or s (at + 1) 0) ≡ 0 → ⊥) → (nine (get_or s at 0) (get_or s (at + 1) 0) ≡ 511 → ⊥)
@@ -165,11 +162,11 @@ module _ (out : List ℕ) (at : ℕ) where
   put-out bs h = simp (lt-leb _ _ h)
 
   pub put_in : (bs : List ℕ) → at + length bs ≤ length out
-      → put out at bs ≡ outcome (Next (at + length bs)) (take at out ++ (bs ++ drop (at + length bs) out))
+      → put out at bs ≡ outcome (Some (at + length bs)) (take at out ++ (bs ++ drop (at + length bs) out))
   unfolding put
   put_in bs h = simp (le-leb _ _ h)
 
-  pub put_one : (b : ℕ) → at < length out → put out at (b ∷ []) ≡ outcome (Next (at + 1)) (set out at b)
+  pub put_one : (b : ℕ) → at < length out → put out at (b ∷ []) ≡ outcome (Some (at + 1)) (set out at b)
   put_one b h =
       let e : at + 1 ≡ suc at = omega arith in
       let k : at + 1 ≤ length out = omega arith in

@@ -1,4 +1,5 @@
 -- With which numbers each call answers, whatever is handed in.
+use Rattle.std.specs.Prelude.{Option, Some, None}
 use Prim.Native.Nat.{ℕ, ◌+◌}
 use mathlib.Core.List.{List, [], ◌∷◌, ◌++◌}
 use mathlib.Core.Bool.{Bool, true, false, true≢false}
@@ -9,11 +10,6 @@ use types.Run.{OneOf, hit}
 use lib.IntN.{ℤ}
 use lib.ListN.{length, take, drop}
 use lib.Dec.{T, leb}
-use Rattle.ber_integers.specs.declared.Natural.{Natural}
-use Rattle.ber_integers.specs.declared.Natural.TheVariants.{Nat, Refused as NoNat}
-use Rattle.ber_integers.specs.declared.Number.{Number}
-use Rattle.ber_integers.specs.declared.Number.TheVariants.{Int, Refused}
-use Rattle.ber_integers.specs.declared.Wrote.TheVariants.{Next}
 use Rattle.base_choices.specs.Choices.{pick}
 use Rattle.ber_integers.specs.Digits.{digits, put, unchanged}
 use Rattle.ber_integers.specs.Readings.{number_of, integer_says, natural_says}
@@ -40,13 +36,13 @@ widen (k ∷ (j ∷ ks)) js n h o = go (has_key js k) refl h (widen (j ∷ ks) j
     go true q z f = ⊎_elim (λ (e : n ≡ k). subst (OneOf js) (sym e) (hit js k (subst T (sym q) tt))) (λ (r : OneOf (j ∷ ks) n). f z r) o
     go false q z f = absurd (true≢false (sym z))
 
-natural-numbers : (x : Natural) (tag : ℕ) → OneOf octet_numbers (number_of (natural_says x tag))
-natural-numbers (Nat v) tag = hit octet_numbers 0 tt
-natural-numbers NoNat tag = hit octet_numbers 30 tt
+natural-numbers : (x : Option ℕ) (tag : ℕ) → OneOf octet_numbers (number_of (natural_says x tag))
+natural-numbers (Some v) tag = hit octet_numbers 0 tt
+natural-numbers None tag = hit octet_numbers 30 tt
 
-pub integer-numbers : (x : Number) (tag : ℕ) → OneOf octet_numbers (number_of (integer_says x tag))
-integer-numbers (Int z) tag = hit octet_numbers 0 tt
-integer-numbers Refused tag = hit octet_numbers 30 tt
+pub integer-numbers : (x : Option ℤ) (tag : ℕ) → OneOf octet_numbers (number_of (integer_says x tag))
+integer-numbers (Some z) tag = hit octet_numbers 0 tt
+integer-numbers None tag = hit octet_numbers 30 tt
 
 -- the readers of the n octets at a position, with a tag at its place: 0 or 30
 module _ (s : List ℕ) (at n tag : ℕ) where
@@ -70,7 +66,7 @@ module _ (out : List ℕ) (at : ℕ) where
     where
       go : (u : Bool)
           → OneOf put_numbers
-          (pick u (record { answer = Next (at + length bs); number = 0; out = take at out ++ (bs ++ drop (at + length bs) out) }) (unchanged out)).number
+          (pick u (record { answer = Some (at + length bs); number = 0; out = take at out ++ (bs ++ drop (at + length bs) out) }) (unchanged out)).number
       go true = hit put_numbers 0 tt
       go false = hit put_numbers 46 tt
 

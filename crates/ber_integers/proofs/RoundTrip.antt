@@ -1,4 +1,5 @@
 -- Integers: what is written is read back, what is read is what is written, and nothing shorter is accepted.
+use Rattle.std.specs.Prelude.{Option, Some, None}
 use Prim.Native.Nat.{ℕ, suc, ◌+◌, ◌-◌, ◌*◌, ◌^◌, ◌≤◌, ◌<◌}
 use mathlib.Core.Path.{◌≡◌, refl, sym, ap, ◌∙◌}
 use mathlib.Core.List.{List, [], ◌∷◌}
@@ -10,8 +11,6 @@ use lib.IntN.{ℤ, pos, negsuc}
 use lib.Signed.{mag}
 use mir.Syntax.{w64}
 use mir.Val.{SFits}
-use Rattle.ber_integers.specs.declared.Number.{Number}
-use Rattle.ber_integers.specs.declared.Number.TheVariants.{Int, Refused}
 use Rattle.ber_integers.specs.Digits.{horner, natural}
 use Rattle.ber_integers.specs.Integer.{signed, nine, nine_free, twos, integer, size, octets, shortest}
 use Rattle.ber_integers.proofs.Laws.{signed_low, signed_high, free-short, free-zeros, free-ones, free-else, twos-none, twos-long, twos-is}
@@ -88,14 +87,14 @@ unique x xs b need =
     let n : size z ≡ suc (length xs) = omega arith in
     ap (λ (i : ℕ). octets i z) n ∙ o.0
 
-int_is : {x y : ℤ} → Int x ≡ Int y → x ≡ y
+int_is : {x y : ℤ} → Some x ≡ Some y → x ≡ y
 int_is e = cc
 
-never : {z : ℤ} {r : Number} → r ≡ Int z → Refused ≡ r → ⊥
+never : {z : ℤ} {r : Option ℤ} → r ≡ Some z → None ≡ r → ⊥
 never e f = let y : ◌≡◌ {A = ℕ} 0 1 = cc in omega arith
 
 -- what two's complement accepts
-twos-inv : (bs : List ℕ) (z : ℤ) → twos bs ≡ Int z → (0 < length bs) × ((length bs ≤ 8) × (signed bs ≡ z))
+twos-inv : (bs : List ℕ) (z : ℤ) → twos bs ≡ Some z → (0 < length bs) × ((length bs ≤ 8) × (signed bs ≡ z))
 twos-inv bs z e =
     ⊎_elim
     (λ (n : length bs < 1). absurd (never e (twos-none bs (omega arith))))
@@ -107,7 +106,7 @@ twos-inv bs z e =
     (lt-or-le (length bs) 1)
 
 -- Only the shortest octets of a number are read as it.
-pub read-written : (bs : List ℕ) (z : ℤ) → Below 256 bs → integer bs ≡ Int z → shortest z ≡ bs
+pub read-written : (bs : List ℕ) (z : ℤ) → Below 256 bs → integer bs ≡ Some z → shortest z ≡ bs
 unfolding integer k
 read-written [] z b e = absurd (never e (twos-none [] refl ∙ free-short [] (twos []) (omega arith)))
 read-written (x ∷ []) z b e =
@@ -121,11 +120,11 @@ read-written (x ∷ (y ∷ ys)) z b e =
     ap shortest (sym i.1.1) ∙ unique x (y ∷ ys) b (inr (large x y ys b n0 n1))
 
 -- and no octets in fewer
-pub written-least : (bs : List ℕ) (z : ℤ) → Below 256 bs → integer bs ≡ Int z → length (shortest z) ≤ length bs
+pub written-least : (bs : List ℕ) (z : ℤ) → Below 256 bs → integer bs ≡ Some z → length (shortest z) ≤ length bs
 written-least bs z b e = let q = ap length (read-written bs z b e) in omega arith
 
 -- a number read is one of 64 bits
-pub read_fits : (bs : List ℕ) (z : ℤ) → Below 256 bs → integer bs ≡ Int z → SFits w64 z
+pub read_fits : (bs : List ℕ) (z : ℤ) → Below 256 bs → integer bs ≡ Some z → SFits w64 z
 unfolding integer k
 read_fits [] z b e = absurd (never e (twos-none [] refl ∙ free-short [] (twos []) (omega arith)))
 read_fits (x ∷ xs) z b e =
@@ -135,7 +134,7 @@ read_fits (x ∷ xs) z b e =
     let q : mag (signed (x ∷ xs)) < 2 ^ 63 = omega arith in
     record { sfits = rw i.1.1 at q }
   where
-    twos-of : (bs : List ℕ) (z : ℤ) → nine_free bs (twos bs) ≡ Int z → (0 < length bs) × ((length bs ≤ 8) × (signed bs ≡ z))
+    twos-of : (bs : List ℕ) (z : ℤ) → nine_free bs (twos bs) ≡ Some z → (0 < length bs) × ((length bs ≤ 8) × (signed bs ≡ z))
     twos-of [] z e = twos-inv [] z (free-short [] (twos []) (omega arith) ∙ e)
     twos-of (x ∷ []) z e = twos-inv (x ∷ []) z (free-short (x ∷ []) (twos (x ∷ [])) (omega arith) ∙ e)
     twos-of (x ∷ (y ∷ ys)) z e =
@@ -157,16 +156,16 @@ unfolding shortest
 signed-shortest z = let q = size_holds (mag z) (mag z) (omega arith) in signed-octets (size z) q.0 z q.1
 
 -- Every number of 64 bits is read back from what is written of it.
-pub written_read : (z : ℤ) → SFits w64 z → integer (shortest z) ≡ Int z
+pub written_read : (z : ℤ) → SFits w64 z → integer (shortest z) ≡ Some z
 unfolding integer k
 written_read z h =
     let h8 = size-eight z h in
     let s : signed (shortest z) ≡ z = signed-shortest z in
     let l = length-shortest z in
-    let t : Int (signed (shortest z)) ≡ twos (shortest z) = twos-is (shortest z) (omega arith) (omega arith) in
-    sym (free (shortest z) (twos (shortest z)) (shortest-below z) l s) ∙ sym t ∙ ap Int s
+    let t : Some (signed (shortest z)) ≡ twos (shortest z) = twos-is (shortest z) (omega arith) (omega arith) in
+    sym (free (shortest z) (twos (shortest z)) (shortest-below z) l s) ∙ sym t ∙ ap Some s
   where
-    free : (bs : List ℕ) (r : Number) → Below 256 bs → length bs ≡ size z → signed bs ≡ z → r ≡ nine_free bs r
+    free : (bs : List ℕ) (r : Option ℤ) → Below 256 bs → length bs ≡ size z → signed bs ≡ z → r ≡ nine_free bs r
     free [] r b l s = free-short [] r (omega arith)
     free (x ∷ []) r b l s = free-short (x ∷ []) r (omega arith)
     free (x ∷ (y ∷ ys)) r b l s =

@@ -2,11 +2,7 @@
 --     integer_says, natural_says (here), real_says (ber_reals), flag_says (ber_values): content octets judged, one shape, a value or one way to refuse
 --     head_says (ber_tags), arc_says and oid_says (ber_identifiers), answer_says (ber_values)
 -- The contract of each reader goes through it, and names the number of document 01's row beside the rule: `integer_or 30` and the like.
-use Rattle.std.specs.Prelude.{ℕ, ◌≡◌, ℤ}
-use Rattle.ber_integers.specs.declared.Natural.{Natural}
-use Rattle.ber_integers.specs.declared.Natural.TheVariants.{Nat, Refused as NoNat}
-use Rattle.ber_integers.specs.declared.Number.{Number}
-use Rattle.ber_integers.specs.declared.Number.TheVariants.{Int, Refused}
+use Rattle.std.specs.Prelude.{ℕ, ◌≡◌, ℤ, Option, Some, None}
 
 -- 0 and what was read; or the number of a refusal and its place (request 09)
 pub data Reading (A : Type 0) : Type 0 where
@@ -23,19 +19,19 @@ number_of (done x) = 0
 number_of (refused number place) = number
 
 -- "30 BER: bad .. value octets", at the tag, whose place the octets alone do not say
-abbrev pub integer_says : Number → ℕ → Reading ℤ
-integer_says (Int z) at = done z
-integer_says Refused at = refused 30 at
+abbrev pub integer_says : Option ℤ → ℕ → Reading ℤ
+integer_says (Some z) at = done z
+integer_says None at = refused 30 at
 
 -- for contracts: the integer that the rule reads, or else this number, at the tag
-abbrev pub integer_or : ℕ → Number → ℕ → Reading ℤ
-integer_or number (Int z) at = done z
-integer_or number Refused at = refused number at
+abbrev pub integer_or : ℕ → Option ℤ → ℕ → Reading ℤ
+integer_or number (Some z) at = done z
+integer_or number None at = refused number at
 
-abbrev pub natural_says : Natural → ℕ → Reading ℕ
-natural_says (Nat v) at = done v
-natural_says NoNat at = refused 30 at
+abbrev pub natural_says : Option ℕ → ℕ → Reading ℕ
+natural_says (Some v) at = done v
+natural_says None at = refused 30 at
 
-abbrev pub natural_or : ℕ → Natural → ℕ → Reading ℕ
-natural_or number (Nat v) at = done v
-natural_or number NoNat at = refused number at
+abbrev pub natural_or : ℕ → Option ℕ → ℕ → Reading ℕ
+natural_or number (Some v) at = done v
+natural_or number None at = refused number at

@@ -1,7 +1,5 @@
 -- Worked examples, by computation: what each case of each answer says, with document 01's numbers. The tag stands at 7.
-use Rattle.std.specs.Prelude.{ℕ, ◌≡◌, refl, List, [], ◌∷◌, map, length, ℤ, pos, negsuc}
-use Rattle.ber_integers.specs.declared.Wrote.{Wrote}
-use Rattle.ber_integers.specs.declared.Wrote.TheVariants.{Next, Out}
+use Rattle.std.specs.Prelude.{ℕ, ◌≡◌, refl, List, [], ◌∷◌, map, length, ℤ, pos, negsuc, Some, None}
 use Rattle.ber_integers.specs.Digits.{horner, digits, Put, wrote, put}
 use Rattle.ber_integers.specs.Integer.{signed, nine_free, twos, integer, unsigned_at, signed_at, integer_at, size_by, octets, shortest}
 use Rattle.ber_integers.specs.Readings.{Reading, done, refused, integer_says, natural_says}
@@ -60,13 +58,13 @@ unfolding unsigned_at
 natural-30 = refl
 
 -- a writer's answers, and what it leaves: 0 and the octets in their place; 46 and the output as it was
-pub numbers : map wrote (Next 2 ∷ Out ∷ []) ≡ 0 ∷ 46 ∷ []
+pub numbers : map wrote (Some 2 ∷ None ∷ []) ≡ 0 ∷ 46 ∷ []
 numbers = refl
 
-pub put-0 : put (9 ∷ 9 ∷ 9 ∷ []) 1 (5 ∷ []) ≡ record { answer = Next 2; number = 0; out = 9 ∷ 5 ∷ 9 ∷ [] }
+pub put-0 : put (9 ∷ 9 ∷ 9 ∷ []) 1 (5 ∷ []) ≡ record { answer = Some 2; number = 0; out = 9 ∷ 5 ∷ 9 ∷ [] }
 unfolding put
 put-0 = refl
 
-pub put-46 : put (9 ∷ 9 ∷ 9 ∷ []) 2 (5 ∷ 6 ∷ []) ≡ record { answer = Out; number = 46; out = 9 ∷ 9 ∷ 9 ∷ [] }
+pub put-46 : put (9 ∷ 9 ∷ 9 ∷ []) 2 (5 ∷ 6 ∷ []) ≡ record { answer = None; number = 46; out = 9 ∷ 9 ∷ 9 ∷ [] }
 unfolding put
 put-46 = refl

@@ -48,19 +48,19 @@ fn natural_of(s: &[u8], at: usize, n: usize) -> u64
 }
 
 // The natural number of the n octets at a position, 0 to 8 of them.
-pub fn read_unsigned(s: &[u8], at: usize, n: usize) -> Natural
+pub fn read_unsigned(s: &[u8], at: usize, n: usize) -> Option<u64>
     ensures { Promised natural_says (natural_or 30) (unsigned_at s.now at n) result }
 {
     if 8 < n {
-        return Natural::Refused;
+        return None;
     }
     if s.len() < n {
-        return Natural::Refused;
+        return None;
     }
     if s.len() - n < at {
-        return Natural::Refused;
+        return None;
     }
-    Natural::Nat(natural_of(s, at, n))
+    Some(natural_of(s, at, n))
 }
 
 // The greatest number of n octets.
@@ -76,26 +76,26 @@ fn ones(n: usize) -> u64
 }
 
 // The two's complement number of the n octets at a position, 1 to 8 of them; no rule on the first nine bits.
-pub fn read_signed(s: &[u8], at: usize, n: usize) -> Number
+pub fn read_signed(s: &[u8], at: usize, n: usize) -> Option<i64>
     ensures { Promised integer_says (integer_or 30) (signed_at s.now at n) result }
 {
     if s.len() < n {
-        return Number::Refused;
+        return None;
     }
     if s.len() - n < at {
-        return Number::Refused;
+        return None;
     }
     if n == 0 {
-        return Number::Refused;
+        return None;
     }
     if 8 < n {
-        return Number::Refused;
+        return None;
     }
     let v = natural_of(s, at, n);
     if s[at] < 128 {
-        Number::Int(v as i64)
+        Some(v as i64)
     } else {
-        Number::Int(-1 - ((ones(n) - v) as i64))
+        Some(-1 - ((ones(n) - v) as i64))
     }
 }
 
@@ -108,44 +108,44 @@ fn nine_bits(s: &[u8], at: usize) -> u64
 }
 
 // The integer whose content octets are the n octets at a position.
-pub fn read_int(s: &[u8], at: usize, n: usize) -> Number
+pub fn read_int(s: &[u8], at: usize, n: usize) -> Option<i64>
     ensures { Promised integer_says (integer_or 30) (integer_at s.now at n) result }
 {
     if s.len() < n {
-        return Number::Refused;
+        return None;
     }
     if s.len() - n < at {
-        return Number::Refused;
+        return None;
     }
     if n < 2 {
         return read_signed(s, at, n);
     }
     let nine = nine_bits(s, at);
     if nine == 0 {
-        return Number::Refused;
+        return None;
     }
     if nine == 511 {
-        return Number::Refused;
+        return None;
     }
     read_signed(s, at, n)
 }
 
 // The n low octets of v at a position of the output.
-pub fn write_octets(v: u64, n: usize, out: &mut [u8], at: usize) -> Wrote
+pub fn write_octets(v: u64, n: usize, out: &mut [u8], at: usize) -> Option<usize>
     ensures { put out.old at (digits 256 n v) ≡ outcome result out.new }
 {
     if out.len() < n {
-        return Wrote::Out;
+        return None;
     }
     if out.len() - n < at {
-        return Wrote::Out;
+        return None;
     }
     let mut r = v;
     for i in (0..n).rev() {
         out[at + i] = low(r);
         r = r / 256;
     }
-    Wrote::Next(at + n)
+    Some(at + n)
 }
 
 // The distance from 0, or from -1 for a number below 0.
@@ -171,7 +171,7 @@ pub fn size_of(m: u64) -> usize
 }
 
 // The content octets of an integer, the fewest, at a position of the output.
-pub fn write_int(x: i64, out: &mut [u8], at: usize) -> Wrote
+pub fn write_int(x: i64, out: &mut [u8], at: usize) -> Option<usize>
     ensures { put out.old at (shortest x) ≡ outcome result out.new }
 {
     let n = size_of(magnitude(x));
@@ -208,12 +208,12 @@ pub fn septet_count(v: u64) -> usize
 }
 
 // One octet at a position of the output.
-pub fn write_octet(b: u8, out: &mut [u8], at: usize) -> Wrote
+pub fn write_octet(b: u8, out: &mut [u8], at: usize) -> Option<usize>
     ensures { put out.old at (b ∷ []) ≡ outcome result out.new }
 {
     if out.len() <= at {
-        return Wrote::Out;
+        return None;
     }
     out[at] = b;
-    Wrote::Next(at + 1)
+    Some(at + 1)
 }

@@ -1,4 +1,5 @@
 -- No octets that are read as a double are fewer than its least size, and the written ones are at most ten.
+use Rattle.std.specs.Prelude.{Some}
 use Prim.Native.Nat.{ℕ, suc, ◌+◌, ◌-◌, ◌*◌, ◌^◌, ◌≤◌, ◌<◌}
 use mathlib.Core.Path.{◌≡◌, refl, sym, ap, ◌∙◌, subst}
 use mathlib.Core.Logic.{⊎_elim}
@@ -19,7 +20,6 @@ use Rattle.ber_integers.specs.Integer.{signed, shortest}
 use Rattle.ber_integers.proofs.Radix.{lt-or-le, none_or_some, Below, natural-lt}
 use Rattle.ber_integers.proofs.Sizes.{octets-signed}
 use Rattle.ber_integers.proofs.Signs.{below-take, below-drop}
-use Rattle.ber_reals.specs.declared.Read.TheVariants.{Real}
 use Rattle.ber_reals.specs.Number.{halvings}
 use Rattle.ber_reals.specs.Real.{negative, scale, exponent_octets, well_formed, mantissa, power, real}
 use Rattle.ber_reals.specs.Means.{Equals}
@@ -125,7 +125,7 @@ module _ (first : ℕ) (rest : List ℕ) (bytes-all : Below 256 rest) (formed : 
       omega (arith, v, y, w)
 
 -- Whatever octets are read as the double, they are as many or more.
-pub least-least : (x : Float) (bs : List ℕ) → Below 256 bs → real bs ≡ Real x → least_size x ≤ length bs
+pub least-least : (x : Float) (bs : List ℕ) → Below 256 bs → real bs ≡ Some x → least_size x ≤ length bs
 unfolding least_size written_size form
 least-least x [] b e =
     subst (λ (y : Float). least_size y ≤ 0) (sym ((exactly [] b x).0 e)) (omega arith)

@@ -1,4 +1,5 @@
 -- The least octets are read as the double, and are as many as the least size says.
+use Rattle.std.specs.Prelude.{Some}
 use Prim.Native.Nat.{ℕ, zero, suc, ◌+◌, ◌-◌, ◌*◌, ◌/◌, ◌%◌, ◌^◌, ◌≤◌, ◌<◌}
 use mathlib.Core.Path.{◌≡◌, refl, sym, ap, ◌∙◌, subst}
 use mathlib.Core.Logic.{⊎_elim}
@@ -21,7 +22,6 @@ use Rattle.ber_integers.specs.Digits.{natural, digits, horner}
 use Rattle.ber_integers.specs.Integer.{signed, shortest}
 use Rattle.ber_integers.proofs.RoundTrip.{shortest-below}
 use Rattle.ber_integers.proofs.Radix.{none_or_some, Below, length_digits, digits-below, horner-digits}
-use Rattle.ber_reals.specs.declared.Read.TheVariants.{Real}
 use Rattle.ber_reals.specs.Number.{number}
 use Rattle.ber_reals.specs.Real.{negative, base, scale, exponent_octets, mantissa, power, real}
 use Rattle.ber_reals.specs.Write.{Form, octets, form, first_octet, mantissa_octets, number_octets}
@@ -112,7 +112,7 @@ module _ (s : Bool) (m p : ℕ) (some : 0 < m) (double : T (Ieee.fits binary64 (
   unfolding signed horner
   power-is = ap (λ (i : ℕ). signed (take i rest) +ℤ pos (scale first)) (head-form k small s) ∙ ap (λ (i : ℕ). pos 127 +ℤ pos i) (head-scale k small s)
 
-  pub saved_read : real (saved_octets s m p) ≡ Real (fin s m (pos p))
+  pub saved_read : real (saved_octets s m p) ≡ Some (fin s m (pos p))
   unfolding real
   saved_read =
       let f = octets-few in
@@ -155,12 +155,12 @@ unfolding form real
 zero-power true p bs d e = absurd (let z : ◌≡◌ {A = ℕ} 0 1 = cc in omega arith)
 zero-power false p bs d e =
     let w : [] ≡ bs = cc in
-    let r = subst (λ (l : List ℕ). real l ≡ Real (fin false 0 p)) (sym w) (written_read (fin false 0 p) bs d e) in
+    let r = subst (λ (l : List ℕ). real l ≡ Some (fin false 0 p)) (sym w) (written_read (fin false 0 p) bs d e) in
     cc
 
 -- octets of bytes that are read as x, n of them
 abbrev pub Spells : Float → List ℕ → ℕ → Type 0
-Spells x bs n = (real bs ≡ Real x) × ((length bs ≡ n) × Below 256 bs)
+Spells x bs n = (real bs ≡ Some x) × ((length bs ≡ n) × Below 256 bs)
 
 below-join : (xs ys : List ℕ) → Below 256 xs → Below 256 ys → Below 256 (xs ++ ys)
 below-join [] ys a b = b
@@ -204,7 +204,7 @@ saved-spells s m p some d e =
 
 -- The least octets are read as the double, are as many as the least size says, and are octets.
 pub least-read : (x : Float) (bs : List ℕ) → T (Ieee.fits binary64 x) → form x ≡ octets bs
-    → (real (least_octets x) ≡ Real x) × ((length (least_octets x) ≡ least_size x) × Below 256 (least_octets x))
+    → (real (least_octets x) ≡ Some x) × ((length (least_octets x) ≡ least_size x) × Below 256 (least_octets x))
 unfolding least_octets least_size form
 least-read nan bs d e = absurd (let z : ◌≡◌ {A = ℕ} 0 1 = cc in omega arith)
 least-read (inf s) bs d e = written-spells (inf s) bs d e

@@ -1,4 +1,5 @@
 -- What the code's answers say of the double of any bits: the least size is the least, and octets are read as a double exactly if it is written.
+use Rattle.std.specs.Prelude.{Some}
 use Prim.Native.Nat.{ℕ, ◌≤◌}
 use mathlib.Core.Path.{◌≡◌, refl, ap}
 use mathlib.Core.List.{List}
@@ -9,7 +10,6 @@ use lib.Ieee as Ieee
 use lib.Ieee.{Float, binary64}
 use lib.Ieee.Bits.{of_bits-fits}
 use Rattle.ber_integers.proofs.Radix.{Below}
-use Rattle.ber_reals.specs.declared.Read.TheVariants.{Real}
 use Rattle.ber_reals.specs.Real.{real}
 use Rattle.ber_reals.specs.Write.{Form, unwritten, octets, form}
 use Rattle.ber_reals.proofs.RoundTrip.{read-written}
@@ -27,7 +27,7 @@ written-form x h = go (form x) refl h
     go (octets bs) e i = (bs, e)
 
 -- What is not written is not read from any octets.
-pub read-is-written : (x : Float) (bs : List ℕ) → Below 256 bs → real bs ≡ Real x → is_written x ≡ true
+pub read-is-written : (x : Float) (bs : List ℕ) → Below 256 bs → real bs ≡ Some x → is_written x ≡ true
 unfolding is_written
 read-is-written x bs b e = ap is_form (read-written bs x b e).1.1.0
 
@@ -36,14 +36,14 @@ module _ (bits : ℕ) where
   x = Ieee.of_bits binary64 bits
 
   -- Some octets, as many as the least size, are read as the double ..
-  pub bits-read : is_written x ≡ true → (bs : List ℕ) × (Below 256 bs × ((real bs ≡ Real x) × (length bs ≡ least_size x)))
+  pub bits-read : is_written x ≡ true → (bs : List ℕ) × (Below 256 bs × ((real bs ≡ Some x) × (length bs ≡ least_size x)))
   bits-read h =
       let f = written-form x h in
       let r = least-read x f.0 (of_bits-fits binary64 bits) f.1 in
       (least_octets x, (r.1.1, (r.0, r.1.0)))
 
   -- .. and none that are fewer.
-  pub bits-least : (bs : List ℕ) → Below 256 bs → real bs ≡ Real x → least_size x ≤ length bs
+  pub bits-least : (bs : List ℕ) → Below 256 bs → real bs ≡ Some x → least_size x ≤ length bs
   bits-least bs b e = least-least x bs b e
 
   pub bits_most : written_size x ≤ 10

@@ -1,12 +1,11 @@
 -- Octets put one after the other are their lists put together.
+use Rattle.std.specs.Prelude.{Option, Some}
 use Prim.Native.Nat.{ℕ, ◌+◌, ◌/◌, ◌%◌, ◌≤◌, ◌<◌}
 use mathlib.Core.Path.{◌≡◌, refl, sym, ap, ◌∙◌}
 use mathlib.Core.List.{List, ◌∷◌, ◌++◌, append_assoc}
 use native.Mathlib.Omega.{arith}
 use lib.ListN.{length, take, drop, length-append, length-take, length-drop}
 use lib.Seq.{take_at, length-take-le, drop-drop, drop-append-add}
-use Rattle.ber_integers.specs.declared.Wrote.{Wrote}
-use Rattle.ber_integers.specs.declared.Wrote.TheVariants.{Next}
 use mathlib.Core.Bool.{Bool}
 use native.Mathlib.Nat.{mod-eq_of_lt}
 use lib.Ieee.{minus, size}
@@ -16,7 +15,7 @@ use Rattle.ber_integers.proofs.Laws.{put_in, put-out}
 use Rattle.ber_integers.proofs.Radix.{length_digits}
 use Rattle.ber_reals.specs.Write.{first_octet, mantissa_octets, number_octets}
 
-abbrev result : Wrote → List ℕ → Put
+abbrev result : Option ℕ → List ℕ → Put
 result r o = outcome r o
 
 module _ (out : List ℕ) (at : ℕ) (xs ys : List ℕ) (room : at + (length xs + length ys) ≤ length out) where
@@ -45,7 +44,7 @@ module _ (out : List ℕ) (at : ℕ) (xs ys : List ℕ) (room : at + (length xs 
       ∙ drop-drop (length ys) (at + length xs) out
       ∙ ap (λ (n : ℕ). drop n out) (sym e)
 
-  pub put_then : (r : Wrote) (o : List ℕ) → put out at xs ≡ result r o → put out at (xs ++ ys) ≡ put o (at + length xs) ys
+  pub put_then : (r : Option ℕ) (o : List ℕ) → put out at xs ≡ result r o → put out at (xs ++ ys) ≡ put o (at + length xs) ys
   put_then r o d =
       let i : o ≡ first = sym (ap (λ (p : Put). p.out) (sym (put_in out at xs (omega arith)) ∙ d)) ∙ unfold first in refl in
       let l = first-length in
@@ -55,8 +54,8 @@ module _ (out : List ℕ) (at : ℕ) (xs ys : List ℕ) (room : at + (length xs 
       ≡ take (at + length xs) first ++ (ys ++ drop (at + length xs + length ys) first) =
       rw (taken, dropped, append_assoc xs ys (drop (at + length (xs ++ ys)) out), append_assoc (take at out) xs (ys ++ drop (at + length (xs ++ ys)) out)) in
       put_in out at (xs ++ ys) (omega arith)
-      ∙ ap (λ (k : ℕ). result (Next k) (take at out ++ ((xs ++ ys) ++ drop (at + length (xs ++ ys)) out))) n
-      ∙ ap (result (Next (at + length xs + length ys))) w
+      ∙ ap (λ (k : ℕ). result (Some k) (take at out ++ ((xs ++ ys) ++ drop (at + length (xs ++ ys)) out))) n
+      ∙ ap (result (Some (at + length xs + length ys))) w
       ∙ sym (put_in first (at + length xs) ys (omega arith))
       ∙ ap (λ (l : List ℕ). put l (at + length xs) ys) (sym i)
 
@@ -89,7 +88,7 @@ module _ (s : Bool) (m units v k n f : ℕ) (exponent : digits 256 k v ≡ short
   number_short out at h = let l = number-length in put-out out at number (omega arith)
 
   pub number-puts : (out : List ℕ) (at : ℕ) → at + (1 + k + n) ≤ length out
-      → (r₁ r₂ r₃ : Wrote) (o₁ o₂ o₃ : List ℕ) → put out at (digits 256 1 f) ≡ result r₁ o₁ → length o₁ ≡ length out
+      → (r₁ r₂ r₃ : Option ℕ) (o₁ o₂ o₃ : List ℕ) → put out at (digits 256 1 f) ≡ result r₁ o₁ → length o₁ ≡ length out
       → put o₁ (at + 1) (digits 256 k v) ≡ result r₂ o₂ → put o₂ (at + 1 + k) (digits 256 n m) ≡ result r₃ o₃ → put out at number ≡ result r₃ o₃
   number-puts out at room r₁ r₂ r₃ o₁ o₂ o₃ p l q r =
       let a = length_digits 256 base 1 f in

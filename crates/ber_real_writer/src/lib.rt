@@ -8,8 +8,6 @@ ghost use Rattle.ber_integers.specs.Digits.{digits, put, outcome};
 ghost use Rattle.ber_integers.specs.Integer.{shortest};
 ghost use Rattle.ber_reals.specs.Write.{first_octet, number_octets, write_at};
 
-use ber_integers::Wrote;
-
 // The low octets of a number, so many of them.
 #[derive(Clone, Copy)]
 struct Octets {
@@ -71,7 +69,7 @@ fn octets_of(m: u64) -> usize
 }
 
 // The number ± m * 2 ^ (units - 1,074) at a position of the output.
-fn write_number(negative: bool, m: u64, units: u64, out: &mut [u8], at: usize) -> Wrote
+fn write_number(negative: bool, m: u64, units: u64, out: &mut [u8], at: usize) -> Option<usize>
     requires { (0 < m) × (units < 4096) }
     ensures { put out.old at (number_octets negative m (minus units 1074)) ≡ outcome result out.new }
 {
@@ -81,10 +79,10 @@ fn write_number(negative: bool, m: u64, units: u64, out: &mut [u8], at: usize) -
     let n = octets_of(m);
     let total = 1 + count + n;
     if out.len() < total {
-        return Wrote::Out;
+        return None;
     }
     if out.len() - total < at {
-        return Wrote::Out;
+        return None;
     }
     ber_integers::write_octets(first_octet(negative, count), 1, out, at);
     ber_integers::write_octets(value, count, out, at + 1);
@@ -92,7 +90,7 @@ fn write_number(negative: bool, m: u64, units: u64, out: &mut [u8], at: usize) -
 }
 
 // The double ± q * 2 ^ (units - 1,074), for a q of at most 53 binary digits, at a position of the output.
-fn write_finite(negative: bool, q: u64, units: u64, out: &mut [u8], at: usize) -> Wrote
+fn write_finite(negative: bool, q: u64, units: u64, out: &mut [u8], at: usize) -> Option<usize>
     requires { (0 < q) × (q < 2 ^ 53) × (units < 2048) }
     ensures { write_at out.old at (odd 53 negative q units 1074) ≡ outcome result out.new }
 {
@@ -101,7 +99,7 @@ fn write_finite(negative: bool, q: u64, units: u64, out: &mut [u8], at: usize) -
 }
 
 // The double of 64 bits at a position of the output; a NaN and minus zero are not written.
-pub fn write_bits(word: u64, out: &mut [u8], at: usize) -> Wrote
+pub fn write_bits(word: u64, out: &mut [u8], at: usize) -> Option<usize>
     ensures { write_at out.old at (of_bits binary64 word) ≡ outcome result out.new }
 {
     let negative = 0x8000_0000_0000_0000 <= word;
@@ -109,7 +107,7 @@ pub fn write_bits(word: u64, out: &mut [u8], at: usize) -> Wrote
     let low = word % 0x10_0000_0000_0000;
     if field == 2047 {
         if low != 0 {
-            return Wrote::Out;
+            return None;
         }
         if negative {
             return ber_integers::write_octets(0x41, 1, out, at);
@@ -119,7 +117,7 @@ pub fn write_bits(word: u64, out: &mut [u8], at: usize) -> Wrote
     if field == 0 {
         if low == 0 {
             if negative {
-                return Wrote::Out;
+                return None;
             }
             return ber_integers::write_octets(0, 0, out, at);
         }
@@ -129,11 +127,11 @@ pub fn write_bits(word: u64, out: &mut [u8], at: usize) -> Wrote
 }
 
 // A real at a position of the output: the fewest octets that are read as it.
-pub fn write_real(x: f64, out: &mut [u8], at: usize) -> Wrote
+pub fn write_real(x: f64, out: &mut [u8], at: usize) -> Option<usize>
     ensures { write_at out.old at x ≡ outcome result out.new }
 {
     if x != x {
-        return Wrote::Out;
+        return None;
     }
     write_bits(f64::to_bits(x), out, at)
 }

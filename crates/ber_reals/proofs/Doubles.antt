@@ -1,5 +1,6 @@
 -- The rule of document 01 accepts a number exactly if some finite double equals it, and what is read is that double: "Accepted exactly if
 -- some finite double equals it". Doubles, and when one equals a number, are the library's (`lib.Ieee`).
+use Rattle.std.specs.Prelude.{Some, None}
 use Prim.Native.Nat.{ℕ, zero, suc, ◌+◌, ◌*◌, ◌%◌, ◌^◌, ◌≤◌, ◌<◌}
 use mathlib.Core.Path.{◌≡◌, refl, sym, ap, ◌∙◌, subst}
 use mathlib.Core.Bool.{Bool, true, false, ◌&&◌, ◌||◌, beq}
@@ -16,7 +17,6 @@ use lib.Ieee.Fits.{and_l, and_r, up_pos, down_pos}
 use lib.Ieee.Bits.{is_true}
 use lib.Ieee.Digits.{size-le}
 use Rattle.base_choices.specs.Choices.{pick}
-use Rattle.ber_reals.specs.declared.Read.TheVariants.{Real, Refused}
 use Rattle.ber_reals.specs.Number.{halvings, odd_part, odd_power, in_double, number}
 use Rattle.ber_reals.specs.Means.{Equals}
 use Rattle.ber_reals.proofs.Powers.{over, below, up_is, down_is, one, add_is, leb-same, most-is}
@@ -125,15 +125,15 @@ double-odd s (suc n) e h t =
     eqb→eq (suc n % 2) 1 (and_l a b (and_l (a && b) c (and_l (a && b && c) (ltb (suc n * up e) (2 ^ 1024 * down e)) t)))
 
 module _ (s : Bool) (m : ℕ) (p : ℤ) (some : 0 < m) (word : m < 2 ^ 64) where
-  number_is : number s m p ≡ pick (in_double (odd_part m) (odd_power m p)) (Real (fin s (odd_part m) (odd_power m p))) Refused
+  number_is : number s m p ≡ pick (in_double (odd_part m) (odd_power m p)) (Some (fin s (odd_part m) (odd_power m p))) None
   unfolding number
   number_is = simp (lt-ltb _ _ some)
 
   -- what is accepted is the double that equals the number
-  pub accepted : (x : Float) → number s m p ≡ Real x → Equals x s m p
+  pub accepted : (x : Float) → number s m p ≡ Some x → Equals x s m p
   accepted x e = go (in_double (odd_part m) (odd_power m p)) (rule-is s (odd_part m) (odd_power m p) (odd_is m some word)) (sym number_is ∙ e)
     where
-      go : (b : Bool) → Ieee.fits binary64 (fin s (odd_part m) (odd_power m p)) ≡ b → pick b (Real (fin s (odd_part m) (odd_power m p))) Refused ≡ Real x
+      go : (b : Bool) → Ieee.fits binary64 (fin s (odd_part m) (odd_power m p)) ≡ b → pick b (Some (fin s (odd_part m) (odd_power m p))) None ≡ Some x
           → Equals x s m p
       go true f r =
           let i : fin s (odd_part m) (odd_power m p) ≡ x = cc in
@@ -141,7 +141,7 @@ module _ (s : Bool) (m : ℕ) (p : ℤ) (some : 0 < m) (word : m < 2 ^ 64) where
       go false f r = absurd (let z : ◌≡◌ {A = ℕ} 0 1 = cc in omega arith)
 
   -- where a double equals the number, it is accepted as that double: so there is one at most
-  pub complete : (x : Float) → Equals x s m p → number s m p ≡ Real x
+  pub complete : (x : Float) → Equals x s m p → number s m p ≡ Some x
   unfolding Ieee.eq
   complete nan h = absurd h.1
   complete (inf t) h = absurd h.1
@@ -152,8 +152,8 @@ module _ (s : Bool) (m : ℕ) (p : ℤ) (some : 0 < m) (word : m < 2 ^ 64) where
       let same : fin t n e ≡ fin s (odd_part m) (odd_power m p) = cc in
       let yes : in_double (odd_part m) (odd_power m p) ≡ true =
       sym (rule-is s (odd_part m) (odd_power m p) (odd_is m some word)) ∙ ap (Ieee.fits binary64) (sym same) ∙ is_true (Ieee.fits binary64 (fin t n e)) h.0 in
-      number_is ∙ ap (λ (b : Bool). pick b (Real (fin s (odd_part m) (odd_power m p))) Refused) yes ∙ ap Real (sym same)
+      number_is ∙ ap (λ (b : Bool). pick b (Some (fin s (odd_part m) (odd_power m p))) None) yes ∙ ap Some (sym same)
 
   -- so what is refused equals no double
-  pub refused : number s m p ≡ Refused → (x : Float) → Equals x s m p → ⊥
+  pub refused : number s m p ≡ None → (x : Float) → Equals x s m p → ⊥
   refused e x h = let c = complete x h in let z : ◌≡◌ {A = ℕ} 0 1 = cc in omega arith

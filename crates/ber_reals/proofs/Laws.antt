@@ -1,4 +1,5 @@
 -- One law for each answer of `number`, its power of two a difference of two naturals.
+use Rattle.std.specs.Prelude.{Some, None}
 use Prim.Native.Nat.{ℕ, ◌+◌, ◌^◌, ◌≤◌, ◌<◌}
 use mathlib.Core.Path.{◌≡◌, refl, sym, ap, ◌∙◌, subst}
 use mathlib.Core.Bool.{Bool, true, false, not, ◌&&◌}
@@ -8,7 +9,6 @@ use lib.Dec.{T, ltb, leb}
 use lib.IntN.{ℤ}
 use lib.Ieee as Ieee
 use lib.Ieee.{fin, minus, size, binary64}
-use Rattle.ber_reals.specs.declared.Read.TheVariants.{Real, Refused}
 use Rattle.ber_reals.specs.Number.{halvings, odd_part, odd_power, limit, in_double, number}
 use Rattle.ber_reals.proofs.Doubles.{odd_is}
 use Rattle.ber_reals.specs.Pattern.{bits_of}
@@ -20,7 +20,7 @@ and-false true = refl
 and-false false = refl
 
 -- "non-zero mantissa"
-pub number-zero : (s : Bool) (m : ℕ) (p : ℤ) → m ≡ 0 → Refused ≡ number s m p
+pub number-zero : (s : Bool) (m : ℕ) (p : ℤ) → m ≡ 0 → None ≡ number s m p
 unfolding number
 number-zero s m p h = simp (le-ltb 0 m (omega arith))
 
@@ -33,15 +33,15 @@ module _ (s : Bool) (m a b : ℕ) where
   abbrev odd-at : Is (odd_power m (minus a b)) (a + halvings m) b
   odd-at = add_is (minus a b) (halvings m) a b (minus_is a b)
 
-  pub number-wide : limit ≤ odd_part m → Refused ≡ number s m (minus a b)
+  pub number-wide : limit ≤ odd_part m → None ≡ number s m (minus a b)
   unfolding number
   number-wide h = simp (rule-at (odd_part m) (odd_power m (minus a b)) (a + halvings m) b odd-at, le-ltb _ _ h, and-false)
 
-  pub number-low : a + halvings m + 1074 < b → Refused ≡ number s m (minus a b)
+  pub number-low : a + halvings m + 1074 < b → None ≡ number s m (minus a b)
   unfolding number
   number-low h = simp (rule-at (odd_part m) (odd_power m (minus a b)) (a + halvings m) b odd-at, lt-leb _ _ h, and-false)
 
-  pub number-high : b + 1024 < size (odd_part m) + (a + halvings m) → Refused ≡ number s m (minus a b)
+  pub number-high : b + 1024 < size (odd_part m) + (a + halvings m) → None ≡ number s m (minus a b)
   unfolding number
   number-high h = simp (rule-at (odd_part m) (odd_power m (minus a b)) (a + halvings m) b odd-at, lt-leb _ _ h, and-false)
 
@@ -57,7 +57,7 @@ module _ (s : Bool) (m a b : ℕ) where
     rule-held = rule-at (odd_part m) (odd_power m (minus a b)) (a + halvings m) b odd-at
         ∙ simp (lt-ltb _ _ narrow, le-leb b (a + halvings m + 1074) (omega arith), le-leb (size (odd_part m) + (a + halvings m)) (b + 1024) (omega arith))
 
-    pub number_is : Real (fin s (odd_part m) (odd_power m (minus a b))) ≡ number s m (minus a b)
+    pub number_is : Some (fin s (odd_part m) (odd_power m (minus a b))) ≡ number s m (minus a b)
     unfolding number
     number_is = simp (lt-ltb _ _ some, rule-held)
 
@@ -66,10 +66,10 @@ module _ (s : Bool) (m a b : ℕ) where
       bits_at : bits_of s (odd_part m) j ≡ Ieee.to_bits binary64 (fin s (odd_part m) (odd_power m (minus a b)))
       bits_at = ap (λ (p : ℤ). Ieee.to_bits binary64 (fin s (odd_part m) p)) power_at
 
-      pub number-bits : Real (Ieee.of_bits binary64 (bits_of s (odd_part m) j)) ≡ number s m (minus a b)
+      pub number-bits : Some (Ieee.of_bits binary64 (bits_of s (odd_part m) j)) ≡ number s m (minus a b)
       number-bits =
-          ap (λ (n : ℕ). Real (Ieee.of_bits binary64 n)) bits_at
-          ∙ ap Real (bits_back s (odd_part m) (odd_power m (minus a b)) (odd_is m some word) rule-held)
+          ap (λ (n : ℕ). Some (Ieee.of_bits binary64 n)) bits_at
+          ∙ ap Some (bits_back s (odd_part m) (odd_power m (minus a b)) (odd_is m some word) rule-held)
           ∙ number_is
 
       pub number-no-nan : T (not (Ieee.nan_bits binary64 (bits_of s (odd_part m) j)))

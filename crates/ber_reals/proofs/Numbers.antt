@@ -1,4 +1,5 @@
 -- With which numbers each call answers, whatever is handed in.
+use Rattle.std.specs.Prelude.{Option, Some, None}
 use Prim.Native.Nat.{ℕ}
 use mathlib.Core.List.{List}
 use types.Run.{OneOf, hit}
@@ -6,14 +7,12 @@ use lib.Ieee.{Float, of_bits, binary64}
 use Rattle.ber_integers.specs.Readings.{number_of}
 use Rattle.ber_integers.specs.Numbers.{put_numbers}
 use Rattle.ber_integers.proofs.Numbers.{put-numbers, unchanged-numbers}
-use Rattle.ber_reals.specs.declared.Read.{Read}
-use Rattle.ber_reals.specs.declared.Read.TheVariants.{Real, Refused}
 use Rattle.ber_reals.specs.Real.{real_at, real_says, real_numbers}
 use Rattle.ber_reals.specs.Write.{Form, unwritten, octets, form, put_form, write_at}
 
-pub real-numbers : (x : Read) (tag : ℕ) → OneOf real_numbers (number_of (real_says x tag))
-real-numbers (Real x) tag = hit real_numbers 0 tt
-real-numbers Refused tag = hit real_numbers 35 tt
+pub real-numbers : (x : Option Float) (tag : ℕ) → OneOf real_numbers (number_of (real_says x tag))
+real-numbers (Some x) tag = hit real_numbers 0 tt
+real-numbers None tag = hit real_numbers 35 tt
 
 -- `read_real`, with a tag at its place: 0 or 35
 pub read-real-numbers : (s : List ℕ) (at n tag : ℕ) → OneOf real_numbers (number_of (real_says (real_at s at n) tag))

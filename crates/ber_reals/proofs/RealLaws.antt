@@ -1,4 +1,5 @@
 -- One law for each answer of `binary_real` and `real_at`, and the exponent's octets as a difference.
+use Rattle.std.specs.Prelude.{Float, Option, Some, None}
 use Prim.Native.Nat.{ℕ, zero, suc, ◌+◌, ◌-◌, ◌≤◌, ◌<◌}
 use mathlib.Core.Path.{◌≡◌, refl, sym, ap, ◌∙◌}
 use mathlib.Core.List.{List, [], ◌∷◌}
@@ -12,30 +13,28 @@ use lib.Ieee.{inf, fin}
 use Rattle.ber_integers.specs.Digits.{natural}
 use Rattle.ber_integers.specs.Integer.{signed}
 use Rattle.ber_integers.proofs.Laws.{part-cons, length_part}
-use Rattle.ber_reals.specs.declared.Read.{Read}
-use Rattle.ber_reals.specs.declared.Read.TheVariants.{Real, Refused}
 use Rattle.ber_reals.specs.Number.{number}
 use Rattle.ber_reals.proofs.Laws.{and-false}
 use Rattle.ber_reals.specs.Real.{negative, base, scale, exponent_octets, mantissa, power, well_formed, binary_real, non_empty, real, real_at, real_says, real_or}
 
 module _ (first : ℕ) (rest : List ℕ) where
-  pub binary-not : first < 128 → Refused ≡ binary_real first rest
+  pub binary-not : first < 128 → None ≡ binary_real first rest
   unfolding binary_real well_formed
   binary-not h = simp (lt-leb _ _ h)
 
-  pub binary-base : (base first ≡ 0 → ⊥) → Refused ≡ binary_real first rest
+  pub binary-base : (base first ≡ 0 → ⊥) → None ≡ binary_real first rest
   unfolding binary_real well_formed
   binary-base h = simp (ne_eqb _ _ h, and-false)
 
-  pub binary-form : 3 < exponent_octets first → Refused ≡ binary_real first rest
+  pub binary-form : 3 < exponent_octets first → None ≡ binary_real first rest
   unfolding binary_real well_formed
   binary-form h = simp (lt-leb _ _ h, and-false)
 
-  pub binary-short : length rest ≤ exponent_octets first → Refused ≡ binary_real first rest
+  pub binary-short : length rest ≤ exponent_octets first → None ≡ binary_real first rest
   unfolding binary_real well_formed
   binary-short h = simp (le-ltb _ _ h, and-false)
 
-  pub binary-long : exponent_octets first + 8 < length rest → Refused ≡ binary_real first rest
+  pub binary-long : exponent_octets first + 8 < length rest → None ≡ binary_real first rest
   unfolding binary_real well_formed
   binary-long h = simp (lt-leb _ _ h, and-false)
 
@@ -77,7 +76,7 @@ more-is first [] h = absurd (omega arith)
 more-is first (x ∷ l) h = refl
 
 module _ (s : List ℕ) (at n : ℕ) where
-  pub real-out : length s < at + n → Refused ≡ real_at s at n
+  pub real-out : length s < at + n → None ≡ real_at s at n
   unfolding real_at
   real-out h = simp (lt-leb _ _ h)
 
@@ -86,7 +85,7 @@ module _ (s : List ℕ) (at n : ℕ) where
     unfolding real_at
     inside = simp (le-leb _ _ within)
 
-    pub real-empty : n ≡ 0 → Real (fin false 0 (pos 0)) ≡ real_at s at n
+    pub real-empty : n ≡ 0 → Some (fin false 0 (pos 0)) ≡ real_at s at n
     unfolding real
     real-empty e = sym (inside ∙ rw e)
 
@@ -98,15 +97,15 @@ module _ (s : List ℕ) (at n : ℕ) where
     alone : n ≡ 1 → real_at s at n ≡ non_empty (get_or s at 0) []
     alone e = first-of (omega arith) ∙ let z : n - 1 ≡ 0 = omega arith in rw z
 
-    pub real-plus : n ≡ 1 → get_or s at 0 ≡ 0x40 → Real (inf false) ≡ real_at s at n
+    pub real-plus : n ≡ 1 → get_or s at 0 ≡ 0x40 → Some (inf false) ≡ real_at s at n
     unfolding non_empty
     real-plus e h = sym (alone e ∙ rw h)
 
-    pub real-minus : n ≡ 1 → get_or s at 0 ≡ 0x41 → Real (inf true) ≡ real_at s at n
+    pub real-minus : n ≡ 1 → get_or s at 0 ≡ 0x41 → Some (inf true) ≡ real_at s at n
     unfolding non_empty
     real-minus e h = sym (alone e ∙ rw h)
 
-    pub real-alone : n ≡ 1 → (get_or s at 0 ≡ 0x40 → ⊥) → (get_or s at 0 ≡ 0x41 → ⊥) → Refused ≡ real_at s at n
+    pub real-alone : n ≡ 1 → (get_or s at 0 ≡ 0x40 → ⊥) → (get_or s at 0 ≡ 0x41 → ⊥) → None ≡ real_at s at n
     unfolding non_empty
     real-alone e h k = sym (alone e ∙ simp (ne_eqb _ _ h, ne_eqb _ _ k))
 
@@ -119,6 +118,6 @@ module _ (s : List ℕ) (at n : ℕ) where
         sym (first-of (omega arith) ∙ more-is (get_or s at 0) (take (n - 1) (drop (at + 1) s)) (omega arith))
 
 -- each case of the answer says what document 01's row says
-pub real-row : (x : Read) → real_says x ≡ real_or 35 x
-real-row (Real x) = refl
-real-row Refused = refl
+pub real-row : (x : Option Float) → real_says x ≡ real_or 35 x
+real-row (Some x) = refl
+real-row None = refl

@@ -1,4 +1,5 @@
 -- Reals: what is written is read back as the same double, what is read is written, and the written form has the fewest octets of its kind.
+use Rattle.std.specs.Prelude.{Some, None}
 use Prim.Native.Nat.{ℕ, zero, suc, ◌+◌, ◌-◌, ◌*◌, ◌/◌, ◌%◌, ◌^◌, ◌≤◌, ◌<◌}
 use mathlib.Core.Path.{◌≡◌, refl, sym, ap, ◌∙◌, subst}
 use mathlib.Core.Logic.{⊎_elim}
@@ -18,7 +19,6 @@ use lib.Ieee.{Float, nan, inf, fin, binary64, up, down}
 use lib.Ieee.Digits.{size-lt, size-le}
 use lib.Ieee.Fits.{and_l, and_r}
 use lib.Ieee.Bits.{is_true}
-use Rattle.ber_integers.specs.declared.Wrote.TheVariants.{Next, Out}
 use Rattle.ber_integers.specs.Digits.{natural, Put, outcome}
 use Rattle.ber_integers.specs.Integer.{signed, shortest}
 use Rattle.ber_integers.proofs.Radix.{Below, length_digits, horner-digits, natural-lt}
@@ -26,7 +26,6 @@ use Rattle.ber_integers.proofs.Sizes.{size_holds, size-least, octets-signed}
 use Rattle.ber_integers.proofs.RoundTrip.{length-shortest, signed-shortest}
 use Rattle.ber_integers.proofs.Signs.{below-take, below-drop}
 use Rattle.ber_integers.proofs.Output.{put-fits, put_next, put-length, put-there}
-use Rattle.ber_reals.specs.declared.Read.TheVariants.{Real}
 use Rattle.ber_reals.specs.Number.{number, in_double}
 use Rattle.ber_reals.specs.Real.{negative, base, scale, exponent_octets, well_formed, mantissa, power, non_empty, real, real_at}
 use Rattle.ber_reals.specs.Means.{Equals, Means, Plain}
@@ -157,7 +156,7 @@ module _ (s : Bool) (m : ℕ) (p : ℤ) (some : 0 < m) (double : T (Ieee.fits bi
       ∙ ap (λ (n : ℕ). p +ℤ pos n) (first-scale e f.0 (omega arith) s)
       ∙ +ℤ_idr p
 
-  pub number_read : real (number_octets s m p) ≡ Real (fin s m p)
+  pub number_read : real (number_octets s m p) ≡ Some (fin s m p)
   unfolding real
   number_read =
       let f = exponent-few in
@@ -196,12 +195,12 @@ none : (ys : List ℕ) → unwritten ≡ octets ys → ⊥
 none ys e = let z : ◌≡◌ {A = ℕ} 0 1 = cc in omega arith
 
 -- Every double that is written is read back from its octets.
-pub written_read : (x : Float) (bs : List ℕ) → T (Ieee.fits binary64 x) → form x ≡ octets bs → real bs ≡ Real x
+pub written_read : (x : Float) (bs : List ℕ) → T (Ieee.fits binary64 x) → form x ≡ octets bs → real bs ≡ Some x
 unfolding form real non_empty
 written_read nan bs d e = absurd (none bs e)
 written_read (inf false) bs d e = ap real (sym (list_same (0x40 ∷ []) bs e))
 written_read (inf true) bs d e = ap real (sym (list_same (0x41 ∷ []) bs e))
-written_read (fin false zero p) bs d e = ap real (sym (list_same [] bs e)) ∙ ap (λ (q : ℤ). Real (fin false 0 q)) (sym (zero_is false p d))
+written_read (fin false zero p) bs d e = ap real (sym (list_same [] bs e)) ∙ ap (λ (q : ℤ). Some (fin false 0 q)) (sym (zero_is false p d))
 written_read (fin true zero p) bs d e = absurd (none bs e)
 written_read (fin false (suc m) p) bs d e = ap real (sym (list_same (number_octets false (suc m) p) bs e)) ∙ number_read false (suc m) p (omega arith) d
 written_read (fin true (suc m) p) bs d e = ap real (sym (list_same (number_octets true (suc m) p) bs e)) ∙ number_read true (suc m) p (omega arith) d
@@ -232,8 +231,8 @@ means-form (first ∷ (second ∷ rest)) x h =
     (h.2.0, equal-form (negative first) (mantissa first (second ∷ rest)) (power first (second ∷ rest)) h.1 x h.2)
 
 -- What is read is a double of the format, never a NaN nor minus zero: it has octets, which are read as it again.
-pub read-written : (bs : List ℕ) (x : Float) → Below 256 bs → real bs ≡ Real x → T (Ieee.fits binary64 x)
-    × ((cs : List ℕ) × ((form x ≡ octets cs) × (real cs ≡ Real x)))
+pub read-written : (bs : List ℕ) (x : Float) → Below 256 bs → real bs ≡ Some x → T (Ieee.fits binary64 x)
+    × ((cs : List ℕ) × ((form x ≡ octets cs) × (real cs ≡ Some x)))
 read-written bs x b e =
     let f = means-form bs x ((exactly bs b x).0 e) in
     (f.0, (f.1.0, (f.1.1, written_read x f.1.0 f.0 f.1.1)))
@@ -291,7 +290,7 @@ module _ (first : ℕ) (rest : List ℕ) (bs : Below 256 rest) (formed : T (well
       omega arith
 
 -- No octets with scale 0 and an odd mantissa that are read as the double are fewer.
-pub written-least : (bs cs : List ℕ) (x : Float) → Below 256 bs → Plain bs → real bs ≡ Real x → form x ≡ octets cs → length cs ≤ length bs
+pub written-least : (bs cs : List ℕ) (x : Float) → Below 256 bs → Plain bs → real bs ≡ Some x → form x ≡ octets cs → length cs ≤ length bs
 unfolding form
 written-least [] cs x b p e f =
     let h = (exactly [] b x).0 e in
@@ -327,12 +326,12 @@ written-plain (fin true (suc m) p) cs d e = subst Plain (list_same (number_octet
 -- ---- in a message: what was written into an output is read from it, with nothing left
 
 pub written-read-at : (out : List ℕ) (at : ℕ) (x : Float) (n : ℕ) (o : List ℕ) → T (Ieee.fits binary64 x)
-    → write_at out at x ≡ outcome (Next n) o → real_at o at (n - at) ≡ Real x
+    → write_at out at x ≡ outcome (Some n) o → real_at o at (n - at) ≡ Some x
 unfolding write_at
 written-read-at out at x n o d e = go (form x) refl e
   where
-    go : (f : Form) → form x ≡ f → put_form out at f ≡ outcome (Next n) o → real_at o at (n - at) ≡ Real x
-    go unwritten i w = absurd (let a : Out ≡ Next n = ap (λ (p : Put). p.answer) w in let z : ◌≡◌ {A = ℕ} 0 1 = cc in omega arith)
+    go : (f : Form) → form x ≡ f → put_form out at f ≡ outcome (Some n) o → real_at o at (n - at) ≡ Some x
+    go unwritten i w = absurd (let a : None ≡ Some n = ap (λ (p : Put). p.answer) w in let z : ◌≡◌ {A = ℕ} 0 1 = cc in omega arith)
     go (octets bs) i w =
         let f = put-fits out at bs n o w in
         let l = put-length out at bs n o w in

@@ -1,12 +1,11 @@
 -- Worked examples, by computation: octets and the double that they are read as, octets that are refused, and what is written.
-use Rattle.std.specs.Prelude.{ℕ, ◌≡◌, refl, List, [], ◌∷◌, map, true, false, length, pos, negsuc, Float}
+use Rattle.std.specs.Prelude.{ℕ, ◌≡◌, refl, List, [], ◌∷◌, map, true, false, length, pos, negsuc, Float, Some}
 use Rattle.std.specs.Int.Count.{count_trailing_zeros}
 use Rattle.std.specs.Float.Ieee as Ieee
 use Rattle.std.specs.Float.{nan, inf, fin}
 use Rattle.ber_integers.specs.Digits.{horner, digits}
 use Rattle.ber_integers.specs.Integer.{signed, size_by, shortest, octets as octets_of}
 use Rattle.ber_integers.specs.Readings.{Reading, done, refused}
-use Rattle.ber_reals.specs.declared.Read.TheVariants.{Real}
 use Rattle.ber_reals.specs.Number.{in_double, number}
 use Rattle.ber_reals.specs.Real.{well_formed, binary_real, non_empty, real, real_at, real_says}
 use Rattle.ber_reals.specs.Write.{unwritten, octets, form}
@@ -38,7 +37,7 @@ written =
     ∷ (0x41 ∷ [])
     ∷ []
 
-pub read : map real written ≡ map Real doubles
+pub read : map real written ≡ map Some doubles
 unfolding real non_empty binary_real well_formed number in_double horner signed count_trailing_zeros Ieee.size Ieee.span Ieee.climb
 read = refl
 
@@ -59,12 +58,12 @@ others =
     ∷ []
 
 pub read-others : map real others
-    ≡ Real (fin false 1 (pos 0))
-    ∷ Real (fin false 1 (pos 0))
-    ∷ Real (fin false 1 (pos 63))
-    ∷ Real (fin false 1 (pos 128))
-    ∷ Real (fin false 1 (pos 128))
-    ∷ Real (fin false 9007199254740991 (pos 971))
+    ≡ Some (fin false 1 (pos 0))
+    ∷ Some (fin false 1 (pos 0))
+    ∷ Some (fin false 1 (pos 63))
+    ∷ Some (fin false 1 (pos 128))
+    ∷ Some (fin false 1 (pos 128))
+    ∷ Some (fin false 9007199254740991 (pos 971))
     ∷ []
 unfolding real non_empty binary_real well_formed number in_double horner signed count_trailing_zeros Ieee.size Ieee.span Ieee.climb
 read-others = refl

@@ -11,7 +11,6 @@ ghost use Rattle.ber_reals.specs.Real.{binary_real, real_at, real_says, real_or}
 ghost use Rattle.ber_reals.specs.Pattern.{sign_bit, bits_of};
 
 use base_casts::wide;
-use ber_integers::Natural;
 
 // A real that was read, or one that is not accepted: 35.
 #[derive(Clone, Copy)]
@@ -66,27 +65,27 @@ fn pattern(negative: bool, m: u64, units: u64) -> u64
 const BIAS: u64 = 16777216;
 
 // The double that equals ± m * 2 ^ (power - BIAS), where there is one.
-fn exact(negative: bool, m: u64, power: u64) -> Read
+fn exact(negative: bool, m: u64, power: u64) -> Option<f64>
     requires { power < 2 ^ 26 }
     ensures { result ≡ number negative m (minus power 16777216) }
 {
     if m == 0 {
-        return Read::Refused;
+        return None;
     }
     let zeros = halvings(m);
     let odd = halved(m, zeros);
     if 0x20_0000_0000_0000 <= odd {
-        return Read::Refused;
+        return None;
     }
     let raised = power + zeros;
     if raised < BIAS - 1074 {
-        return Read::Refused;
+        return None;
     }
     let units = raised - (BIAS - 1074);
     if 1074 + 1024 < bits(odd) + units {
-        return Read::Refused;
+        return None;
     }
-    Read::Real(f64::from_bits(pattern(negative, odd, units)))
+    Some(f64::from_bits(pattern(negative, odd, units)))
 }
 
 // 256 to the power e.
@@ -109,7 +108,7 @@ fn power(s: &[u8], at: usize, e: usize, scale: u64) -> u64
     ensures result_value { minus result 16777216 ≡ signed (take e (drop at s.now)) +ℤ pos scale }
     ensures upper_bound { result < 2 ^ 26 }
 {
-    let Natural::Nat(v) = ber_integers::read_unsigned(s, at, e) else {
+    let Some(v) = ber_integers::read_unsigned(s, at, e) else {
         return 0;
     };
     let raised = BIAS + scale + v;
@@ -120,55 +119,55 @@ fn power(s: &[u8], at: usize, e: usize, scale: u64) -> u64
 }
 
 // A real of more than one octet.
-fn binary(s: &[u8], at: usize, n: usize) -> Read
+fn binary(s: &[u8], at: usize, n: usize) -> Option<f64>
     requires { (2 ≤ n) × (at + n ≤ length s.now) }
     ensures { result ≡ binary_real (get_or s.now at 0) (take (n - 1) (drop (at + 1) s.now)) }
 {
     let first = wide(s[at]);
     if first < 128 {
-        return Read::Refused;
+        return None;
     }
     if first / 16 % 4 != 0 {
-        return Read::Refused;
+        return None;
     }
     let e = (first % 4) as usize + 1;
     if 3 < e {
-        return Read::Refused;
+        return None;
     }
     if n - 1 <= e {
-        return Read::Refused;
+        return None;
     }
     if e + 8 < n - 1 {
-        return Read::Refused;
+        return None;
     }
     let p = power(s, at + 1, e, first / 4 % 4);
-    let Natural::Nat(m) = ber_integers::read_unsigned(s, at + 1 + e, n - 1 - e) else {
-        return Read::Refused;
+    let Some(m) = ber_integers::read_unsigned(s, at + 1 + e, n - 1 - e) else {
+        return None;
     };
     exact(64 <= first % 128, m, p)
 }
 
 // The real of the n octets at a position.
-pub fn read_real(s: &[u8], at: usize, n: usize) -> Read
+pub fn read_real(s: &[u8], at: usize, n: usize) -> Option<f64>
     ensures { Promised real_says (real_or 35) (real_at s.now at n) result }
 {
     if s.len() < n {
-        return Read::Refused;
+        return None;
     }
     if s.len() - n < at {
-        return Read::Refused;
+        return None;
     }
     if n == 0 {
-        return Read::Real(0.0);
+        return Some(0.0);
     }
     if n == 1 {
         if s[at] == 0x40 {
-            return Read::Real(f64::from_bits(0x7ff0_0000_0000_0000));
+            return Some(f64::from_bits(0x7ff0_0000_0000_0000));
         }
         if s[at] == 0x41 {
-            return Read::Real(f64::from_bits(0xfff0_0000_0000_0000));
+            return Some(f64::from_bits(0xfff0_0000_0000_0000));
         }
-        return Read::Refused;
+        return None;
     }
     binary(s, at, n)
 }

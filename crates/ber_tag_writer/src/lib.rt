@@ -5,8 +5,6 @@ ghost use Rattle.std.specs.Prelude.{◌≡◌, ◌+◌, ◌*◌, ◌%◌, ◌≤
 ghost use Rattle.ber_integers.specs.Digits.{put, outcome};
 ghost use Rattle.ber_tags.specs.Write.{septets, bit, put_tag, length_octets, put_length};
 
-use ber_integers::Wrote;
-
 fn low(x: u64) -> u8
     ensures value { result ≡ x % 128 }
     ensures upper_bound { result < 128 }
@@ -15,15 +13,15 @@ fn low(x: u64) -> u8
 }
 
 // A number in groups of seven bits, the fewest, at a position of the output.
-pub fn write_septets(v: u64, out: &mut [u8], at: usize) -> Wrote
+pub fn write_septets(v: u64, out: &mut [u8], at: usize) -> Option<usize>
     ensures { put out.old at (septets v) ≡ outcome result out.new }
 {
     let n = ber_integers::septet_count(v / 128);
     if out.len() <= n {
-        return Wrote::Out;
+        return None;
     }
     if out.len() - n - 1 < at {
-        return Wrote::Out;
+        return None;
     }
     out[at + n] = low(v);
     let mut r = v / 128;
@@ -31,7 +29,7 @@ pub fn write_septets(v: u64, out: &mut [u8], at: usize) -> Wrote
         out[at + i] = 128 + low(r);
         r = r / 128;
     }
-    Wrote::Next(at + n + 1)
+    Some(at + n + 1)
 }
 
 // The class and the constructed bit of a first octet.
@@ -48,51 +46,57 @@ fn lead(class: u8, constructed: bool) -> u8
 }
 
 // The identifier octets of a tag, the fewest, at a position of the output.
-pub fn write_tag(class: u8, constructed: bool, number: u64, out: &mut [u8], at: usize) -> Wrote
+pub fn write_tag(
+    class: u8,
+    constructed: bool,
+    number: u64,
+    out: &mut [u8],
+    at: usize,
+) -> Option<usize>
     ensures { put_tag out.old at class constructed number ≡ outcome result out.new }
 {
     if 3 < class {
-        return Wrote::Out;
+        return None;
     }
     if 268435455 < number {
-        return Wrote::Out;
+        return None;
     }
     let first = lead(class, constructed);
     if number < 31 {
         return ber_integers::write_octet(first + number as u8, out, at);
     }
     if out.len() <= at {
-        return Wrote::Out;
+        return None;
     }
     match write_septets(number, out, at + 1) {
-        Wrote::Next(e) => {
+        Some(e) => {
             out[at] = first + 31;
-            Wrote::Next(e)
+            Some(e)
         }
-        Wrote::Out => Wrote::Out,
+        None => None,
     }
 }
 
 // The length octets of a definite length, the fewest, at a position of the output.
-pub fn write_length(n: u64, out: &mut [u8], at: usize) -> Wrote
+pub fn write_length(n: u64, out: &mut [u8], at: usize) -> Option<usize>
     ensures { put_length out.old at n ≡ outcome result out.new }
 {
     if 4294967295 < n {
-        return Wrote::Out;
+        return None;
     }
     if n < 128 {
         return ber_integers::write_octet(n as u8, out, at);
     }
     if out.len() <= at {
-        return Wrote::Out;
+        return None;
     }
     let k = ber_integers::octet_count(n);
     match ber_integers::write_octets(n, k, out, at + 1) {
-        Wrote::Next(e) => {
+        Some(e) => {
             out[at] = 128 + k as u8;
-            Wrote::Next(e)
+            Some(e)
         }
-        Wrote::Out => Wrote::Out,
+        None => None,
     }
 }
 

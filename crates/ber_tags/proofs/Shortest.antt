@@ -1,4 +1,5 @@
 -- What the reader accepts can be written, and in no more octets; written again, it is read as the same.
+use Rattle.std.specs.Prelude.{Result, Ok, Err}
 use Prim.Native.Nat.{ℕ, zero, suc, ◌+◌, ◌-◌, ◌*◌, ◌/◌, ◌%◌, ◌^◌, ◌≤◌, ◌<◌}
 use mathlib.Core.Path.{◌≡◌, refl, sym, ap, ◌∙◌}
 use mathlib.Core.List.{List, ◌∷◌, ◌++◌}
@@ -9,16 +10,13 @@ use native.Mathlib.Nat.{pow-suc, div-lt_iff_lt-mul}
 use lib.ListN.{length, take, drop, get_or}
 use lib.Dec.{leb}
 use borrow.Author.Tests.{lt-ltb, le-ltb}
+use Rattle.base_choices.proofs.Pairs.{ok-parts}
 use Rattle.ber_integers.specs.Digits.{count, natural}
 use Rattle.ber_integers.proofs.Laws.{length_part}
 use Rattle.ber_integers.proofs.Radix.{lt-or-le, Below, digit-more, power_le, natural-lt, length_digits, count-least}
 use Rattle.ber_integers.proofs.Signs.{below-take, below-drop, below_at}
 use Rattle.ber_tags.specs.declared.Length.{Length}
 use Rattle.ber_tags.specs.declared.Length.TheVariants.{Definite, Indefinite}
-use Rattle.ber_tags.specs.declared.Numbered.{Numbered}
-use Rattle.ber_tags.specs.declared.Numbered.TheVariants.{Number, Refused as NoNumber}
-use Rattle.ber_tags.specs.declared.Sized.{Sized}
-use Rattle.ber_tags.specs.declared.Sized.TheVariants.{Length as Long, Refused as NoLength}
 use Rattle.ber_tags.specs.declared.Head.TheVariants.{Tag, Refused}
 use Rattle.ber_tags.specs.Tag.{stop, long_number, tag_number, sized, length_at, head_of, head_at}
 use Rattle.ber_tags.specs.Write.{septets, tag_octets, length_octets}
@@ -36,18 +34,18 @@ stop-contained s bound =
     (λ (l : bound ≤ length s). let q = stop-bound s bound l in omega arith)
     (lt-or-le (length s) bound)
 
-no_number : {x n p : ℕ} {r : Numbered} → r ≡ Number n p → NoNumber x ≡ r → ⊥
+no_number : {x n p : ℕ} {r : Result (ℕ × ℕ) ℕ} → r ≡ Ok (n, p) → Err x ≡ r → ⊥
 no_number e f = let z : ◌≡◌ {A = ℕ} 0 1 = cc in omega arith
 
-same_number : {n m p q : ℕ} {r : Numbered} → r ≡ Number n p → Number m q ≡ r → (m ≡ n) × (q ≡ p)
-same_number e f = (cc, cc)
+same_number : {n m p q : ℕ} {r : Result (ℕ × ℕ) ℕ} → r ≡ Ok (n, p) → Ok (m, q) ≡ r → (m ≡ n) × (q ≡ p)
+same_number e f = ok-parts (f ∙ e)
 
-no_length : {x p : ℕ} {l : Length} {r : Sized} → r ≡ Long l p → NoLength x ≡ r → ⊥
+no_length : {x p : ℕ} {l : Length} {r : Result (Length × ℕ) ℕ} → r ≡ Ok (l, p) → Err x ≡ r → ⊥
 no_length e f = let z : ◌≡◌ {A = ℕ} 0 1 = cc in omega arith
 
 module _ (s : List ℕ) (at bound : ℕ) where
   -- the number that octets give has at most as many groups of seven bits
-  long-range : (k acc p n q j : ℕ) → long_number s at bound k acc p ≡ Number n q → acc < 128 ^ j
+  long-range : (k acc p n q j : ℕ) → long_number s at bound k acc p ≡ Ok (n, q) → acc < 128 ^ j
       → (p < q) × ((q ≤ p + k) × (n < 128 ^ (j + (q - p))))
   long-range zero acc p n q j e h = absurd (no_number e (long-over s at bound acc p zero refl))
   long-range (suc k) acc p n q j e h =
@@ -61,7 +59,7 @@ module _ (s : List ℕ) (at bound : ℕ) where
       (omega arith, (omega arith, rw (i, sym r.0) (digit-more 128 j h b))))
       (λ (b : 128 ≤ get_or s p 0).
       let d : suc k - 1 ≡ k = omega arith in
-      let f : long_number s at bound k (acc * 128 + get_or s p 0 % 128) (p + 1) ≡ Number n q =
+      let f : long_number s at bound k (acc * 128 + get_or s p 0 % 128) (p + 1) ≡ Ok (n, q) =
       rw d at (long-more s at bound acc p (suc k) (omega arith) w b) ∙ e in
       let l : get_or s p 0 % 128 < 128 = omega arith in
       let r = long-range k (acc * 128 + get_or s p 0 % 128) (p + 1) n q (j + 1) f (digit-more 128 j h l) in
@@ -100,7 +98,7 @@ unfolding length_octets
 length-length-long n h = simp (le-ltb _ _ h) (ap suc (length_digits 256 (omega arith) (count 256 n) n))
 
 module _ (s : List ℕ) (at bound : ℕ) where
-  pub number-range : (n p : ℕ) → tag_number s at bound ≡ Number n p
+  pub number-range : (n p : ℕ) → tag_number s at bound ≡ Ok (n, p)
       → (at < p) × ((at < length s) × ((n ≤ 268435455) × ((class : ℕ) (c : Bool) → at + length (tag_octets class c n) ≤ p)))
   number-range n p e =
       let sw = stop-within s bound in
@@ -141,17 +139,17 @@ module _ (s : List ℕ) (at bound : ℕ) where
       (λ (w : stop s bound ≤ at). absurd (no_number e (number_cut s at bound w)))
       (lt-or-le at (stop s bound))
 
-  sized-inv : (len next n q : ℕ) → sized at bound len next ≡ Long (Definite n) q → (len ≡ n) × ((next ≡ q) × (next + len ≤ bound))
+  sized-inv : (len next n q : ℕ) → sized at bound len next ≡ Ok (Definite n, q) → (len ≡ n) × ((next ≡ q) × (next + len ≤ bound))
   sized-inv len next n q e =
       ⊎_elim
       (λ (h : bound < next + len). absurd (no_length e (sized_past at bound len next h)))
-      (λ (h : next + len ≤ bound). let f : Long (Definite len) next ≡ Long (Definite n) q = sized-is at bound len next h ∙ e in (cc, (cc, h)))
+      (λ (h : next + len ≤ bound). let f : Ok (Definite len, next) ≡ Ok (Definite n, q) = sized-is at bound len next h ∙ e in let g = ok-parts f in let i : len ≡ n = let d = g.0 in cc in (i, (g.1, h)))
       (lt-or-le bound (next + len))
 
-  not-definite : {n p q : ℕ} {r : Sized} → r ≡ Long (Definite n) p → Long Indefinite q ≡ r → ⊥
-  not-definite e f = let z : ◌≡◌ {A = ℕ} 0 1 = cc in omega arith
+  not-definite : {n p q : ℕ} {r : Result (Length × ℕ) ℕ} → r ≡ Ok (Definite n, p) → Ok (Indefinite, q) ≡ r → ⊥
+  not-definite e f = let g : Indefinite ≡ Definite _ = (ok-parts (f ∙ e)).0 in let z : ◌≡◌ {A = ℕ} 0 1 = cc in omega arith
 
-  length-range : Below 256 s → (c : Bool) (p n next : ℕ) → length_at s at bound c p ≡ Long (Definite n) next
+  length-range : Below 256 s → (c : Bool) (p n next : ℕ) → length_at s at bound c p ≡ Ok (Definite n, next)
       → (next ≤ length s) × ((next + n ≤ bound) × ((n ≤ 4294967295) × (p + length (length_octets n) ≤ next)))
   length-range bytes c p n next e =
       let sw = stop-within s bound in
@@ -210,10 +208,10 @@ module _ (s : List ℕ) (at bound : ℕ) where
       eighty true g w q = not-definite e (length-80 s at bound c p w g q)
       eighty false g w q = no_length e (length-80-primitive s at bound c p w g q)
 
-  not-indefinite : {n p q : ℕ} {r : Sized} → r ≡ Long Indefinite q → Long (Definite n) p ≡ r → ⊥
-  not-indefinite e f = let z : ◌≡◌ {A = ℕ} 0 1 = cc in omega arith
+  not-indefinite : {n p q : ℕ} {r : Result (Length × ℕ) ℕ} → r ≡ Ok (Indefinite, q) → Ok (Definite n, p) ≡ r → ⊥
+  not-indefinite e f = let g : Definite _ ≡ Indefinite = (ok-parts (f ∙ e)).0 in let z : ◌≡◌ {A = ℕ} 0 1 = cc in omega arith
 
-  sized-no : (len next q : ℕ) → sized at bound len next ≡ Long Indefinite q → ⊥
+  sized-no : (len next q : ℕ) → sized at bound len next ≡ Ok (Indefinite, q) → ⊥
   sized-no len next q e =
       ⊎_elim
       (λ (h : bound < next + len). no_length e (sized_past at bound len next h))
@@ -221,7 +219,7 @@ module _ (s : List ℕ) (at bound : ℕ) where
       (lt-or-le bound (next + len))
 
   -- an indefinite length is one octet, 80, of a container
-  open-range : (c : Bool) (p next : ℕ) → length_at s at bound c p ≡ Long Indefinite next → (c ≡ true) × ((next ≡ p + 1) × (next ≤ stop s bound))
+  open-range : (c : Bool) (p next : ℕ) → length_at s at bound c p ≡ Ok (Indefinite, next) → (c ≡ true) × ((next ≡ p + 1) × (next ≤ stop s bound))
   open-range c p next e =
       ⊎_elim
       (λ (w : p < stop s bound).
@@ -248,8 +246,8 @@ module _ (s : List ℕ) (at bound : ℕ) where
     where
       eighty : (d : Bool) → get_or s p 0 ≡ 128 → p < stop s bound → c ≡ d → (c ≡ true) × ((next ≡ p + 1) × (next ≤ stop s bound))
       eighty true g w q =
-          let f : Long Indefinite (p + 1) ≡ Long Indefinite next = length-80 s at bound c p w g q ∙ e in
-          let n : p + 1 ≡ next = cc in
+          let f : Ok (Indefinite, p + 1) ≡ Ok (Indefinite, next) = length-80 s at bound c p w g q ∙ e in
+          let n : p + 1 ≡ next = (ok-parts f).1 in
           (q, (sym n, omega arith))
       eighty false g w q = absurd (no_length e (length-80-primitive s at bound c p w g q))
 
@@ -267,16 +265,16 @@ pub accepted : (s : List ℕ) (at bound class : ℕ) (c : Bool) (number len next
     → head_at s at bound ≡ Tag class c number (Definite len) next → Accepted s at bound class c number len next
 accepted s at bound class c number len next bytes e = by_number (tag_number s at bound) refl
   where
-    by_length : (n p : ℕ) → tag_number s at bound ≡ Number n p → (z : Sized) → length_at s at bound (leb 32 (get_or s at 0 % 64)) p ≡ z
+    by_length : (n p : ℕ) → tag_number s at bound ≡ Ok (n, p) → (z : Result (Length × ℕ) ℕ) → length_at s at bound (leb 32 (get_or s at 0 % 64)) p ≡ z
         → head_of (get_or s at 0) n z ≡ Tag class c number (Definite len) next → Accepted s at bound class c number len next
-    by_length n p en (NoLength x) el h = let z : ◌≡◌ {A = ℕ} 0 1 = cc in absurd (omega arith)
-    by_length n p en (Long l q) el h =
+    by_length n p en (Err x) el h = let z : ◌≡◌ {A = ℕ} 0 1 = cc in absurd (omega arith)
+    by_length n p en (Ok (l, q)) el h =
         let e1 : n ≡ number = cc in
         let e2 : l ≡ Definite len = cc in
         let e3 : q ≡ next = cc in
         let e4 : get_or s at 0 / 64 ≡ class = cc in
         let r = number-range s at bound n p en in
-        let f : length_at s at bound (leb 32 (get_or s at 0 % 64)) p ≡ Long (Definite len) next = el ∙ cc in
+        let f : length_at s at bound (leb 32 (get_or s at 0 % 64)) p ≡ Ok (Definite len, next) = el ∙ cc in
         let t = length-range s at bound bytes (leb 32 (get_or s at 0 % 64)) p len next f in
         let b : get_or s at 0 < 256 = below_at 256 s at (omega arith) bytes in
         let o : at + length (tag_octets class c n) ≤ p = r.1.1.1 class c in
@@ -288,11 +286,11 @@ accepted s at bound class c number len next bytes e = by_number (tag_number s at
         let t3 = t.1.1.1 in
         record { classes = omega arith; numbers = omega arith; lengths = t2; shortest = omega arith; within = t0; contained = t1 }
 
-    by_number : (r : Numbered) → tag_number s at bound ≡ r → Accepted s at bound class c number len next
-    by_number (NoNumber x) en =
+    by_number : (r : Result (ℕ × ℕ) ℕ) → tag_number s at bound ≡ r → Accepted s at bound class c number len next
+    by_number (Err x) en =
         let h : Refused x ≡ Tag class c number (Definite len) next = head-by s at bound en ∙ e in
         let z : ◌≡◌ {A = ℕ} 0 1 = cc in absurd (omega arith)
-    by_number (Number n p) en = by_length n p en (length_at s at bound (leb 32 (get_or s at 0 % 64)) p) refl (head-by s at bound en ∙ e)
+    by_number (Ok (n, p)) en = by_length n p en (length_at s at bound (leb 32 (get_or s at 0 % 64)) p) refl (head-by s at bound en ∙ e)
 
 -- .. and of one with an indefinite length: a container, whose length octet is 80.
 pub record AcceptedOpen (s : List ℕ) (at bound class : ℕ) (c : Bool) (number next : ℕ) : Type 0 where
@@ -307,15 +305,15 @@ pub accepted-open : (s : List ℕ) (at bound class : ℕ) (c : Bool) (number nex
     → head_at s at bound ≡ Tag class c number Indefinite next → AcceptedOpen s at bound class c number next
 accepted-open s at bound class c number next bytes e = by_number (tag_number s at bound) refl
   where
-    by_length : (n p : ℕ) → tag_number s at bound ≡ Number n p → (z : Sized) → length_at s at bound (leb 32 (get_or s at 0 % 64)) p ≡ z
+    by_length : (n p : ℕ) → tag_number s at bound ≡ Ok (n, p) → (z : Result (Length × ℕ) ℕ) → length_at s at bound (leb 32 (get_or s at 0 % 64)) p ≡ z
         → head_of (get_or s at 0) n z ≡ Tag class c number Indefinite next → AcceptedOpen s at bound class c number next
-    by_length n p en (NoLength x) el h = let z : ◌≡◌ {A = ℕ} 0 1 = cc in absurd (omega arith)
-    by_length n p en (Long l q) el h =
+    by_length n p en (Err x) el h = let z : ◌≡◌ {A = ℕ} 0 1 = cc in absurd (omega arith)
+    by_length n p en (Ok (l, q)) el h =
         let e1 : n ≡ number = cc in
         let e4 : get_or s at 0 / 64 ≡ class = cc in
         let e5 : leb 32 (get_or s at 0 % 64) ≡ c = cc in
         let r = number-range s at bound n p en in
-        let f : length_at s at bound (leb 32 (get_or s at 0 % 64)) p ≡ Long Indefinite next = el ∙ cc in
+        let f : length_at s at bound (leb 32 (get_or s at 0 % 64)) p ≡ Ok (Indefinite, next) = el ∙ cc in
         let t = open-range s at bound (leb 32 (get_or s at 0 % 64)) p next f in
         let b : get_or s at 0 < 256 = below_at 256 s at (omega arith) bytes in
         let o : at + length (tag_octets class c n) ≤ p = r.1.1.1 class c in
@@ -334,11 +332,11 @@ accepted-open s at bound class c number next bytes e = by_number (tag_number s a
           contained = omega arith;
         }
 
-    by_number : (r : Numbered) → tag_number s at bound ≡ r → AcceptedOpen s at bound class c number next
-    by_number (NoNumber x) en =
+    by_number : (r : Result (ℕ × ℕ) ℕ) → tag_number s at bound ≡ r → AcceptedOpen s at bound class c number next
+    by_number (Err x) en =
         let h : Refused x ≡ Tag class c number Indefinite next = head-by s at bound en ∙ e in
         let z : ◌≡◌ {A = ℕ} 0 1 = cc in absurd (omega arith)
-    by_number (Number n p) en = by_length n p en (length_at s at bound (leb 32 (get_or s at 0 % 64)) p) refl (head-by s at bound en ∙ e)
+    by_number (Ok (n, p)) en = by_length n p en (length_at s at bound (leb 32 (get_or s at 0 % 64)) p) refl (head-by s at bound en ∙ e)
 
 -- Read, written again and read: the same tag and length.
 pub read_again : (s : List ℕ) (at bound class : ℕ) (c : Bool) (number len next : ℕ) → Below 256 s

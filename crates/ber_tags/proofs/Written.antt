@@ -1,4 +1,5 @@
 -- A tag and a length that were written are read back.
+use Rattle.std.specs.Prelude.{Ok}
 use Prim.Native.Nat.{ℕ, zero, suc, ◌+◌, ◌-◌, ◌*◌, ◌/◌, ◌%◌, ◌≤◌, ◌<◌}
 use mathlib.Core.Path.{◌≡◌, refl, sym, ap, ◌∙◌}
 use mathlib.Core.List.{List, [], ◌∷◌, ◌++◌, append_assoc}
@@ -14,8 +15,6 @@ use Rattle.ber_integers.specs.Digits.{horner, digits, count, natural}
 use Rattle.ber_integers.proofs.Radix.{lt-or-le, Below, length_digits, digits-below, horner-digits, count-holds, count-least}
 use Rattle.ber_integers.proofs.Laws.{count-more}
 use Rattle.ber_tags.specs.declared.Length.TheVariants.{Definite, Indefinite}
-use Rattle.ber_tags.specs.declared.Numbered.TheVariants.{Number}
-use Rattle.ber_tags.specs.declared.Sized.TheVariants.{Length as Long}
 use Rattle.ber_tags.specs.declared.Head.TheVariants.{Tag}
 use Rattle.ber_tags.specs.Tag.{stop, long_number, tag_number, sized, length_at, head_at}
 use Rattle.ber_tags.specs.Write.{marked, septets, bit, tag_octets, length_octets}
@@ -51,14 +50,14 @@ drop_head s p x xs e = let q : p + 1 ≡ suc p = omega arith in rw q (go s p x x
 
 module _ (s : List ℕ) (at bound : ℕ) where
   long-read : (ds : List ℕ) (d : ℕ) (rest : List ℕ) (k acc p : ℕ) → drop p s ≡ marked ds ++ (d ∷ rest) → d < 128 → Below 128 ds
-      → length ds < k → p + length ds < stop s bound → long_number s at bound k acc p ≡ Number (horner 128 acc ds * 128 + d) (p + length ds + 1)
+      → length ds < k → p + length ds < stop s bound → long_number s at bound k acc p ≡ Ok (horner 128 acc ds * 128 + d, p + length ds + 1)
   unfolding horner
   long-read [] d rest k acc p e h b l w =
       let q = drop_head s p d rest e in
       let i : p + 0 + 1 ≡ p + 1 = omega arith in
       let j : p < stop s bound = omega arith in
       let g : get_or s p 0 < 128 = rw q.1.0 h in
-      rw i (sym (long-last s at bound acc p k (omega arith) j g) ∙ ap (λ (y : ℕ). Number (acc * 128 + y) (p + 1)) q.1.0)
+      rw i (sym (long-last s at bound acc p k (omega arith) j g) ∙ ap (λ (y : ℕ). Ok (acc * 128 + y, p + 1)) q.1.0)
   long-read (x ∷ ds) d rest k acc p e h b l w =
       let q = drop_head s p (128 + x) (marked ds ++ (d ∷ rest)) e in
       let x0 : x < 128 = b.0 in
@@ -116,7 +115,7 @@ few-septets n h = count-least 128 (omega arith) (n / 128) (n / 128) 3 (omega ari
 
 -- a number written in groups of seven bits is read
 pub septets-read : (s : List ℕ) (at bound n : ℕ) (rest : List ℕ) (p : ℕ) → drop p s ≡ septets n ++ rest → n ≤ 268435455
-    → p + length (septets n) ≤ stop s bound → long_number s at bound 4 0 p ≡ Number n (p + length (septets n))
+    → p + length (septets n) ≤ stop s bound → long_number s at bound 4 0 p ≡ Ok (n, p + length (septets n))
 unfolding septets
 septets-read s at bound n rest p t h w =
     let ds = digits 128 (count 128 (n / 128)) (n / 128) in
@@ -126,7 +125,7 @@ septets-read s at bound n rest p t h w =
     let r = long-read s at bound ds (n % 128) rest 4 0 p (t ∙ append_assoc (marked ds) ((n % 128) ∷ []) rest) (omega arith)
     (digits-below 128 (omega arith) (count 128 (n / 128)) (n / 128)) (omega arith) (omega arith) in
     let i : p + length ds + 1 ≡ p + length (septets n) = omega arith in
-    r ∙ ap (λ (x : ℕ). Number x (p + length ds + 1)) (septets-value n) ∙ ap (Number n) i
+    r ∙ ap (λ (x : ℕ). Ok (x, p + length ds + 1)) (septets-value n) ∙ ap (λ x. Ok (n, x)) i
 
 module _ (s : List ℕ) (at bound class : ℕ) (c : Bool) (n : ℕ) (rest : List ℕ) (there : drop at s ≡ tag_octets class c n ++ rest)
     (small : n ≤ 268435455) (room : at + length (tag_octets class c n) ≤ stop s bound) where
@@ -136,22 +135,22 @@ module _ (s : List ℕ) (at bound class : ℕ) (c : Bool) (n : ℕ) (rest : List
   pub first-octet : get_or s at 0 ≡ class * 64 + bit c + tag-low n
   first-octet = first.1.0
 
-  pub number_read : tag_number s at bound ≡ Number n (at + length (tag_octets class c n))
+  pub number_read : tag_number s at bound ≡ Ok (n, at + length (tag_octets class c n))
   unfolding tag_octets tag-low tag-more
   number_read = ⊎_elim short long (lt-or-le n 31)
     where
       low-is : get_or s at 0 % 32 ≡ pick (ltb n 31) n 31
       low-is = ap (λ (x : ℕ). x % 32) first.1.0 ∙ first-low class (tag-low n) (low-few class c n) c
 
-      short : n < 31 → tag_number s at bound ≡ Number n (at + length (tag_octets class c n))
+      short : n < 31 → tag_number s at bound ≡ Ok (n, at + length (tag_octets class c n))
       short h =
           let m : get_or s at 0 % 32 ≡ n = simp (lt-ltb _ _ h) at low-is in
           let l : at + length (tag_octets class c n) ≤ stop s bound = room in
           let r : at + 1 ≤ stop s bound = simp (lt-ltb _ _ h) at l in
           let g : get_or s at 0 % 32 < 31 = rw m h in
-          simp (lt-ltb _ _ h) (sym (number_short s at bound (omega arith) g) ∙ ap (λ (x : ℕ). Number x (at + 1)) m)
+          simp (lt-ltb _ _ h) (sym (number_short s at bound (omega arith) g) ∙ ap (λ (x : ℕ). Ok (x, at + 1)) m)
 
-      long : 31 ≤ n → tag_number s at bound ≡ Number n (at + length (tag_octets class c n))
+      long : 31 ≤ n → tag_number s at bound ≡ Ok (n, at + length (tag_octets class c n))
       long h =
           let m : get_or s at 0 % 32 ≡ 31 = simp (le-ltb _ _ h) at low-is in
           let l : at + length (tag_octets class c n) ≤ stop s bound = room in
@@ -163,16 +162,16 @@ module _ (s : List ℕ) (at bound class : ℕ) (c : Bool) (n : ℕ) (rest : List
           simp (le-ltb _ _ h)
           (sym (number-long s at bound (omega arith) g (omega arith) (not-80 s (at + 1) n rest t))
           ∙ septets-read s at bound n rest (at + 1) t small (omega arith)
-          ∙ ap (Number n) i)
+          ∙ ap (λ x. Ok (n, x)) i)
 
 -- a length that was written is read
 module _ (s : List ℕ) (at bound : ℕ) (c : Bool) (n : ℕ) (rest : List ℕ) (p : ℕ) (there : drop p s ≡ length_octets n ++ rest)
     (small : n ≤ 4294967295) (inside : p + length (length_octets n) ≤ length s) (room : p + length (length_octets n) + n ≤ bound) where
-  pub length-read : length_at s at bound c p ≡ Long (Definite n) (p + length (length_octets n))
+  pub length-read : length_at s at bound c p ≡ Ok (Definite n, p + length (length_octets n))
   unfolding length_octets
   length-read = ⊎_elim short long (lt-or-le n 128)
     where
-      short : n < 128 → length_at s at bound c p ≡ Long (Definite n) (p + length (length_octets n))
+      short : n < 128 → length_at s at bound c p ≡ Ok (Definite n, p + length (length_octets n))
       short h =
           let t : drop p s ≡ n ∷ rest = simp (lt-ltb _ _ h) at there in
           let d = drop_head s p n rest t in
@@ -183,7 +182,7 @@ module _ (s : List ℕ) (at bound : ℕ) (c : Bool) (n : ℕ) (rest : List ℕ) 
           simp (lt-ltb _ _ h)
           (sym (length-short s at bound c p (omega arith) g) ∙ ap (λ (x : ℕ). sized at bound x (p + 1)) d.1.0 ∙ sym (sized-is at bound n (p + 1) r))
 
-      long : 128 ≤ n → length_at s at bound c p ≡ Long (Definite n) (p + length (length_octets n))
+      long : 128 ≤ n → length_at s at bound c p ≡ Ok (Definite n, p + length (length_octets n))
       long h =
           let k = count 256 n in
           let l : length (digits 256 k n) ≡ k = length_digits 256 (omega arith) k n in
@@ -243,6 +242,6 @@ head-read-open s at bound class n rest t hn room =
     let f : get_or s at 0 ≡ class * 64 + bit true + tag-low n = first.1.0 in
     let cl : get_or s at 0 / 64 ≡ class = ap (λ (x : ℕ). x / 64) f ∙ first-class class (tag-low n) (low-few class true n) true in
     let cb : leb 32 (get_or s at 0 % 64) ≡ true = ap (λ (x : ℕ). leb 32 (x % 64)) f ∙ first_bit class (tag-low n) (low-few class true n) true in
-    let z : length_at s at bound true (at + length tag) ≡ Long Indefinite (at + length tag + 1) =
+    let z : length_at s at bound true (at + length tag) ≡ Ok (Indefinite, at + length tag + 1) =
     sym (length-80 s at bound true (at + length tag) (omega arith) d.1.0 refl) in
     sym (head-by s at bound number) ∙ rw (cb, z, cl, cb)

@@ -5,8 +5,6 @@ ghost use Rattle.std.specs.Prelude.{◌≡◌, ◌+◌, ◌≤◌, ◌<◌, leng
 ghost use Rattle.ber_integers.specs.Readings.{Promised};
 ghost use Rattle.ber_tags.specs.Tag.{stop, cut, long_number, tag_number, sized, length_at, head_of, head_at, head_says, head_or, NumberWithin};
 
-use ber_integers::Natural;
-
 // The length of what follows a tag.
 #[derive(Clone, Copy)]
 pub enum Length {
@@ -59,7 +57,7 @@ fn cut_of(s: &[u8], at: usize, bound: usize) -> usize
 }
 
 // The number octets of a long tag at `at`.
-fn long_number(s: &[u8], at: usize, bound: usize) -> Numbered
+fn long_number(s: &[u8], at: usize, bound: usize) -> Result<(u64, usize), usize>
     requires { at < length s.now }
     ensures value { result ≡ long_number s.now at bound 4 0 (at + 1) }
     ensures number_within { NumberWithin s.now at result }
@@ -69,71 +67,68 @@ fn long_number(s: &[u8], at: usize, bound: usize) -> Numbered
     let mut acc: u64 = 0;
     for p in at + 1..at + 5 {
         if end <= p {
-            return Numbered::Refused { place };
+            return Err(place);
         }
         let b = s[p];
         if b < 128 {
-            return Numbered::Number {
-                number: acc * 128 + u64::from(b),
-                next: p + 1,
-            };
+            return Ok((acc * 128 + u64::from(b), p + 1));
         }
         acc = acc * 128 + u64::from(b % 128);
     }
-    Numbered::Refused { place: at }
+    Err(at)
 }
 
 // The number of the tag at `at`.
-fn tag_number(s: &[u8], at: usize, bound: usize) -> Numbered
+fn tag_number(s: &[u8], at: usize, bound: usize) -> Result<(u64, usize), usize>
     ensures value { result ≡ tag_number s.now at bound }
     ensures number_within { NumberWithin s.now at result }
 {
     let end = stop_of(s, bound);
     let place = cut_of(s, at, bound);
     if end <= at {
-        return Numbered::Refused { place };
+        return Err(place);
     }
     let low = s[at] % 32;
     if low < 31 {
-        return Numbered::Number {
-            number: u64::from(low),
-            next: at + 1,
-        };
+        return Ok((u64::from(low), at + 1));
     }
     let p = at + 1;
     if end <= p {
-        return Numbered::Refused { place };
+        return Err(place);
     }
     if s[p] == 128 {
-        return Numbered::Refused { place: at };
+        return Err(at);
     }
     long_number(s, at, bound)
 }
 
 // A definite length, unless it passes the container's end.
-fn fitted(len: usize, at: usize, bound: usize, next: usize) -> Sized
+fn fitted(len: usize, at: usize, bound: usize, next: usize) -> Result<(Length, usize), usize>
     ensures { result ≡ sized at bound len next }
 {
     if bound < next {
-        return Sized::Refused { place: at };
+        return Err(at);
     }
     if bound - next < len {
-        return Sized::Refused { place: at };
+        return Err(at);
     }
-    Sized::Length {
-        length: Length::Definite(len),
-        next,
-    }
+    Ok((Length::Definite(len), next))
 }
 
 // The length octets at p of the tag at `at`.
-fn length_at(s: &[u8], at: usize, bound: usize, constructed: bool, p: usize) -> Sized
+fn length_at(
+    s: &[u8],
+    at: usize,
+    bound: usize,
+    constructed: bool,
+    p: usize,
+) -> Result<(Length, usize), usize>
     ensures { result ≡ length_at s.now at bound constructed p }
 {
     let end = stop_of(s, bound);
     let place = cut_of(s, at, bound);
     if end <= p {
-        return Sized::Refused { place };
+        return Err(place);
     }
     let b = s[p];
     if b < 128 {
@@ -141,40 +136,37 @@ fn length_at(s: &[u8], at: usize, bound: usize, constructed: bool, p: usize) -> 
     }
     if b == 128 {
         if constructed {
-            return Sized::Length {
-                length: Length::Indefinite,
-                next: p + 1,
-            };
+            return Ok((Length::Indefinite, p + 1));
         }
-        return Sized::Refused { place: at };
+        return Err(at);
     }
     if 132 < b {
-        return Sized::Refused { place: at };
+        return Err(at);
     }
     let n = usize::from(b - 128);
     let from = p + 1;
     if end - from < n {
-        return Sized::Refused { place };
+        return Err(place);
     }
     match ber_integers::read_unsigned(s, from, n) {
-        Natural::Nat(v) => fitted(v as usize, at, bound, from + n),
-        Natural::Refused => Sized::Refused { place: at },
+        Some(v) => fitted(v as usize, at, bound, from + n),
+        None => Err(at),
     }
 }
 
 // Class and constructed bit are the first octet's.
-fn headed(b: u8, number: u64, z: Sized) -> Head
+fn headed(b: u8, number: u64, z: Result<(Length, usize), usize>) -> Head
     ensures { result ≡ head_of b number z }
 {
     match z {
-        Sized::Length { length, next } => Head::Tag {
+        Ok((length, next)) => Head::Tag {
             class: b / 64,
             constructed: 32 <= b % 64,
             number,
             length,
             next,
         },
-        Sized::Refused { place } => Head::Refused { place },
+        Err(place) => Head::Refused { place },
     }
 }
 
@@ -183,8 +175,8 @@ pub fn read_tag(s: &[u8], at: usize, bound: usize) -> Head
     ensures { Promised head_says (head_or 30) (head_at s.now at bound) result }
 {
     match tag_number(s, at, bound) {
-        Numbered::Refused { place } => Head::Refused { place },
-        Numbered::Number { number, next } => {
+        Err(place) => Head::Refused { place },
+        Ok((number, next)) => {
             let b = s[at];
             headed(b, number, length_at(s, at, bound, 32 <= b % 64, next))
         }

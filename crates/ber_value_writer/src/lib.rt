@@ -7,45 +7,44 @@ ghost use Rattle.ber_integers.specs.Digits.{outcome};
 ghost use Rattle.ber_reals.specs.Write.{octets, form};
 ghost use Rattle.ber_values.specs.Write.{Sealable, put_head, bool_octet, part, put_part, put_primitive, put_value};
 
-use ber_integers::Wrote;
 use ber_values::Value;
 
 // Content octets that stand two octets past `at`, fewer than 128, get their tag and length.
-fn sealed(kind: u8, w: Wrote, out: &mut [u8], at: usize) -> Wrote
+fn sealed(kind: u8, w: Option<usize>, out: &mut [u8], at: usize) -> Option<usize>
     requires { Sealable out.old at w }
     ensures { put_head out.old at kind w ≡ outcome result out.new }
 {
     match w {
-        Wrote::Next(e) => {
+        Some(e) => {
             out[at + 1] = (e - (at + 2)) as u8;
             out[at] = kind;
-            Wrote::Next(e)
+            Some(e)
         }
-        Wrote::Out => Wrote::Out,
+        None => None,
     }
 }
 
-fn write_whole(x: i64, out: &mut [u8], at: usize) -> Wrote
+fn write_whole(x: i64, out: &mut [u8], at: usize) -> Option<usize>
     ensures { put_primitive out.old at 2 (octets (shortest x)) ≡ outcome result out.new }
 {
     if out.len() < 2 {
-        return Wrote::Out;
+        return None;
     }
     if out.len() - 2 < at {
-        return Wrote::Out;
+        return None;
     }
     let w = ber_integers::write_int(x, out, at + 2);
     sealed(2, w, out, at)
 }
 
-fn write_double(x: f64, out: &mut [u8], at: usize) -> Wrote
+fn write_double(x: f64, out: &mut [u8], at: usize) -> Option<usize>
     ensures { put_primitive out.old at 9 (form x) ≡ outcome result out.new }
 {
     if out.len() < 2 {
-        return Wrote::Out;
+        return None;
     }
     if out.len() - 2 < at {
-        return Wrote::Out;
+        return None;
     }
     let w = ber_real_writer::write_real(x, out, at + 2);
     sealed(9, w, out, at)
@@ -58,71 +57,78 @@ pub fn bool_octet(b: bool) -> u8
     if b { 255 } else { 0 }
 }
 
-fn write_flag(b: bool, out: &mut [u8], at: usize) -> Wrote
+fn write_flag(b: bool, out: &mut [u8], at: usize) -> Option<usize>
     ensures { put_primitive out.old at 1 (octets (bool_octet b ∷ [])) ≡ outcome result out.new }
 {
     if out.len() < 2 {
-        return Wrote::Out;
+        return None;
     }
     if out.len() - 2 < at {
-        return Wrote::Out;
+        return None;
     }
     let w = ber_integers::write_octet(bool_octet(b), out, at + 2);
     sealed(1, w, out, at)
 }
 
 // The len octets at `start` of another slice, at a position of the output.
-pub fn write_part(src: &[u8], start: usize, len: usize, out: &mut [u8], at: usize) -> Wrote
+pub fn write_part(src: &[u8], start: usize, len: usize, out: &mut [u8], at: usize) -> Option<usize>
     ensures { put_part src.now start len out.old at ≡ outcome result out.new }
 {
     if src.len() < len {
-        return Wrote::Out;
+        return None;
     }
     if src.len() - len < start {
-        return Wrote::Out;
+        return None;
     }
     if out.len() < len {
-        return Wrote::Out;
+        return None;
     }
     if out.len() - len < at {
-        return Wrote::Out;
+        return None;
     }
     out[at..at + len].copy_from_slice(&src[start..start + len]);
-    Wrote::Next(at + len)
+    Some(at + len)
 }
 
 // Text or octets with their tag and length.
-fn write_text(kind: u8, src: &[u8], start: usize, len: usize, out: &mut [u8], at: usize) -> Wrote
+fn write_text(
+    kind: u8,
+    src: &[u8],
+    start: usize,
+    len: usize,
+    out: &mut [u8],
+    at: usize,
+) -> Option<usize>
     requires { kind < 31 }
     ensures { put_primitive out.old at kind (part src.now start len) ≡ outcome result out.new }
 {
     let n = len as u64;
     if 4294967295 < n {
-        return Wrote::Out;
+        return None;
     }
     let h = ber_tag_writer::length_size(n);
     if out.len() < h + 1 {
-        return Wrote::Out;
+        return None;
     }
     if out.len() - (h + 1) < at {
-        return Wrote::Out;
+        return None;
     }
     match write_part(src, start, len, out, at + 1 + h) {
-        Wrote::Next(e) => {
+        Some(e) => {
             ber_tag_writer::write_length(n, out, at + 1);
             out[at] = kind;
-            Wrote::Next(e)
+            Some(e)
         }
-        Wrote::Out => Wrote::Out,
+        None => None,
     }
 }
 
 // A value with its tag, at a position of the output; texts and octets come from `src`.
-pub fn write_value(v: Value, src: &[u8], out: &mut [u8], at: usize) -> Wrote
+pub fn write_value(v: Value, src: &[u8], out: &mut [u8], at: usize) -> Option<usize>
     ensures { put_value src.now out.old at v ≡ outcome result out.new }
 {
     match v {
-        Value::Absent => Wrote::Out,
+        Value::Absent => None,
         Value::Int(x) => write_whole(x, out, at),
         Value::Real(x) => write_double(x, out, at),
         Value::Text { start, len } => write_text(12, src, start, len, out, at),

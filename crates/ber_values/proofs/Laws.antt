@@ -1,4 +1,5 @@
 -- One law for each answer of the definitions, at plain variables.
+use Rattle.std.specs.Prelude.{Option, Some, None}
 use Prim.Native.Nat.{ℕ, ◌+◌, ◌-◌, ◌≤◌, ◌<◌}
 use mathlib.Core.Path.{◌≡◌, refl, sym, ◌∙◌}
 use mathlib.Core.List.{List, [], ◌∷◌}
@@ -17,8 +18,6 @@ use Rattle.ber_tags.specs.declared.Head.{Head}
 use Rattle.ber_tags.specs.declared.Head.TheVariants.{Tag}
 use Rattle.ber_tags.specs.Tag.{head_at}
 use Rattle.ber_values.specs.declared.Value.TheVariants.{Text, Octets}
-use Rattle.ber_values.specs.declared.Flag.{Flag}
-use Rattle.ber_values.specs.declared.Flag.TheVariants.{Is, Refused as NoFlag}
 use Rattle.ber_values.specs.declared.Answer.{Answer}
 use Rattle.ber_values.specs.declared.Answer.TheVariants.{Found, Other, Refused}
 use Rattle.ber_reals.specs.Write.{unwritten, octets}
@@ -26,24 +25,24 @@ use Rattle.ber_values.specs.Write.{part}
 use Rattle.ber_values.specs.Value.{boolean, bool_at, on_flag, on_number, on_real, is_listed, kind_at, content_at, on_length, on_head, value_at, flag_says}
 use Rattle.ber_values.specs.Value.{flag_or, answer_says, answer_or}
 
-pub bool-length : (bs : List ℕ) → (length bs ≡ 1 → ⊥) → NoFlag ≡ boolean bs
+pub bool-length : (bs : List ℕ) → (length bs ≡ 1 → ⊥) → None ≡ boolean bs
 unfolding boolean
 bool-length [] h = refl
 bool-length (b ∷ []) h = absurd (h refl)
 bool-length (b ∷ (c ∷ bs)) h = refl
 
 module _ (s : List ℕ) (at n : ℕ) where
-  pub bool-out : length s < at + n → NoFlag ≡ bool_at s at n
+  pub bool-out : length s < at + n → None ≡ bool_at s at n
   unfolding bool_at
   bool-out h = simp (lt-leb _ _ h)
 
-  pub bool_is : at + n ≤ length s → n ≡ 1 → Is (not (eqb (get_or s at 0) 0)) ≡ bool_at s at n
+  pub bool_is : at + n ≤ length s → n ≡ 1 → Some (not (eqb (get_or s at 0) 0)) ≡ bool_at s at n
   unfolding bool_at boolean
   bool_is h e =
       let t : take n (drop at s) ≡ get_or s at 0 ∷ [] = part-cons s at n (omega arith) h ∙ let z : n - 1 ≡ 0 = omega arith in rw z in
       simp (le-leb _ _ h, t)
 
-  pub bool-not : at + n ≤ length s → (n ≡ 1 → ⊥) → NoFlag ≡ bool_at s at n
+  pub bool-not : at + n ≤ length s → (n ≡ 1 → ⊥) → None ≡ bool_at s at n
   unfolding bool_at
   bool-not h k = bool-length (take n (drop at s)) (λ e. k (sym (length_part s at n h) ∙ e)) ∙ simp (le-leb _ _ h)
 
@@ -173,9 +172,9 @@ unfolding is_listed
 listed-none kind h1 h2 h4 h9 h12 = simp (ne_eqb _ _ h1, ne_eqb _ _ h2, ne_eqb _ _ h4, ne_eqb _ _ h9, ne_eqb _ _ h12)
 
 -- each case of the answers says what document 01's rows say
-pub flag-row : (x : Flag) → flag_says x ≡ flag_or 30 x
-flag-row (Is b) = refl
-flag-row NoFlag = refl
+pub flag-row : (x : Option Bool) → flag_says x ≡ flag_or 30 x
+flag-row (Some b) = refl
+flag-row None = refl
 
 pub answer-row : (x : Answer) → answer_says x ≡ answer_or 33 x
 answer-row (Found value next) = refl

@@ -1,20 +1,17 @@
 -- With which numbers each call answers, whatever is handed in.
+use Rattle.std.specs.Prelude.{ℤ, Float, Option, Some, None}
 use Prim.Native.Nat.{ℕ, ◌+◌}
 use mathlib.Core.List.{List}
 use mathlib.Core.Bool.{Bool, true, false}
 use types.Run.{OneOf, hit}
 use lib.ListN.{length, take, drop}
 use lib.Dec.{leb, eqb}
-use Rattle.ber_integers.specs.declared.Number.{Number}
-use Rattle.ber_integers.specs.declared.Number.TheVariants.{Int as Whole, Refused as NoInt}
 use Rattle.base_choices.specs.Choices.{pick}
 use Rattle.ber_integers.specs.Digits.{put}
 use Rattle.ber_integers.specs.Integer.{integer_at}
 use Rattle.ber_integers.specs.Readings.{number_of}
 use Rattle.ber_integers.specs.Numbers.{octet_numbers, put_numbers}
 use Rattle.ber_integers.proofs.Numbers.{put-numbers, unchanged-numbers}
-use Rattle.ber_reals.specs.declared.Read.{Read}
-use Rattle.ber_reals.specs.declared.Read.TheVariants.{Real as Double, Refused as NoReal}
 use Rattle.ber_reals.specs.Real.{real_at}
 use Rattle.ber_reals.specs.Write.{Form, unwritten, octets}
 use Rattle.ber_tags.specs.declared.Length.{Length}
@@ -24,16 +21,14 @@ use Rattle.ber_tags.specs.declared.Head.TheVariants.{Tag, Refused as NoTag}
 use Rattle.ber_tags.specs.Tag.{head_at}
 use Rattle.ber_tags.proofs.Numbers.{put-if-numbers}
 use Rattle.ber_values.specs.declared.Value.{Value}
-use Rattle.ber_values.specs.declared.Flag.{Flag}
-use Rattle.ber_values.specs.declared.Flag.TheVariants.{Is, Refused as NoFlag}
 use Rattle.ber_values.specs.declared.Answer.{Answer}
 use Rattle.ber_values.specs.Value.{bool_at, flag_says, on_flag, on_number, on_real, is_listed, kind_at, content_at, on_length, on_head, value_at, answer_says}
 use Rattle.ber_values.specs.Value.{value_numbers}
 use Rattle.ber_values.specs.Write.{content_octets, kind_of, primitive, put_primitive, put_value, put_part}
 
-flag-numbers : (x : Flag) (tag : ℕ) → OneOf octet_numbers (number_of (flag_says x tag))
-flag-numbers (Is b) tag = hit octet_numbers 0 tt
-flag-numbers NoFlag tag = hit octet_numbers 30 tt
+flag-numbers : (x : Option Bool) (tag : ℕ) → OneOf octet_numbers (number_of (flag_says x tag))
+flag-numbers (Some b) tag = hit octet_numbers 0 tt
+flag-numbers None tag = hit octet_numbers 30 tt
 
 -- `read_bool`, with a tag at its place: 0 or 30
 pub read-bool-numbers : (s : List ℕ) (at n tag : ℕ) → OneOf octet_numbers (number_of (flag_says (bool_at s at n) tag))
@@ -63,17 +58,17 @@ either P false h k = k
 
 module _ (s : List ℕ) (at : ℕ) where
   module _ (next : ℕ) where
-    on-flag : (x : Flag) → Numbered (on_flag at next x)
-    on-flag (Is b) = is-0
-    on-flag NoFlag = is-30
+    on-flag : (x : Option Bool) → Numbered (on_flag at next x)
+    on-flag (Some b) = is-0
+    on-flag None = is-30
 
-    on-number : (x : Number) → Numbered (on_number at next x)
-    on-number (Whole z) = is-0
-    on-number NoInt = is-30
+    on-number : (x : Option ℤ) → Numbered (on_number at next x)
+    on-number (Some z) = is-0
+    on-number None = is-30
 
-    on-real : (x : Read) → Numbered (on_real at next x)
-    on-real (Double x) = is-0
-    on-real NoReal = is-35
+    on-real : (x : Option Float) → Numbered (on_real at next x)
+    on-real (Some x) = is-0
+    on-real None = is-35
 
   kind-numbers : (kind start len : ℕ) → Numbered (kind_at s at kind start len)
   unfolding kind_at

@@ -1,4 +1,5 @@
 -- Values: what is written is read back, with nothing left; what is read can be written, and is then read as the same.
+use Rattle.std.specs.Prelude.{ℤ, Float, Option, Some, None}
 use Prim.Native.Nat.{ℕ, ◌+◌, ◌-◌, ◌≤◌, ◌<◌}
 use mathlib.Core.Path.{◌≡◌, refl, sym, ap, subst, subst⁻¹, ◌∙◌}
 use mathlib.Core.List.{List, [], ◌∷◌, ◌++◌, append_assoc}
@@ -9,9 +10,6 @@ use borrow.Author.Tests.{le-leb, lt-leb, eqb-true, eqb-false}
 use lib.ListN.{length, take, drop, length-append, take-append-drop}
 use lib.Seq.{take-append_seam}
 use lib.Dec.{leb, eqb}
-use Rattle.ber_integers.specs.declared.Wrote.TheVariants.{Next, Out}
-use Rattle.ber_integers.specs.declared.Number.{Number}
-use Rattle.ber_integers.specs.declared.Number.TheVariants.{Int as Whole, Refused as NoInt}
 use Rattle.ber_integers.specs.Digits.{Put, put, unchanged, outcome}
 use Rattle.ber_integers.specs.Integer.{integer, integer_at, shortest}
 use Rattle.ber_integers.proofs.Laws.{at_part, length_part}
@@ -19,8 +17,6 @@ use Rattle.ber_integers.proofs.Radix.{lt-or-le, Below}
 use Rattle.ber_integers.proofs.RoundTrip.{written_read, read-written, read_fits}
 use Rattle.ber_integers.proofs.Signs.{below-take, below-drop}
 use Rattle.ber_integers.proofs.Output.{put-fits, put_next, put-length, put-there}
-use Rattle.ber_reals.specs.declared.Read.{Read}
-use Rattle.ber_reals.specs.declared.Read.TheVariants.{Real as Double, Refused as NoReal}
 use Rattle.ber_reals.specs.Real.{real, real_at}
 use Rattle.ber_reals.specs.Write.{Form, unwritten, octets, form}
 use Rattle.ber_reals.proofs.RoundTrip as reals
@@ -34,8 +30,6 @@ use Rattle.ber_tags.specs.Write.{tag_octets, length_octets}
 use Rattle.ber_tags.proofs.Written.{head_read, drop_past}
 use Rattle.ber_values.specs.declared.Value.{Value}
 use Rattle.ber_values.specs.declared.Value.TheVariants.{Absent, Int, Real, Text, Bool as Truth, Octets}
-use Rattle.ber_values.specs.declared.Flag.{Flag}
-use Rattle.ber_values.specs.declared.Flag.TheVariants.{Is, Refused as NoFlag}
 use Rattle.ber_values.specs.declared.Answer.TheVariants.{Found, Other, Refused}
 use Rattle.ber_values.specs.Value.{boolean, bool_at, on_flag, on_number, on_real, content_at, value_at}
 use Rattle.ber_values.specs.Compared.{Held, moved, octets_of}
@@ -53,7 +47,7 @@ record There (o : List ℕ) (at kind : ℕ) (bs : List ℕ) (e bound : ℕ) : Ty
   read : content_at o at kind start (length bs) ≡ value_at o at bound
 
 there : (out : List ℕ) (at kind : ℕ) (bs : List ℕ) (e : ℕ) (o : List ℕ) (bound : ℕ) → kind < 31 → length bs ≤ 4294967295 → e ≤ bound
-    → put out at (primitive kind bs) ≡ outcome (Next e) o → There o at kind bs e bound
+    → put out at (primitive kind bs) ≡ outcome (Some e) o → There o at kind bs e bound
 unfolding primitive
 there out at kind bs e o bound one few inside done =
     let tag = tag_octets 0 false kind in
@@ -86,18 +80,18 @@ real-part : (s : List ℕ) (at n : ℕ) → at + n ≤ length s → real_at s at
 unfolding real_at
 real-part s at n h = simp (le-leb _ _ h)
 
-true-octet : (b : Bool) → boolean (bool_octet b ∷ []) ≡ Is b
+true-octet : (b : Bool) → boolean (bool_octet b ∷ []) ≡ Some b
 unfolding boolean
 true-octet true = refl
 true-octet false = refl
 
-not_written : {out o : List ℕ} {e : ℕ} → unchanged out ≡ outcome (Next e) o → ⊥
+not_written : {out o : List ℕ} {e : ℕ} → unchanged out ≡ outcome (Some e) o → ⊥
 not_written {out} {o} {e} d =
-    let c : Out ≡ Next e = ap (λ (p : Put). p.answer) d in
+    let c : None ≡ Some e = ap (λ (p : Put). p.answer) d in
     let z : ◌≡◌ {A = ℕ} 0 1 = cc in omega arith
 
 module _ (src out : List ℕ) (at e : ℕ) (o : List ℕ) (bound : ℕ) (inside : e ≤ bound) where
-  text : (kind start len : ℕ) → kind < 31 → put_primitive out at kind (part src start len) ≡ outcome (Next e) o
+  text : (kind start len : ℕ) → kind < 31 → put_primitive out at kind (part src start len) ≡ outcome (Some e) o
       → (content_at o at kind (e - len) len ≡ value_at o at bound)
       × ((e - len + len ≡ e) × ((e ≤ length o) × (take len (drop (e - len) o) ≡ take len (drop start src))))
   text kind start len one d =
@@ -123,7 +117,7 @@ module _ (src out : List ℕ) (at e : ℕ) (o : List ℕ) (bound : ℕ) (inside 
       (lt-or-le 4294967295 len)
 
   -- What is written is read back as the same value, with nothing left.
-  pub written-read-value : (v : Value) → Held v → put_value src out at v ≡ outcome (Next e) o
+  pub written-read-value : (v : Value) → Held v → put_value src out at v ≡ outcome (Some e) o
       → (value_at o at bound ≡ Found (moved e v) e) × (octets_of o (moved e v) ≡ octets_of src v)
   written-read-value Absent h d = absurd (not_written d)
   written-read-value (Int z) h d =
@@ -131,13 +125,13 @@ module _ (src out : List ℕ) (at e : ℕ) (o : List ℕ) (bound : ℕ) (inside 
       let t = there out at 2 (shortest z) e o bound (omega arith) (omega arith) inside d in
       let en = t.ends in
       let wi = t.within in
-      let i : integer_at o t.start (length (shortest z)) ≡ Whole z = sym (at_part o t.start (length (shortest z)) (omega arith))
+      let i : integer_at o t.start (length (shortest z)) ≡ Some z = sym (at_part o t.start (length (shortest z)) (omega arith))
       ∙ ap integer t.content ∙ written_read z h in
       let k : t.start + length (shortest z) ≤ length o = omega arith in
       (sym (content-int o at 2 t.start (length (shortest z)) refl (le-leb _ _ k) ∙ t.read) ∙ rw (i, en), refl)
   written-read-value (Real x) h d = go (form x) refl d
     where
-      go : (f : Form) → form x ≡ f → put_primitive out at 9 f ≡ outcome (Next e) o → (value_at o at bound ≡ Found (Real x) e) × (◌≡◌ {A = List ℕ} [] [])
+      go : (f : Form) → form x ≡ f → put_primitive out at 9 f ≡ outcome (Some e) o → (value_at o at bound ≡ Found (Real x) e) × (◌≡◌ {A = List ℕ} [] [])
       go unwritten q g = absurd (not_written g)
       go (octets bs) q g =
           let short = real-short x h bs q in
@@ -145,7 +139,7 @@ module _ (src out : List ℕ) (at e : ℕ) (o : List ℕ) (bound : ℕ) (inside 
           let en = t.ends in
           let wi = t.within in
           let k : t.start + length bs ≤ length o = omega arith in
-          let i : real_at o t.start (length bs) ≡ Double x = real-part o t.start (length bs) k ∙ ap real t.content ∙ reals.written_read x bs h q in
+          let i : real_at o t.start (length bs) ≡ Some x = real-part o t.start (length bs) k ∙ ap real t.content ∙ reals.written_read x bs h q in
           (sym (content-real o at 9 t.start (length bs) refl (le-leb _ _ k) ∙ t.read) ∙ rw (i, en), refl)
   written-read-value (Text start len) h d =
       let t = text 12 start len (omega arith) d in
@@ -158,7 +152,7 @@ module _ (src out : List ℕ) (at e : ℕ) (o : List ℕ) (bound : ℕ) (inside 
       let en = t.ends in
       let wi = t.within in
       let k : t.start + 1 ≤ length o = omega arith in
-      let i : bool_at o t.start 1 ≡ Is b = bool-part o t.start 1 k ∙ ap boolean t.content ∙ true-octet b in
+      let i : bool_at o t.start 1 ≡ Some b = bool-part o t.start 1 k ∙ ap boolean t.content ∙ true-octet b in
       (sym (content-bool o at 1 t.start 1 refl (le-leb _ _ k) ∙ t.read) ∙ rw (i, en), refl)
   written-read-value (Octets start len) h d =
       let t = text 4 start len (omega arith) d in
@@ -190,7 +184,7 @@ other e = let z : ◌≡◌ {A = ℕ} 0 1 = cc in omega arith
 refused : {v : Value} {next n p : ℕ} → Refused n p ≡ Found v next → ⊥
 refused e = let z : ◌≡◌ {A = ℕ} 0 1 = cc in omega arith
 
-one-octet : (bs : List ℕ) (b : Bool) → boolean bs ≡ Is b → length bs ≡ 1
+one-octet : (bs : List ℕ) (b : Bool) → boolean bs ≡ Some b → length bs ≡ 1
 unfolding boolean
 one-octet [] b e = let z : ◌≡◌ {A = ℕ} 0 1 = cc in absurd (omega arith)
 one-octet (x ∷ []) b e = refl
@@ -210,16 +204,16 @@ module _ (s : List ℕ) (at start len : ℕ) (bytes : Below 256 s) (within : sta
   size : length (take len (drop start s)) ≡ len
   size = length_part s start len within
 
-  of-flag : (f : Flag) → boolean (take len (drop start s)) ≡ f → on_flag at (start + len) f ≡ Found v next → (next ≡ start + len) × Content s v 1 len
-  of-flag NoFlag q e = absurd (refused e)
-  of-flag (Is b) q e =
+  of-flag : (f : Option Bool) → boolean (take len (drop start s)) ≡ f → on_flag at (start + len) f ≡ Found v next → (next ≡ start + len) × Content s v 1 len
+  of-flag None q e = absurd (refused e)
+  of-flag (Some b) q e =
       let vi : Truth b ≡ v = cc in
       let l : len ≡ 1 = sym size ∙ one-octet (take len (drop start s)) b q in
       (cc, subst (λ (w : Value). Content s w 1 len) vi (record { kind-is = refl; held = tt; bs = bool_octet b ∷ []; writes = refl; same = λ _. sym l }))
 
-  of_number : (n : Number) → integer (take len (drop start s)) ≡ n → on_number at (start + len) n ≡ Found v next → (next ≡ start + len) × Content s v 2 len
-  of_number NoInt q e = absurd (refused e)
-  of_number (Whole z) q e =
+  of_number : (n : Option ℤ) → integer (take len (drop start s)) ≡ n → on_number at (start + len) n ≡ Found v next → (next ≡ start + len) × Content s v 2 len
+  of_number None q e = absurd (refused e)
+  of_number (Some z) q e =
       let vi : Int z ≡ v = cc in
       let r = read-written (take len (drop start s)) z inside q in (
         cc,
@@ -227,9 +221,9 @@ module _ (s : List ℕ) (at start len : ℕ) (bytes : Below 256 s) (within : sta
             (record { kind-is = refl; held = read_fits (take len (drop start s)) z inside q; bs = shortest z; writes = refl; same = λ _. ap length r ∙ size }),
       )
 
-  of-real : (x : Read) → real (take len (drop start s)) ≡ x → on_real at (start + len) x ≡ Found v next → (next ≡ start + len) × Content s v 9 len
-  of-real NoReal q e = absurd (refused e)
-  of-real (Double x) q e =
+  of-real : (x : Option Float) → real (take len (drop start s)) ≡ x → on_real at (start + len) x ≡ Found v next → (next ≡ start + len) × Content s v 9 len
+  of-real None q e = absurd (refused e)
+  of-real (Some x) q e =
       let vi : Real x ≡ v = cc in
       let r = reals.read-written (take len (drop start s)) x inside q in
       (cc, subst (λ (w : Value). Content s w 9 len) vi (record { kind-is = refl; held = r.0; bs = r.1.0; writes = r.1.1.0; same = λ n. absurd n }))
@@ -341,7 +335,7 @@ read-value-writes s at bound v next bytes e = by_head (head_at s at bound) refl
 
 -- What is read, if it is written again, is read as the same value.
 pub read_again : (s : List ℕ) (at bound : ℕ) (v : Value) (next : ℕ) → Below 256 s → value_at s at bound ≡ Found v next
-    → (out : List ℕ) (p e : ℕ) (o : List ℕ) (limit : ℕ) → e ≤ limit → put_value s out p v ≡ outcome (Next e) o
+    → (out : List ℕ) (p e : ℕ) (o : List ℕ) (limit : ℕ) → e ≤ limit → put_value s out p v ≡ outcome (Some e) o
     → (value_at o p limit ≡ Found (moved e v) e) × (octets_of o (moved e v) ≡ octets_of s v)
 read_again s at bound v next bytes q out p e o limit inside d =
     written-read-value s out p e o limit inside v (read-value-writes s at bound v next bytes q).held d

@@ -1,4 +1,5 @@
 -- The content octets of integers and reals are few.
+use Rattle.std.specs.Prelude.{Some, None}
 use Prim.Native.Nat.{ℕ, ◌+◌, ◌<◌}
 use mathlib.Core.Path.{◌≡◌, refl, sym, ap}
 use mathlib.Core.List.{List, [], ◌∷◌}
@@ -16,7 +17,6 @@ use Rattle.base_choices.specs.Choices.{pick}
 use Rattle.ber_integers.specs.Integer.{shortest}
 use Rattle.ber_integers.proofs.Sizes.{size-eight}
 use Rattle.ber_integers.proofs.RoundTrip.{length-shortest}
-use Rattle.ber_reals.specs.declared.Read.TheVariants.{Real, Refused}
 use Rattle.ber_reals.specs.Number.{number}
 use Rattle.ber_reals.specs.Real.{real, non_empty, binary_real, well_formed, binary, base, exponent_octets, negative, mantissa, power}
 use Rattle.ber_reals.specs.Write.{octets, form}
@@ -38,13 +38,13 @@ last-of true false c d e h = let z : ◌≡◌ {A = ℕ} 0 1 = cc in absurd (ome
 last-of false b c d e h = let z : ◌≡◌ {A = ℕ} 0 1 = cc in absurd (omega arith)
 
 -- a real that is accepted has at most thirteen octets
-pub accepted-short : (bs : List ℕ) (x : Float) → real bs ≡ Real x → length bs < 128
+pub accepted-short : (bs : List ℕ) (x : Float) → real bs ≡ Some x → length bs < 128
 unfolding real non_empty binary_real well_formed
 accepted-short [] x e = omega arith
 accepted-short (a ∷ []) x e = omega arith
 accepted-short (a ∷ (b ∷ bs)) x e = go (well_formed a (b ∷ bs)) refl e
   where
-    go : (w : Bool) → well_formed a (b ∷ bs) ≡ w → pick w (number (negative a) (mantissa a (b ∷ bs)) (power a (b ∷ bs))) Refused ≡ Real x
+    go : (w : Bool) → well_formed a (b ∷ bs) ≡ w → pick w (number (negative a) (mantissa a (b ∷ bs)) (power a (b ∷ bs))) None ≡ Some x
         → length (a ∷ (b ∷ bs)) < 128
     go false f g = let z : ◌≡◌ {A = ℕ} 0 1 = cc in absurd (omega arith)
     go true f g =

@@ -1,12 +1,10 @@
 -- Values (document 01, Values): "A value is an integer, a real, a text, a boolean or octets." Each is a universal primitive tag
 -- (X.680: boolean 1, integer 2, octets 4, real 9, text 12) and its content.
 -- For other crates: `value_at s at bound` is what `read_value` answers, `content_at s at kind start len` what `read_content` answers.
-use Rattle.std.specs.Prelude.{ℕ, ◌+◌, List, [], ◌∷◌, Bool, true, not, length, take, drop, leb, eqb}
-use Rattle.ber_integers.specs.declared.Number.{Number}
+use Rattle.std.specs.Prelude.{ℕ, ◌+◌, List, [], ◌∷◌, Bool, true, not, length, take, drop, leb, eqb, ℤ, Float, Option, Some, None}
 use Rattle.base_choices.specs.Choices.{pick}
 use Rattle.ber_integers.specs.Integer.{integer_at}
 use Rattle.ber_integers.specs.Readings.{Reading, done, refused, integer_says}
-use Rattle.ber_reals.specs.declared.Read.{Read}
 use Rattle.ber_reals.specs.Real.{real_at, real_says}
 use Rattle.ber_tags.specs.declared.Length.{Length}
 use Rattle.ber_tags.specs.declared.Length.TheVariants.{Definite, Indefinite}
@@ -14,41 +12,39 @@ use Rattle.ber_tags.specs.declared.Head.{Head}
 use Rattle.ber_tags.specs.Tag.{Tagged, head_says, head_at}
 use Rattle.ber_values.specs.declared.Value.{Value}
 use Rattle.ber_values.specs.declared.Value.TheVariants.{Int, Real, Text, Bool as Truth, Octets}
-use Rattle.ber_values.specs.declared.Flag.{Flag}
-use Rattle.ber_values.specs.declared.Flag.TheVariants.{Is, Refused as NoFlag}
 use Rattle.ber_values.specs.declared.Answer.{Answer}
 use Rattle.ber_values.specs.declared.Answer.TheVariants.{Found, Other, Refused}
 
 -- "Booleans: one octet, non-zero is true"
-unfoldable pub boolean : List ℕ → Flag
-boolean [] = NoFlag
-boolean (b ∷ []) = Is (not (eqb b 0))
-boolean (b ∷ (c ∷ bs)) = NoFlag
+unfoldable pub boolean : List ℕ → Option Bool
+boolean [] = None
+boolean (b ∷ []) = Some (not (eqb b 0))
+boolean (b ∷ (c ∷ bs)) = None
 
-unfoldable pub bool_at : List ℕ → ℕ → ℕ → Flag
-bool_at s at n = pick (leb (at + n) (length s)) (boolean (take n (drop at s))) NoFlag
+unfoldable pub bool_at : List ℕ → ℕ → ℕ → Option Bool
+bool_at s at n = pick (leb (at + n) (length s)) (boolean (take n (drop at s))) None
 
 -- for each case of the answer what it says, at the tag: "30 BER: bad .. value octets"
-abbrev pub flag_says : Flag → ℕ → Reading Bool
-flag_says (Is b) at = done b
-flag_says NoFlag at = refused 30 at
+abbrev pub flag_says : Option Bool → ℕ → Reading Bool
+flag_says (Some b) at = done b
+flag_says None at = refused 30 at
 
-abbrev pub flag_or : ℕ → Flag → ℕ → Reading Bool
-flag_or number (Is b) at = done b
-flag_or number NoFlag at = refused number at
+abbrev pub flag_or : ℕ → Option Bool → ℕ → Reading Bool
+flag_or number (Some b) at = done b
+flag_or number None at = refused number at
 
 -- what was read, as a value, with the position after it; or the number of the refusal and its place
 abbrev pub answering : {A : Type 0} → (A → Value) → ℕ → Reading A → Answer
 answering value next (done x) = Found (value x) next
 answering value next (refused number place) = Refused number place
 
-abbrev pub on_flag : ℕ → ℕ → Flag → Answer
+abbrev pub on_flag : ℕ → ℕ → Option Bool → Answer
 on_flag at next f = answering Truth next (flag_says f at)
 
-abbrev pub on_number : ℕ → ℕ → Number → Answer
+abbrev pub on_number : ℕ → ℕ → Option ℤ → Answer
 on_number at next n = answering Int next (integer_says n at)
 
-abbrev pub on_real : ℕ → ℕ → Read → Answer
+abbrev pub on_real : ℕ → ℕ → Option Float → Answer
 on_real at next x = answering Real next (real_says x at)
 
 unfoldable pub is_listed : ℕ → Bool

@@ -1,8 +1,6 @@
 -- Values written (document 01, Values): shortest tag and length, fewest octets; 46 for what the reader would refuse.
 -- For other crates: `put_value src out at v` is what `write_value` answers and leaves.
-use Rattle.std.specs.Prelude.{ℕ, ◌+◌, ◌-◌, ◌≤◌, ◌<◌, List, [], ◌∷◌, ◌++◌, Bool, true, false, length, take, drop, set, leb}
-use Rattle.ber_integers.specs.declared.Wrote.{Wrote}
-use Rattle.ber_integers.specs.declared.Wrote.TheVariants.{Next, Out}
+use Rattle.std.specs.Prelude.{ℕ, ◌+◌, ◌-◌, ◌≤◌, ◌<◌, List, [], ◌∷◌, ◌++◌, Bool, true, false, length, take, drop, set, leb, Option, Some, None}
 use Rattle.base_choices.specs.Choices.{pick}
 use Rattle.ber_integers.specs.Digits.{Put, put, unchanged, outcome}
 use Rattle.ber_integers.specs.Integer.{shortest}
@@ -56,10 +54,10 @@ unfoldable pub put_part : List ℕ → ℕ → ℕ → List ℕ → ℕ → Put
 put_part src start len out at = pick (leb (start + len) (length src)) (put out at (take len (drop start src))) (unchanged out)
 
 -- a tag and a short length before content octets that were put
-abbrev pub put_head : List ℕ → ℕ → ℕ → Wrote → Put
-put_head out at kind (Next e) = outcome (Next e) (set (set out (at + 1) (e - (at + 2))) at kind)
-put_head out at kind Out = unchanged out
+abbrev pub put_head : List ℕ → ℕ → ℕ → Option ℕ → Put
+put_head out at kind (Some e) = outcome (Some e) (set (set out (at + 1) (e - (at + 2))) at kind)
+put_head out at kind None = unchanged out
 
-abbrev pub Sealable : List ℕ → ℕ → Wrote → Type 0
-Sealable out at (Next e) = (at + 2 ≤ e) × ((e < at + 130) × (e ≤ length out))
-Sealable out at Out = Unit {0}
+abbrev pub Sealable : List ℕ → ℕ → Option ℕ → Type 0
+Sealable out at (Some e) = (at + 2 ≤ e) × ((e < at + 130) × (e ≤ length out))
+Sealable out at None = Unit {0}

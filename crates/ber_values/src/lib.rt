@@ -5,8 +5,6 @@ ghost use Rattle.std.specs.Prelude.{◌≡◌, ◌+◌, ◌≤◌, leb, length};
 ghost use Rattle.ber_values.specs.Value.{bool_at, on_flag, on_number, on_real, is_listed, kind_at, content_at, value_at, flag_says, flag_or, answer_says, answer_or};
 ghost use Rattle.ber_integers.specs.Readings.{Promised};
 
-use ber_integers::Number;
-use ber_reals::Read;
 use ber_tags::{Head, Length};
 
 // A value, or that there is none. Texts and octets are parts of the message.
@@ -36,19 +34,19 @@ pub enum Answer {
 }
 
 // The boolean whose content octets are the n octets at a position.
-pub fn read_bool(s: &[u8], at: usize, n: usize) -> Flag
+pub fn read_bool(s: &[u8], at: usize, n: usize) -> Option<bool>
     ensures { Promised flag_says (flag_or 30) (bool_at s.now at n) result }
 {
     if s.len() < n {
-        return Flag::Refused;
+        return None;
     }
     if s.len() - n < at {
-        return Flag::Refused;
+        return None;
     }
     if n == 1 {
-        return Flag::Is(s[at] != 0);
+        return Some(s[at] != 0);
     }
-    Flag::Refused
+    None
 }
 
 // Whether the message holds the octets of a value.
@@ -58,45 +56,45 @@ fn holds(s: &[u8], start: usize, len: usize) -> bool
     len <= s.len() && start <= s.len() - len
 }
 
-fn of_flag(f: Flag, at: usize, next: usize) -> Answer
+fn of_flag(f: Option<bool>, at: usize, next: usize) -> Answer
     ensures { result ≡ on_flag at next f }
 {
     match f {
-        Flag::Is(b) => Answer::Found {
+        Some(b) => Answer::Found {
             value: Value::Bool(b),
             next,
         },
-        Flag::Refused => Answer::Refused {
+        None => Answer::Refused {
             number: 30,
             place: at,
         },
     }
 }
 
-fn of_number(n: Number, at: usize, next: usize) -> Answer
+fn of_number(n: Option<i64>, at: usize, next: usize) -> Answer
     ensures { result ≡ on_number at next n }
 {
     match n {
-        Number::Int(x) => Answer::Found {
+        Some(x) => Answer::Found {
             value: Value::Int(x),
             next,
         },
-        Number::Refused => Answer::Refused {
+        None => Answer::Refused {
             number: 30,
             place: at,
         },
     }
 }
 
-fn of_real(x: Read, at: usize, next: usize) -> Answer
+fn of_real(x: Option<f64>, at: usize, next: usize) -> Answer
     ensures { result ≡ on_real at next x }
 {
     match x {
-        Read::Real(x) => Answer::Found {
+        Some(x) => Answer::Found {
             value: Value::Real(x),
             next,
         },
-        Read::Refused => Answer::Refused {
+        None => Answer::Refused {
             number: 35,
             place: at,
         },

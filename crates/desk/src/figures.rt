@@ -1,7 +1,7 @@
 // The figures of an `open` line.
 use crate::words;
 use crate::words::Word;
-use desk_crosspoints::{Figures, Limit};
+use desk_crosspoints::Figures;
 use program_lines::text;
 
 // One word as a figure: its number, and 1 beside it where it is given. Whether it is a figure.
@@ -72,9 +72,9 @@ fn at(numbers: &[u64], i: usize) -> u64 {
 
 fn limit(numbers: &[u64], given: &[u64], i: usize) -> Limit {
     if at(given, i) == 0 {
-        return Limit::Absent;
+        return None;
     }
-    Limit::Most(at(numbers, i))
+    Some(at(numbers, i))
 }
 
 fn figures(numbers: &[u64], given: &[u64]) -> Figures {

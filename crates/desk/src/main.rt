@@ -21,7 +21,7 @@ mod words;
 
 ghost use Rattle.std.specs.Prelude.{◌≡◌, length};
 
-use desk_crosspoints::{Figures, Limit, SIDE};
+use desk_crosspoints::{Figures, SIDE};
 use framing::Session;
 use program_lines::input::Input;
 use program_lines::text::Hex;
@@ -48,8 +48,8 @@ fn no_desk() -> Desk {
             kind: 0,
             targets: 0,
             sources: 0,
-            total: Limit::Absent,
-            each: Limit::Absent,
+            total: None,
+            each: None,
         },
         path: 0,
         session: framing::start(),

@@ -1,4 +1,5 @@
 -- The rules at a small message, by computation, on a desk of three targets and three sources. Its path is 1.5.2.
+use Rattle.std.specs.Prelude.{Some, None}
 use Prim.Native.Nat.{ℕ, zero, suc}
 use mathlib.Core.Path.{◌≡◌, refl}
 use mathlib.Core.List.{List, [], ◌∷◌}
@@ -7,7 +8,6 @@ use Rattle.glow_trees.specs.Rows.{entries_of, items_in}
 use Rattle.glow_rows.specs.Entry.{Rows}
 use Rattle.glow_sizes.specs.Accepted.{accepted}
 use Rattle.ber_identifiers.specs.Identifier.{arc_is, arc_from, arc_at, arcs_from}
-use Rattle.desk_crosspoints.specs.declared.Limit.TheVariants.{Absent, Most}
 use Rattle.desk_crosspoints.specs.declared.Figures.{Figures}
 use Rattle.desk_crosspoints.specs.Figures.{is_count, figures_fit, most_each, most_total}
 use Rattle.desk_crosspoints.specs.Crosspoints.{Cells, bit, count, all_bits, clear, row_at, with_row, holders, taken_from, rows_fit, sources_fit}
@@ -21,7 +21,7 @@ use Rattle.desk_calls.specs.Calls.{answered, answers, served, handled, outcome, 
 use Rattle.desk_setup.specs.Ready.{is_ready}
 
 abbrev desk : ℕ → Figures
-desk kind = record { kind = kind; targets = 3; sources = 3; total = Absent; each = Absent }
+desk kind = record { kind = kind; targets = 3; sources = 3; total = None; each = None }
 
 abbrev cells9 : ℕ → ℕ → ℕ → ℕ → ℕ → ℕ → ℕ → ℕ → ℕ → Cells
 cells9 a b c d e f g h i = a ∷ b ∷ c ∷ d ∷ e ∷ f ∷ g ∷ h ∷ i ∷ []
@@ -138,7 +138,7 @@ v-long = (refl, refl, refl)
 
 -- Every number that a connection is answered, in one message: 0, 40 MATRIX, 41 TARGET, 42 SOURCE, 43 MANY, 44 TOTAL.
 pub v-answers :
-    handled (desk_at (record { kind = 2; targets = 3; sources = 3; total = Most 3; each = Most 2 }) (7 ∷ []) (cells9 0 0 0 0 0 0 0 0 0))
+    handled (desk_at (record { kind = 2; targets = 3; sources = 3; total = Some 3; each = Some 2 }) (7 ∷ []) (cells9 0 0 0 0 0 0 0 0 0))
     (matrix 0 7 ∷ matrix 0 8 ∷ link 1 0 (from (0 ∷ 1 ∷ [])) as_is ∷ link 2 9 (from (9 ∷ [])) as_is ∷ link 1 3 (from (9 ∷ [])) as_is
     ∷ link 1 2 (from (3 ∷ [])) as_is ∷ link 1 2 (from (0 ∷ 1 ∷ 2 ∷ [])) as_is ∷ link 1 2 (from (0 ∷ 1 ∷ [])) as_is ∷ [])
     ≡ answers (0 ∷ 40 ∷ 41 ∷ 42 ∷ 43 ∷ 44 ∷ []) (cells9 1 1 0 0 0 0 0 0 0)

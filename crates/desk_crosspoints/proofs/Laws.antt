@@ -1,4 +1,5 @@
 -- One law for each answer of the definitions, at plain variables.
+use Rattle.std.specs.Prelude.{Option, Some, None}
 use Prim.Native.Nat.{ℕ, zero, suc, ◌+◌, ◌-◌, ◌*◌, ◌/◌, ◌≤◌, ◌<◌}
 use mathlib.Core.Path.{◌≡◌, refl, sym, ap, ◌∙◌}
 use mathlib.Core.List.{List, [], ◌∷◌, ◌++◌}
@@ -14,8 +15,6 @@ use lib.Dec.{leb, ltb, eqb}
 use Rattle.base_choices.specs.Choices.{pick, both}
 use Rattle.base_choices.proofs.Laws.{both_left, both_right}
 use Rattle.ber_integers.proofs.Radix.{lt-or-le}
-use Rattle.desk_crosspoints.specs.declared.Limit.{Limit}
-use Rattle.desk_crosspoints.specs.declared.Limit.TheVariants.{Absent, Most}
 use Rattle.desk_crosspoints.specs.declared.Figures.{Figures}
 use Rattle.desk_crosspoints.specs.Figures.{side, is_count, is_limit, figures_fit, cells_of, size_of, limit_or, most_each, most_total}
 use Rattle.desk_crosspoints.specs.Crosspoints.{Cells, bit, count, all_bits, clear, row_at, holders, rows_fit, sources_fit}
@@ -32,10 +31,10 @@ module _ (n : ℕ) where
   unfolding is_count
   is-count-rest h = simp (le-leb _ _ h)
 
-pub is-limit-under : (l : Limit) (n : ℕ) → l ≡ Most n → n < 1 → is_limit l ≡ false
+pub is-limit-under : (l : Option ℕ) (n : ℕ) → l ≡ Some n → n < 1 → is_limit l ≡ false
 is-limit-under l n e h = rw e (simp (lt-leb 1 n h))
 
-pub is-limit-rest : (l : Limit) (n : ℕ) → l ≡ Most n → 1 ≤ n → is_limit l ≡ leb n 2147483647
+pub is-limit-rest : (l : Option ℕ) (n : ℕ) → l ≡ Some n → 1 ≤ n → is_limit l ≡ leb n 2147483647
 is-limit-rest l n e h = rw e (simp (le-leb 1 n h))
 
 module _ (f : Figures) where
@@ -321,11 +320,11 @@ module _ (n a b : ℕ) where
           absurd (omega (arith, ltb-false ((n - 1) / b) a e, z)))
           (lt-or-le (a * b) n))
 
-pub total-absent : (f : Figures) (n : ℕ) (r : Bool) → f.total ≡ Absent → leb n (f.targets * f.sources) ≡ r → leb n (most_total f) ≡ r
+pub total-absent : (f : Figures) (n : ℕ) (r : Bool) → f.total ≡ None → leb n (f.targets * f.sources) ≡ r → leb n (most_total f) ≡ r
 unfolding most_total
 total-absent f n r e h = rw e h
 
-pub total-given : (f : Figures) (n m : ℕ) → f.total ≡ Most m → leb n (most_total f) ≡ leb n m
+pub total-given : (f : Figures) (n m : ℕ) → f.total ≡ Some m → leb n (most_total f) ≡ leb n m
 unfolding most_total
 total-given f n m e = rw e
 

@@ -1,8 +1,6 @@
 -- A desk's figures (document 01, "Desk"): type, counts and limits.
-use Rattle.std.specs.Prelude.{ℕ, ◌*◌, Bool, true, leb, eqb}
+use Rattle.std.specs.Prelude.{ℕ, ◌*◌, Bool, true, leb, eqb, Option, Some, None}
 use Rattle.base_choices.specs.Choices.{pick, both}
-use Rattle.desk_crosspoints.specs.declared.Limit.{Limit}
-use Rattle.desk_crosspoints.specs.declared.Limit.TheVariants.{Absent, Most}
 use Rattle.desk_crosspoints.specs.declared.Figures.{Figures}
 
 -- "1 to 64 targets, 1 to 64 sources": the most of either
@@ -27,9 +25,9 @@ unfoldable pub is_count : ℕ → Bool
 is_count n = both (leb 1 n) (leb n side)
 
 -- "Limits, where given, are at least 1 and kept as given": Glow's numbers, at most 2,147,483,647
-abbrev pub is_limit : Limit → Bool
-is_limit Absent = true
-is_limit (Most n) = both (leb 1 n) (leb n 2147483647)
+abbrev pub is_limit : Option ℕ → Bool
+is_limit None = true
+is_limit (Some n) = both (leb 1 n) (leb n 2147483647)
 
 -- figures in their ranges
 unfoldable pub figures_fit : Figures → Bool
@@ -40,9 +38,9 @@ figures_fit f =
     (both (is_limit f.total)
     (is_limit f.each))))
 
-abbrev pub limit_or : Limit → ℕ → ℕ
-limit_or Absent n = n
-limit_or (Most m) n = m
+abbrev pub limit_or : Option ℕ → ℕ → ℕ
+limit_or None n = n
+limit_or (Some m) n = m
 
 -- "only N:N heeds them"; "N:N has a limit per target (default the source count)"; a target of 1:N or 1:1 has one source at most
 unfoldable pub most_each : Figures → ℕ

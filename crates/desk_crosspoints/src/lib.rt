@@ -30,8 +30,8 @@ pub struct Figures {
     pub kind: u64,
     pub targets: u64,
     pub sources: u64,
-    pub total: Limit,
-    pub each: Limit,
+    pub total: Option<u64>,
+    pub each: Option<u64>,
 }
 
 fn is_count(n: u64) -> bool
@@ -43,12 +43,12 @@ fn is_count(n: u64) -> bool
     index(n) <= SIDE
 }
 
-fn is_limit(l: Limit) -> bool
+fn is_limit(l: Option<u64>) -> bool
     ensures { is_limit l ≡ result }
 {
     match l {
-        Limit::Absent => true,
-        Limit::Most(n) => {
+        None => true,
+        Some(n) => {
             if n < 1 {
                 return false;
             }
@@ -79,12 +79,12 @@ pub fn figures_fit(f: Figures) -> bool
 }
 
 // A limit, or what stands for one that was not given.
-fn limit_or(l: Limit, n: u64) -> u64
+fn limit_or(l: Option<u64>, n: u64) -> u64
     ensures { limit_or l n ≡ result }
 {
     match l {
-        Limit::Absent => n,
-        Limit::Most(m) => m,
+        None => n,
+        Some(m) => m,
     }
 }
 
@@ -162,8 +162,8 @@ pub fn in_total(f: Figures, n: u64) -> bool
 {
     let total = f.total;
     match total {
-        Limit::Absent => in_product(n, f.targets, f.sources),
-        Limit::Most(most) => n <= most,
+        None => in_product(n, f.targets, f.sources),
+        Some(most) => n <= most,
     }
 }
 

@@ -1,6 +1,5 @@
 -- Each rule at a small desk, by computation.
-use Rattle.std.specs.Prelude.{ℕ, ◌≡◌, refl, List, [], ◌∷◌}
-use Rattle.desk_crosspoints.specs.declared.Limit.TheVariants.{Absent, Most}
+use Rattle.std.specs.Prelude.{ℕ, ◌≡◌, refl, List, [], ◌∷◌, Some, None}
 use Rattle.desk_crosspoints.specs.declared.Figures.{Figures}
 use Rattle.desk_crosspoints.specs.Figures.{is_count, figures_fit, most_each, most_total}
 use Rattle.desk_crosspoints.specs.Crosspoints.{Cells, bit, count, all_bits, clear, row_at, with_row, holders, taken_from, rows_fit, sources_fit}
@@ -19,9 +18,9 @@ pub v-refused :
     (asking (desk 0) (cells9 1 1 0 0 0 0 0 0 0) 9 (9 ∷ []) 0 ≡ answer 1 (cells9 1 1 0 0 0 0 0 0 0)) ×
     (asking (desk 0) (cells9 0 0 0 0 0 0 0 0 0) 9 (9 ∷ []) 3 ≡ answer 1 (cells9 0 0 0 0 0 0 0 0 0)) ×
     -- "41 TARGET, 42 SOURCE", in this order, also for disconnect
-    (asking (figures 2 2 3 Absent Absent) (cells6 1 0 0 0 0 0) 2 (9 ∷ []) 0 ≡ answer 41 (cells6 1 0 0 0 0 0)) ×
-    (asking (figures 2 3 2 Absent Absent) (cells6 1 0 0 0 0 0) 1 (1 ∷ 2 ∷ []) 0 ≡ answer 42 (cells6 1 0 0 0 0 0)) ×
-    (asking (figures 2 3 2 Absent Absent) (cells6 1 0 0 0 0 0) 1 (2 ∷ []) 2 ≡ answer 42 (cells6 1 0 0 0 0 0))
+    (asking (figures 2 2 3 None None) (cells6 1 0 0 0 0 0) 2 (9 ∷ []) 0 ≡ answer 41 (cells6 1 0 0 0 0 0)) ×
+    (asking (figures 2 3 2 None None) (cells6 1 0 0 0 0 0) 1 (1 ∷ 2 ∷ []) 0 ≡ answer 42 (cells6 1 0 0 0 0 0)) ×
+    (asking (figures 2 3 2 None None) (cells6 1 0 0 0 0 0) 1 (2 ∷ []) 2 ≡ answer 42 (cells6 1 0 0 0 0 0))
 unfolding is_count figures_fit most_each most_total
     bit count all_bits clear row_at with_row holders taken_from rows_fit sources_fit kind_fits cells_fit legal
     marked named all_below replaces becomes takes others row_after result_of first_of many over_total checks judged asked requested
@@ -42,15 +41,15 @@ v-many-sources = (refl, refl, refl, refl, refl)
 
 -- "43 MANY, 44 TOTAL: .. result over the target's or total limit".
 pub v-limits :
-    (asking (figures 2 3 3 (Most 3) (Most 2)) (cells9 1 0 0 0 0 0 0 0 0) 0 (1 ∷ 2 ∷ []) 1 ≡ answer 43 (cells9 1 0 0 0 0 0 0 0 0)) ×
-    (asking (figures 2 3 3 (Most 3) (Most 2)) (cells9 1 0 0 0 0 0 0 0 0) 0 (0 ∷ 1 ∷ 2 ∷ []) 0 ≡ answer 43 (cells9 1 0 0 0 0 0 0 0 0)) ×
+    (asking (figures 2 3 3 (Some 3) (Some 2)) (cells9 1 0 0 0 0 0 0 0 0) 0 (1 ∷ 2 ∷ []) 1 ≡ answer 43 (cells9 1 0 0 0 0 0 0 0 0)) ×
+    (asking (figures 2 3 3 (Some 3) (Some 2)) (cells9 1 0 0 0 0 0 0 0 0) 0 (0 ∷ 1 ∷ 2 ∷ []) 0 ≡ answer 43 (cells9 1 0 0 0 0 0 0 0 0)) ×
     -- "A source named twice counts once", one that is connected already too
-    (asking (figures 2 3 3 (Most 3) (Most 2)) (cells9 1 0 0 0 0 0 0 0 0) 0 (1 ∷ 1 ∷ 0 ∷ []) 1 ≡ answer 0 (cells9 1 1 0 0 0 0 0 0 0)) ×
+    (asking (figures 2 3 3 (Some 3) (Some 2)) (cells9 1 0 0 0 0 0 0 0 0) 0 (1 ∷ 1 ∷ 0 ∷ []) 1 ≡ answer 0 (cells9 1 1 0 0 0 0 0 0 0)) ×
     -- in total, with the cells that the request takes away not counted
-    (asking (figures 2 3 3 (Most 3) (Most 2)) (cells9 1 1 0 0 0 0 1 0 0) 2 (0 ∷ 1 ∷ []) 0 ≡ answer 44 (cells9 1 1 0 0 0 0 1 0 0)) ×
-    (asking (figures 2 3 3 (Most 3) (Most 2)) (cells9 1 1 0 0 0 0 1 0 0) 2 (1 ∷ []) 0 ≡ answer 0 (cells9 1 1 0 0 0 0 0 1 0)) ×
+    (asking (figures 2 3 3 (Some 3) (Some 2)) (cells9 1 1 0 0 0 0 1 0 0) 2 (0 ∷ 1 ∷ []) 0 ≡ answer 44 (cells9 1 1 0 0 0 0 1 0 0)) ×
+    (asking (figures 2 3 3 (Some 3) (Some 2)) (cells9 1 1 0 0 0 0 1 0 0) 2 (1 ∷ []) 0 ≡ answer 0 (cells9 1 1 0 0 0 0 0 1 0)) ×
     -- 43 before 44
-    (asking (figures 2 3 3 (Most 3) (Most 2)) (cells9 1 1 0 0 0 0 1 0 0) 2 (0 ∷ 1 ∷ 2 ∷ []) 0 ≡ answer 43 (cells9 1 1 0 0 0 0 1 0 0))
+    (asking (figures 2 3 3 (Some 3) (Some 2)) (cells9 1 1 0 0 0 0 1 0 0) 2 (0 ∷ 1 ∷ 2 ∷ []) 0 ≡ answer 43 (cells9 1 1 0 0 0 0 1 0 0))
 unfolding is_count figures_fit most_each most_total
     bit count all_bits clear row_at with_row holders taken_from rows_fit sources_fit kind_fits cells_fit legal
     marked named all_below replaces becomes takes others row_after result_of first_of many over_total checks judged asked requested
@@ -67,7 +66,7 @@ pub v-one-source :
     -- "Disconnect never gives 43 or 44."
     (asking (desk 0) (cells9 0 0 1 1 0 0 0 0 0) 0 (0 ∷ 1 ∷ 2 ∷ []) 2 ≡ answer 0 (cells9 0 0 0 1 0 0 0 0 0)) ×
     -- "only N:N heeds them"
-    (asking (figures 0 3 3 (Most 1) (Most 1)) (cells9 0 0 1 0 0 0 0 0 0) 1 (2 ∷ []) 1 ≡ answer 0 (cells9 0 0 1 0 0 1 0 0 0))
+    (asking (figures 0 3 3 (Some 1) (Some 1)) (cells9 0 0 1 0 0 0 0 0 0) 1 (2 ∷ []) 1 ≡ answer 0 (cells9 0 0 1 0 0 1 0 0 0))
 unfolding is_count figures_fit most_each most_total
     bit count all_bits clear row_at with_row holders taken_from rows_fit sources_fit kind_fits cells_fit legal
     marked named all_below replaces becomes takes others row_after result_of first_of many over_total checks judged asked requested
@@ -91,14 +90,14 @@ telling total f cells target sources operation =
 
 -- a total that the caller keeps: 44 by that total, with the target's cells before the request not counted; 43 before it; disconnect never
 pub v-total :
-    (telling 3 (figures 2 3 3 (Most 3) (Most 2)) (cells9 1 1 0 0 0 0 1 0 0) 2 (0 ∷ 1 ∷ []) 0 ≡ 44) ×
-    (telling 2 (figures 2 3 3 (Most 3) (Most 2)) (cells9 1 1 0 0 0 0 1 0 0) 2 (0 ∷ 1 ∷ []) 0 ≡ 0) ×
-    (telling 3 (figures 2 3 3 (Most 3) (Most 2)) (cells9 1 1 0 0 0 0 1 0 0) 2 (1 ∷ []) 0 ≡ 0) ×
-    (telling 3 (figures 2 3 3 (Most 3) (Most 2)) (cells9 1 1 0 0 0 0 1 0 0) 2 (0 ∷ 1 ∷ 2 ∷ []) 0 ≡ 43) ×
-    (telling 9 (figures 2 3 3 (Most 3) (Most 2)) (cells9 1 1 0 0 0 0 1 0 0) 2 (0 ∷ 1 ∷ 2 ∷ []) 2 ≡ 0) ×
+    (telling 3 (figures 2 3 3 (Some 3) (Some 2)) (cells9 1 1 0 0 0 0 1 0 0) 2 (0 ∷ 1 ∷ []) 0 ≡ 44) ×
+    (telling 2 (figures 2 3 3 (Some 3) (Some 2)) (cells9 1 1 0 0 0 0 1 0 0) 2 (0 ∷ 1 ∷ []) 0 ≡ 0) ×
+    (telling 3 (figures 2 3 3 (Some 3) (Some 2)) (cells9 1 1 0 0 0 0 1 0 0) 2 (1 ∷ []) 0 ≡ 0) ×
+    (telling 3 (figures 2 3 3 (Some 3) (Some 2)) (cells9 1 1 0 0 0 0 1 0 0) 2 (0 ∷ 1 ∷ 2 ∷ []) 0 ≡ 43) ×
+    (telling 9 (figures 2 3 3 (Some 3) (Some 2)) (cells9 1 1 0 0 0 0 1 0 0) 2 (0 ∷ 1 ∷ 2 ∷ []) 2 ≡ 0) ×
     -- a total over the cells is 1; 1:N does not heed it
-    (telling 10 (figures 2 3 3 (Most 3) (Most 2)) (cells9 1 1 0 0 0 0 1 0 0) 2 (1 ∷ []) 0 ≡ 1) ×
-    (telling 9 (figures 0 3 3 (Most 1) (Most 1)) (cells9 0 0 1 0 0 0 0 0 0) 1 (2 ∷ []) 1 ≡ 0)
+    (telling 10 (figures 2 3 3 (Some 3) (Some 2)) (cells9 1 1 0 0 0 0 1 0 0) 2 (1 ∷ []) 0 ≡ 1) ×
+    (telling 9 (figures 0 3 3 (Some 1) (Some 1)) (cells9 0 0 1 0 0 0 0 0 0) 1 (2 ∷ []) 1 ≡ 0)
 unfolding is_count figures_fit most_each most_total
     bit count all_bits clear row_at with_row holders taken_from rows_fit sources_fit kind_fits cells_fit legal
     marked named all_below replaces becomes takes others row_after result_of first_of many over_total checks judged asked requested

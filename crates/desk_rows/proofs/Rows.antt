@@ -1,4 +1,5 @@
 -- The rows that the structs make are the desk's.
+use Rattle.std.specs.Prelude.{Option, Some, None}
 use Prim.Native.Nat.{ℕ, ◌<◌, ◌^◌}
 use mathlib.Core.Path.{◌≡◌, ap, ◌∙◌}
 use mathlib.Core.List.{List, ◌∷◌}
@@ -8,19 +9,16 @@ use Rattle.glow_rows.specs.declared.Cell.{Cell}
 use Rattle.glow_rows.specs.Cell.{cell, absent, numbers, numbers_cell, word_of, int_of}
 use Rattle.glow_rows.specs.Entry.{blanks, row}
 use Rattle.glow_rows.proofs.Values.{word-int}
-use Rattle.glow_entries.specs.declared.Number.{Number}
-use Rattle.glow_entries.specs.declared.Number.TheVariants as number
 use Rattle.glow_entries.specs.declared.Part.{Part}
 use Rattle.glow_entries.specs.declared.Part.TheVariants as part
 use Rattle.glow_entries.specs.declared.Key.TheVariants as key
-use Rattle.glow_entries.specs.declared.Parent.TheVariants as parent
 use Rattle.glow_entries.specs.Member as members
 use Rattle.glow_entries.specs.Record.{matrix_row, connection_row}
 use Rattle.glow_entries.proofs.Cells.{entry, matrix-cells, connection-cells}
 use Rattle.desk_crosspoints.specs.declared.Figures.{Figures}
 use Rattle.desk_rows.specs.Rows.{number_cell, limit_cell, list_cell, matrix_entry, link_entry}
 
-pub number_is : (n : Number) (w : ℕ) → w < 2 ^ 64 → n ≡ number.Is (int_of w) → members.number_cell n ≡ number_cell w
+pub number_is : (n : Option ℤ) (w : ℕ) → w < 2 ^ 64 → n ≡ Some (int_of w) → members.number_cell n ≡ number_cell w
 number_is n w h e = ap members.number_cell e ∙ ap (λ (i : ℕ). cell 2 i 0) (word-int w h)
 
 pub list-none : (start len : ℕ) → len ≡ 0 → list_cell start len ≡ absent
@@ -31,7 +29,7 @@ pub list-some : (start len s n : ℕ) → (len ≡ 0 → ⊥) → s ≡ start �
 unfolding list_cell
 list-some start len s n h d e = rw (ne_eqb _ _ h, d, e)
 
-module _ (f : Figures) (len path : ℕ) (p : path ≡ len) (t g s a b : Number) where
+module _ (f : Figures) (len path : ℕ) (p : path ≡ len) (t g s a b : Option ℤ) where
   abbrev cells : ℕ → Cell → Cell → Cell → Cell → Cell → List Cell
   cells n x y z u v = numbers_cell 0 n ∷ absent ∷ absent ∷ x ∷ absent ∷ y ∷ z ∷ u ∷ v ∷ blanks 7
 
@@ -39,12 +37,12 @@ module _ (f : Figures) (len path : ℕ) (p : path ≡ len) (t g s a b : Number) 
       → members.number_cell s ≡ number_cell f.sources → members.number_cell a ≡ limit_cell f.total → members.number_cell b ≡ limit_cell f.each
       → (r : List ℕ)
       → r ≡ matrix_row (record {
-        parent = parent.Root;
+        parent = None;
         key = key.Path 0 path;
         identifier = part.Absent;
         description = part.Absent;
         matrix_type = t;
-        mode = number.Absent;
+        mode = None;
         targets = g;
         sources = s;
         total_limit = a;
@@ -64,7 +62,7 @@ module _ (f : Figures) (len path : ℕ) (p : path ≡ len) (t g s a b : Number) 
       ∙ ap (λ (x : Cell). row (entry 7 0 (cells len (number_cell f.kind) (number_cell f.targets) (number_cell f.sources) (limit_cell f.total) x))) k
 
 pub link-is : (target : ℕ) (z : ℤ) (sources : Part) → target < 2 ^ 64 → z ≡ int_of target → (r : List ℕ)
-    → r ≡ connection_row (record { parent = parent.At 0; target = z; sources = sources; operation = number.Absent })
+    → r ≡ connection_row (record { parent = Some 0; target = z; sources = sources; operation = None })
     → r ≡ row (link_entry target (members.part_cell numbers sources))
 unfolding blanks
 link-is target z sources h e r q =

@@ -10,24 +10,23 @@ ghost use Rattle.desk_rows.specs.Rows.{number_cell, limit_cell, list_cell, matri
 ghost use Rattle.desk_rows.specs.Sources.{sources_from, put_sources};
 
 use base_casts::{index, word};
-use ber_integers::Wrote;
-use desk_crosspoints::{Figures, Limit, SIDE};
-use glow_entries::{Connection, Key, Matrix, Number, Parent, Part};
+use desk_crosspoints::{Figures, SIDE};
+use glow_entries::{Connection, Key, Matrix, Part};
 
 // A number, by its word.
-fn number(w: u64) -> Number
+fn number(w: u64) -> Option<i64>
     ensures { members.number_cell result ≡ number_cell w }
 {
     glow_entries::number_from(w)
 }
 
 // A limit, where given.
-fn limit(l: Limit) -> Number
+fn limit(l: Option<u64>) -> Option<i64>
     ensures { members.number_cell result ≡ limit_cell l }
 {
     match l {
-        Limit::Absent => Number::Absent,
-        Limit::Most(n) => number(n),
+        None => None,
+        Some(n) => number(n),
     }
 }
 
@@ -57,7 +56,7 @@ pub fn matrix_row(f: Figures, len: u64) -> [u64; 50]
     let total_limit = limit(most);
     let target_limit = limit(most_each);
     glow_entries::matrix_row(Matrix {
-        parent: Parent::Root,
+        parent: None,
         key: Key::Path {
             start: 0,
             len: path,
@@ -65,7 +64,7 @@ pub fn matrix_row(f: Figures, len: u64) -> [u64; 50]
         identifier: Part::Absent,
         description: Part::Absent,
         matrix_type,
-        mode: Number::Absent,
+        mode: None,
         targets,
         sources,
         total_limit,
@@ -78,10 +77,10 @@ pub fn link_row(target: u64, sources: Part) -> [u64; 50]
     ensures { result ≡ row (link_entry target (members.part_cell numbers sources)) }
 {
     glow_entries::connection_row(Connection {
-        parent: Parent::At(0),
+        parent: Some(0),
         target: glow_rows::int_of(target),
         sources,
-        operation: Number::Absent,
+        operation: None,
     })
 }
 
@@ -102,11 +101,11 @@ fn list_sources(cells: &[u8], list: &mut [u64]) -> usize
 }
 
 // The octets of the sources of a row of cells, ascending, at a position of the output.
-pub fn put_sources(cells: &[u8], out: &mut [u8], at: usize) -> Wrote
+pub fn put_sources(cells: &[u8], out: &mut [u8], at: usize) -> Option<usize>
     ensures { put_sources out.old at cells.now ≡ outcome result out.new }
 {
     if SIDE < cells.len() {
-        return Wrote::Out;
+        return None;
     }
     let mut list = [0u64; SIDE];
     let n = list_sources(cells, &mut list);

@@ -1,4 +1,5 @@
 -- Laws of a desk's figures as words, at plain variables.
+use Rattle.std.specs.Prelude.{Option, Some, None}
 use Prim.Native.Nat.{ℕ}
 use mathlib.Core.Path.{◌≡◌, refl, sym, ◌∙◌}
 use mathlib.Core.Bool.{Bool, true, false}
@@ -8,19 +9,17 @@ use borrow.Author.Tests.{eq-eqb, ne_eqb}
 use lib.Dec.{eqb}
 use lib.ListN.{length, get_or, set}
 use Rattle.desk_crosspoints.specs.declared.Figures.{Figures}
-use Rattle.desk_crosspoints.specs.declared.Limit.{Limit}
-use Rattle.desk_crosspoints.specs.declared.Limit.TheVariants.{Absent, Most}
 use Rattle.desk_words.specs.Words.{words_of, given_word, limit_word, limit_at, figures_at, is_limit, is_figures, words_in}
 
-limit-back : (l : Limit) → limit_at (given_word l) (limit_word l) ≡ l
+limit-back : (l : Option ℕ) → limit_at (given_word l) (limit_word l) ≡ l
 unfolding limit_at
-limit-back Absent = refl
-limit-back (Most n) = refl
+limit-back None = refl
+limit-back (Some n) = refl
 
-is-limit : (l : Limit) → is_limit (given_word l) (limit_word l) ≡ true
+is-limit : (l : Option ℕ) → is_limit (given_word l) (limit_word l) ≡ true
 unfolding is_limit
-is-limit Absent = refl
-is-limit (Most n) = refl
+is-limit None = refl
+is-limit (Some n) = refl
 
 -- a desk's words are words of figures, and are that desk's
 pub figures-back : (f : Figures) → figures_at (words_of f) ≡ f
@@ -39,11 +38,11 @@ module _ (given n : ℕ) where
   unfolding is_limit
   limit-given h = rw (ne_eqb _ _ h) refl
 
-  pub limit-absent : given ≡ 0 → Absent ≡ limit_at given n
+  pub limit-absent : given ≡ 0 → None ≡ limit_at given n
   unfolding limit_at
   limit-absent h = rw (eq-eqb _ _ h) refl
 
-  pub limit-most : (given ≡ 0 → ⊥) → Most n ≡ limit_at given n
+  pub limit-most : (given ≡ 0 → ⊥) → Some n ≡ limit_at given n
   unfolding limit_at
   limit-most h = rw (ne_eqb _ _ h) refl
 
@@ -73,7 +72,7 @@ set-seven (x1 ∷ x2 ∷ []) a b c d e f g k = absurd (omega arith)
 set-seven (x1 ∷ []) a b c d e f g k = absurd (omega arith)
 set-seven [] a b c d e f g k = absurd (omega arith)
 
-pub put-limits : (ws : List ℕ) (total each : Limit) {a b c d : ℕ} → a ≡ given_word total → b ≡ limit_word total → c ≡ given_word each → d ≡ limit_word each
+pub put-limits : (ws : List ℕ) (total each : Option ℕ) {a b c d : ℕ} → a ≡ given_word total → b ≡ limit_word total → c ≡ given_word each → d ≡ limit_word each
     → set (set (set (set ws 3 a) 4 b) 5 c) 6 d ≡ set (set (set (set ws 3 (given_word total)) 4 (limit_word total)) 5 (given_word each)) 6 (limit_word each)
 put-limits ws total each i j k l = rw (i, j, k, l) refl
 

@@ -1,19 +1,17 @@
 -- A desk's figures as seven words, and back: type, targets, sources; whether a limit in total is given, and it; whether a limit per target is given, and it.
-use Rattle.std.specs.Prelude.{ℕ, Bool, List, [], ◌∷◌, eqb, length, get_or}
+use Rattle.std.specs.Prelude.{ℕ, Bool, List, [], ◌∷◌, eqb, length, get_or, Option, Some, None}
 use Rattle.base_choices.specs.Choices.{pick, both}
-use Rattle.desk_crosspoints.specs.declared.Limit.{Limit}
-use Rattle.desk_crosspoints.specs.declared.Limit.TheVariants.{Absent, Most}
 use Rattle.desk_crosspoints.specs.declared.Figures.{Figures}
 use Rattle.desk_crosspoints.specs.Crosspoints.{Cells}
 use Rattle.desk_crosspoints.specs.Desk.{Desk, desk_at}
 
-abbrev pub given_word : Limit → ℕ
-given_word Absent = 0
-given_word (Most n) = 1
+abbrev pub given_word : Option ℕ → ℕ
+given_word None = 0
+given_word (Some n) = 1
 
-abbrev pub limit_word : Limit → ℕ
-limit_word Absent = 0
-limit_word (Most n) = n
+abbrev pub limit_word : Option ℕ → ℕ
+limit_word None = 0
+limit_word (Some n) = n
 
 abbrev pub words_of : Figures → List ℕ
 words_of f =
@@ -21,8 +19,8 @@ words_of f =
     ∷ given_word f.total ∷ limit_word f.total
     ∷ given_word f.each ∷ limit_word f.each ∷ []
 
-unfoldable pub limit_at : ℕ → ℕ → Limit
-limit_at given n = pick (eqb given 0) Absent (Most n)
+unfoldable pub limit_at : ℕ → ℕ → Option ℕ
+limit_at given n = pick (eqb given 0) None (Some n)
 
 abbrev pub figures_at : List ℕ → Figures
 figures_at ws =

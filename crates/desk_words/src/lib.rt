@@ -4,15 +4,15 @@
 ghost use Rattle.std.specs.Prelude.{◌≡◌, length, set};
 ghost use Rattle.desk_words.specs.Words.{given_word, limit_word, words_of, limit_at, figures_at, is_limit, is_figures, words_in};
 
-use desk_crosspoints::{Figures, Limit};
+use desk_crosspoints::Figures;
 
-fn limit_at(given: u64, n: u64) -> Limit
+fn limit_at(given: u64, n: u64) -> Option<u64>
     ensures { result ≡ limit_at given n }
 {
     if given == 0 {
-        return Limit::Absent;
+        return None;
     }
-    Limit::Most(n)
+    Some(n)
 }
 
 fn is_limit(given: u64, n: u64) -> bool
@@ -56,21 +56,21 @@ pub fn figures_at(words: &[u64]) -> Figures
     }
 }
 
-fn given_word(l: Limit) -> u64
+fn given_word(l: Option<u64>) -> u64
     ensures { result ≡ given_word l }
 {
     match l {
-        Limit::Absent => 0,
-        Limit::Most(_) => 1,
+        None => 0,
+        Some(_) => 1,
     }
 }
 
-fn limit_word(l: Limit) -> u64
+fn limit_word(l: Option<u64>) -> u64
     ensures { result ≡ limit_word l }
 {
     match l {
-        Limit::Absent => 0,
-        Limit::Most(n) => n,
+        None => 0,
+        Some(n) => n,
     }
 }
 
@@ -83,7 +83,7 @@ fn put_words(words: &mut [u64], kind: u64, targets: u64, sources: u64)
     words[2] = sources;
 }
 
-fn put_limits(words: &mut [u64], total: Limit, each: Limit)
+fn put_limits(words: &mut [u64], total: Option<u64>, each: Option<u64>)
     requires { length words.old ≡ 7 }
     ensures { words.new
         ≡ set (set (set (set words.old 3 (given_word total)) 4 (limit_word total)) 5 (given_word each)) 6 (limit_word each) }

@@ -1,5 +1,7 @@
 -- The reader's answer to every message of at most 16,384 octets and every table of at most 256 rows, by what the message encodes alone: `read-exactly` for the
 -- definition that the contract of `glow_reader::read` equates its answer with, `call-exactly` for every call that its contract allows.
+use Rattle.std.specs.Prelude.{Ok, Err}
+use Rattle.ber_containers.specs.declared.No.{No}
 use Prim.Native.Nat.{ℕ, ◌≤◌, ◌<◌}
 use mathlib.Core.Path.{◌≡◌, refl, sym, ap, subst, ◌∙◌}
 use mathlib.Core.List.{List, []}
@@ -18,8 +20,6 @@ use lib.Dec.{ltb}
 use Rattle.base_choices.specs.Choices.{pick}
 use Rattle.base_choices.proofs.Laws.{pick-by}
 use Rattle.ber_integers.proofs.Radix.{Below, lt-or-le}
-use Rattle.ber_containers.specs.declared.Onto.{Onto}
-use Rattle.ber_containers.specs.declared.Onto.TheVariants.{Next, Refused as Stopped}
 use Rattle.glow_rows.specs.Entry.{Entries, Rows, overlay}
 use Rattle.glow_walk.specs.Walk.{walk}
 use Rattle.glow_reader.specs.declared.Answer.{Answer}
@@ -76,13 +76,13 @@ module _ (s : List ℕ) (below : Below 256 s) (few : length s ≤ 16384) (rows :
       → ((root : ℕ) (t : Trees) → Encodes s root t → length rows < count t → P) → (Refuses rows x.answer x.rows → P) → P
   by_cases P fits lacks refused = by (walk s).out.answer refl
     where
-      by : (a : Onto) → (walk s).out.answer ≡ a → P
-      by (Next m) q =
+      by : (a : Result ℕ No) → (walk s).out.answer ≡ a → P
+      by (Ok m) q =
           let r = accepted s below q in
           ⊎_elim (λ (l : length rows < count r.0). lacks (walk s).which r.0 r.1 l)
           (λ (l : count r.0 ≤ length rows). fits (walk s).which r.0 r.1 l)
           (lt-or-le (length rows) (count r.0))
-      by (Stopped e) q =
+      by (Err e) q =
           let r = refused-by s below few rows most e q in
           let n : (reply_by x.answer).number ≡ e.0 = ap (λ (y : Result). (reply_by y.answer).number) r in
           let f = refusal-numbers s rows (ap (λ (y : Result). y.answer) r) in
@@ -160,9 +160,9 @@ lent_out xs = record { ref_ptr = (0, 0); ghost_name = 0; now = xs }
 abbrev Whole : Result → Type 0
 Whole y = y ≡ read_result y.answer y.rows
 
-whole-read : (rows : Rows) (which : ℕ) (es : Entries) (a : Onto) → Whole (read_of rows which es a)
-whole-read rows which es (Next n) = pick-by Whole (ltb (length rows) (length es)) (λ e. refl) (λ e. refl)
-whole-read rows which es (Stopped e) = refl
+whole-read : (rows : Rows) (which : ℕ) (es : Entries) (a : Result ℕ No) → Whole (read_of rows which es a)
+whole-read rows which es (Ok n) = pick-by Whole (ltb (length rows) (length es)) (λ e. refl) (λ e. refl)
+whole-read rows which es (Err e) = refl
 
 whole : (s : List ℕ) (rows : Rows) → Whole (read_at s rows)
 unfolding read_at

@@ -1,6 +1,7 @@
 -- The writer's message encodes its tree (`message-encodes`, `written-encodes`). None of the tree's encodings with reals of scale 0 and odd mantissa, the
 -- form that is
 -- written, is shorter (`written-shortest`). With reals in the fewest octets the message is the shortest of all (`least-encodes`, `least-shortest`).
+use Rattle.std.specs.Prelude.{Some}
 use Prim.Native.Nat.{ℕ, ◌≤◌, ◌<◌}
 use mathlib.Core.Path.{◌≡◌, sym, ap, subst, ◌∙◌}
 use mathlib.Core.List.{List}
@@ -13,7 +14,6 @@ use lib.Ieee as Ieee
 use lib.Ieee.{Float, binary64}
 use lib.Ieee.Bits.{of_bits-to_bits, of_bits-fits}
 use Rattle.ber_integers.specs.Digits.{outcome}
-use Rattle.ber_integers.specs.declared.Wrote.TheVariants.{Next}
 use Rattle.ber_integers.proofs.Radix.{Below, lt-or-le}
 use Rattle.ber_reals.specs.Write.{Form, form}
 use Rattle.ber_reals.specs.Means.{Means, Plain}
@@ -71,14 +71,14 @@ least-encodes = spelled-encodes least_real least-spells least-below
 
 -- What `write` put is an encoding of the tree whose entries the rows hold.
 pub written-encodes : (s : List ℕ) → Below 256 s → (rows : Rows) (count root : ℕ) (out : List ℕ) (n : ℕ) (out' : List ℕ)
-    → written s rows count root out ≡ outcome (Next n) out'
+    → written s rows count root out ≡ outcome (Some n) out'
     → (t : Trees) × ((take n out' ≡ message_octets written_real root t) × (Encodes (take n out') root t × (flat 0 0 t ≡ items_in s rows count)))
 unfolding octets_of
 written-encodes s b rows count root out n out' h =
     let es = items_in s rows count in
     let bs = octets_of written_real root es in
     let t = (trees_of root es).trees in
-    let d = told root (length rows) count es out (Next n) out' h in
+    let d = told root (length rows) count es out (Some n) out' h in
     let f = fitting written_real root (length rows) count es d.0 in
     let w = made root es f.whole in
     let q : take n out' ≡ bs = ap (take n) d.1.1.1 ∙ take_at bs (drop n out) n (sym d.1.0) in (

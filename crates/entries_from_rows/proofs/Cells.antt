@@ -1,4 +1,5 @@
 -- What a cell holds where its member's rule lets it stand (`suits`, crates/glow_trees/specs/Legal.antt): a member of a struct, in range of its type.
+use Rattle.std.specs.Prelude.{Option, Some, None}
 use Prim.Native.Nat.{ℕ, zero, suc, ◌+◌, ◌≤◌, ◌<◌}
 use mathlib.Core.Path.{◌≡◌, refl, sym, ap, subst, ◌∙◌}
 use mathlib.Core.List.{List}
@@ -23,14 +24,8 @@ use Rattle.glow_grammar.specs.Leaf.{expects}
 use Rattle.glow_trees.specs.Content.{Content, is_part, is_word, content_of}
 use Rattle.glow_trees.specs.Legal.{suits, present, word_suits, is_real}
 use Rattle.trees_read_back.proofs.Bools.{never, unless, word-kinds, part-kinds}
-use Rattle.glow_entries.specs.declared.Number.{Number}
-use Rattle.glow_entries.specs.declared.Number.TheVariants.{Absent as NoNumber, Is as IsNumber}
-use Rattle.glow_entries.specs.declared.Flag.{Flag}
-use Rattle.glow_entries.specs.declared.Flag.TheVariants.{Absent as NoFlag, Is as IsFlag}
 use Rattle.glow_entries.specs.declared.Part.{Part}
 use Rattle.glow_entries.specs.declared.Part.TheVariants.{Absent as NoPart, At as PartAt}
-use Rattle.glow_entries.specs.declared.Parent.{Parent}
-use Rattle.glow_entries.specs.declared.Parent.TheVariants.{Root, At}
 use Rattle.glow_entries.specs.Held.{HeldInt, HeldNumber, HeldParent, HeldValue, Present}
 use Rattle.glow_rows.specs.Cell.{int_of}
 use Rattle.glow_entries.specs.Member.{number_cell, flag_cell, part_cell, parent_word}
@@ -102,7 +97,7 @@ int_word w l =
 
 -- a number
 pub record NumberIn (v : Cell) : Type 0 where
-  pub member : Number
+  pub member : Option ℤ
   pub cells : v ≡ number_cell member
   pub kept : number_kept member ≡ v
   pub held : HeldNumber member
@@ -118,24 +113,24 @@ int-in v w e l =
     record { member = int_of w; cells = e ∙ ap (λ (i : ℕ). cell 2 i 0) (sym r.0); held = r.1 }
 
 pub number_in : (what : ℕ) (v : Cell) → ((k : ℕ) → expects what k ≡ eqb k 2) → Shape what v → NumberIn v
-number_in what v x (gone e) = record { member = NoNumber; cells = e; kept = sym e; held = tt }
+number_in what v x (gone e) = record { member = None; cells = e; kept = sym e; held = tt }
 number_in what v x (worded kind w e i l n g u) =
     let k : kind ≡ 2 = eqb-true kind 2 (sym (x kind) ∙ g) in
     let z = int-in v w (e ∙ ap (λ (j : ℕ). cell j w 0) k) l in
-    record { member = IsNumber z.member; cells = z.cells; kept = sym z.cells; held = z.held }
+    record { member = Some z.member; cells = z.cells; kept = sym z.cells; held = z.held }
 number_in what v x (parted kind start len e i n g) =
     let k : kind ≡ 2 = eqb-true kind 2 (sym (x kind) ∙ g) in never (ap is_part (sym k) ∙ i)
 
 pub some_number : {v : Cell} → NumberIn v → (v ≡ absent → ⊥) → IntIn v
 some_number {v = v} r n = go r.member r.cells r.held
   where
-    go : (m : Number) → v ≡ number_cell m → HeldNumber m → IntIn v
-    go NoNumber e h = absurd (n e)
-    go (IsNumber z) e h = record { member = z; cells = e; held = h }
+    go : (m : Option ℤ) → v ≡ number_cell m → HeldNumber m → IntIn v
+    go None e h = absurd (n e)
+    go (Some z) e h = record { member = z; cells = e; held = h }
 
 -- a flag
 pub record FlagIn (v : Cell) : Type 0 where
-  pub member : Flag
+  pub member : Option Bool
   pub cells : v ≡ flag_cell member
   pub kept : flag_kept member ≡ v
 
@@ -144,12 +139,12 @@ bit_in w l = ⊎_elim (λ (h : w < 1). (false, omega arith)) (λ (h : 1 ≤ w). 
 
 pub flag-in : (what : ℕ) (v : Cell) → ((k : ℕ) → expects what k ≡ eqb k 1) → Shape what v → FlagIn v
 unfolding word_suits
-flag-in what v x (gone e) = record { member = NoFlag; cells = e; kept = sym e }
+flag-in what v x (gone e) = record { member = None; cells = e; kept = sym e }
 flag-in what v x (worded kind w e i l n g u) =
     let k : kind ≡ 1 = eqb-true kind 1 (sym (x kind) ∙ g) in
     let b = bit_in w (leb-true w 1 (ap (λ (j : ℕ). word_suits what j w) (sym k) ∙ u)) in
     let c : v ≡ cell 1 (bit_of b.0) 0 = e ∙ ap (λ (j : ℕ). cell j w 0) k ∙ ap (λ (j : ℕ). cell 1 j 0) (sym b.1) in
-    record { member = IsFlag b.0; cells = c; kept = sym c }
+    record { member = Some b.0; cells = c; kept = sym c }
 flag-in what v x (parted kind start len e i n g) =
     let k : kind ≡ 1 = eqb-true kind 1 (sym (x kind) ∙ g) in never (ap is_part (sym k) ∙ i)
 
@@ -247,11 +242,11 @@ some-value (Octets start len) e n = tt
 
 -- the parent's place
 pub record ParentIn (p : ℕ) : Type 0 where
-  pub member : Parent
+  pub member : Option ℕ
   pub words : p ≡ parent_word member
   pub kept : parent_kept member ≡ p
   pub held : HeldParent member
 
 pub parent_in : (p : ℕ) → p ≤ 256 → ParentIn p
-parent_in zero h = record { member = Root; words = refl; kept = refl; held = tt }
-parent_in (suc i) h = record { member = At i; words = omega arith; kept = omega arith; held = omega arith }
+parent_in zero h = record { member = None; words = refl; kept = refl; held = tt }
+parent_in (suc i) h = record { member = Some i; words = omega arith; kept = omega arith; held = omega arith }

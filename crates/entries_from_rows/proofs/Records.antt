@@ -1,4 +1,5 @@
 -- The row of an entry whose cells suit the rules of its kind is read by the struct of that kind as this entry.
+use Rattle.std.specs.Prelude.{Some}
 use Prim.Native.Nat.{ℕ, zero, suc, ◌≤◌}
 use mathlib.Core.Path.{◌≡◌, refl, sym, ap, ◌∙◌}
 use mathlib.Core.List.{List, [], ◌∷◌}
@@ -15,17 +16,11 @@ use Rattle.glow_trees.specs.Legal.{rule_at}
 use Rattle.glow_entries.specs.declared.Key.{Key}
 use Rattle.glow_entries.specs.declared.Key.TheVariants.{Number as ByNumber, Path as ByPath}
 use Rattle.glow_entries.specs.declared.Parameter.{Parameter}
-use Rattle.glow_entries.specs.declared.ReadParameter.TheVariants.{Entry as ParameterEntry}
 use Rattle.glow_entries.specs.declared.Node.{Node}
-use Rattle.glow_entries.specs.declared.ReadNode.TheVariants.{Entry as NodeEntry}
 use Rattle.glow_entries.specs.declared.Matrix.{Matrix}
-use Rattle.glow_entries.specs.declared.ReadMatrix.TheVariants.{Entry as MatrixEntry}
 use Rattle.glow_entries.specs.declared.Command.{Command}
-use Rattle.glow_entries.specs.declared.ReadCommand.TheVariants.{Entry as CommandEntry}
 use Rattle.glow_entries.specs.declared.Connection.{Connection}
-use Rattle.glow_entries.specs.declared.ReadConnection.TheVariants.{Entry as ConnectionEntry}
 use Rattle.glow_entries.specs.declared.Stream.{Stream}
-use Rattle.glow_entries.specs.declared.ReadStream.TheVariants.{Entry as StreamEntry}
 use Rattle.glow_entries.specs.Held.{HeldKey, HeldParameter, HeldNode, HeldMatrix, HeldCommand, HeldConnection, HeldStream}
 use Rattle.glow_entries.specs.Member.{key_cell, key_kind}
 use Rattle.glow_entries.specs.Record.{parameter_row, parameter_read, node_row, node_read, matrix_row, matrix_read}
@@ -154,7 +149,7 @@ module _ (p : ℕ) (low : p ≤ 256) (vs : List Cell) (size : length vs ≡ 16) 
 
     parameter-by : {b : Bool} (key : KeyIn (v 0) b) → kind ≡ pick b 5 1 → Shape 1 (v 1) → Shape 2 (v 2) → Shape 4 (v 3) → Shape 4 (v 4) → Shape 4 (v 5)
         → Shape 10 (v 6) → Shape 0 (v 7) → Shape 0 (v 8) → Shape 9 (v 9) → Shape 3 (v 10) → Shape 0 (v 11) → Shape 9 (v 12) → Shape 0 (v 13)
-        → Shape 0 (v 14) → Shape 8 (v 15) → (x : Parameter) × ((by_path x.key ≡ b) × ((parameter_read (row e) ≡ ParameterEntry x) × IsParameter e x))
+        → Shape 0 (v 14) → Shape 8 (v 15) → (x : Parameter) × ((by_path x.key ≡ b) × ((parameter_read (row e) ≡ Some x) × IsParameter e x))
     unfolding from
     parameter-by {b} key k s1 s2 s3 s4 s5 s6 s7 s8 s9 s10 s11 s12 s13 s14 s15 =
         let m1 = name_in (v 1) s1 in
@@ -223,7 +218,7 @@ module _ (p : ℕ) (low : p ≤ 256) (vs : List Cell) (size : length vs ≡ 16) 
         )
 
     node_by : {b : Bool} (key : KeyIn (v 0) b) → kind ≡ pick b 6 3 → Shape 1 (v 1) → Shape 2 (v 2) → Shape 3 (v 3) → Shape 3 (v 4)
-        → Off 11 5 → (x : Node) × ((by_path x.key ≡ b) × ((node_read (row e) ≡ NodeEntry x) × IsNode e x))
+        → Off 11 5 → (x : Node) × ((by_path x.key ≡ b) × ((node_read (row e) ≡ Some x) × IsNode e x))
     unfolding from blanks
     node_by {b} key k s1 s2 s3 s4 off =
         let m1 = name_in (v 1) s1 in
@@ -266,7 +261,7 @@ module _ (p : ℕ) (low : p ≤ 256) (vs : List Cell) (size : length vs ≡ 16) 
 
     matrix-by : {b : Bool} (key : KeyIn (v 0) b) → kind ≡ pick b 7 4 → Shape 1 (v 1) → Shape 2 (v 2) → Shape 11 (v 3) → Shape 12 (v 4) → Shape 8 (v 5)
         → Shape 8 (v 6) → Shape 8 (v 7) → Shape 8 (v 8) → Off 7 9
-        → (x : Matrix) × ((by_path x.key ≡ b) × ((matrix_read (row e) ≡ MatrixEntry x) × IsMatrix e x))
+        → (x : Matrix) × ((by_path x.key ≡ b) × ((matrix_read (row e) ≡ Some x) × IsMatrix e x))
     unfolding from blanks
     matrix-by {b} key k s1 s2 s3 s4 s5 s6 s7 s8 off =
         let m1 = name_in (v 1) s1 in
@@ -327,7 +322,7 @@ module _ (p : ℕ) (low : p ≤ 256) (vs : List Cell) (size : length vs ≡ 16) 
         )
 
   command-by : IntIn (v 0) → Shape 9 (v 1) → Off 14 2
-      → (x : Command) × ((command_read (row (entry 2 p vs)) ≡ CommandEntry x) × IsCommand (entry 2 p vs) x)
+      → (x : Command) × ((command_read (row (entry 2 p vs)) ≡ Some x) × IsCommand (entry 2 p vs) x)
   unfolding from blanks
   command-by m0 s1 off =
       let m1 = int32-in (v 1) s1 in
@@ -349,7 +344,7 @@ module _ (p : ℕ) (low : p ≤ 256) (vs : List Cell) (size : length vs ≡ 16) 
       )
 
   connection-by : IntIn (v 0) → Shape 7 (v 1) → Shape 11 (v 2) → Off 13 3
-      → (x : Connection) × ((connection_read (row (entry 8 p vs)) ≡ ConnectionEntry x) × IsConnection (entry 8 p vs) x)
+      → (x : Connection) × ((connection_read (row (entry 8 p vs)) ≡ Some x) × IsConnection (entry 8 p vs) x)
   unfolding from blanks
   connection-by m0 s1 s2 off =
       let m1 = list-in (v 1) s1 in
@@ -372,7 +367,7 @@ module _ (p : ℕ) (low : p ≤ 256) (vs : List Cell) (size : length vs ≡ 16) 
       )
 
   stream-by : IntIn (v 0) → Shape 4 (v 1) → (v 1 ≡ absent → ⊥) → Off 14 2
-      → (x : Stream) × ((stream_read (row (entry 9 p vs)) ≡ StreamEntry x) × IsStream (entry 9 p vs) x)
+      → (x : Stream) × ((stream_read (row (entry 9 p vs)) ≡ Some x) × IsStream (entry 9 p vs) x)
   unfolding from blanks
   stream-by m0 s1 there off =
       let m1 = value_in (v 1) s1 in

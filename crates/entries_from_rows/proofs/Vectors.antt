@@ -1,5 +1,6 @@
 -- Two messages with an entry of each of the nine kinds, by computation: the rows that the reader leaves, each read by the struct of its kind, member by
 -- member. Where a member's range lets it, a number is here its own context number and 100.
+use Rattle.std.specs.Prelude.{Some, None}
 use Prim.Native.Nat.{ℕ, zero, suc}
 use mathlib.Core.Path.{◌≡◌, refl}
 use mathlib.Core.Bool.{true, false}
@@ -28,23 +29,14 @@ use Rattle.glow_walk.specs.Tree.{closed, members_by, items_by}
 use Rattle.glow_walk.specs.Walk.{finished, walk}
 use Rattle.glow_reader.specs.declared.Answer.TheVariants.{Read}
 use Rattle.glow_reader.specs.Message.{setup, read_at}
-use Rattle.glow_entries.specs.declared.Number.TheVariants.{Absent as NoNumber, Is as IsNumber}
-use Rattle.glow_entries.specs.declared.Flag.TheVariants.{Absent as NoFlag, Is as IsFlag}
 use Rattle.glow_entries.specs.declared.Part.TheVariants.{Absent as NoPart, At as PartAt}
 use Rattle.glow_entries.specs.declared.Key.TheVariants.{Number as ByNumber, Path as ByPath}
-use Rattle.glow_entries.specs.declared.Parent.TheVariants.{Root, At}
 use Rattle.glow_entries.specs.declared.Parameter.{Parameter}
-use Rattle.glow_entries.specs.declared.ReadParameter.TheVariants.{Entry as ParameterEntry}
 use Rattle.glow_entries.specs.declared.Node.{Node}
-use Rattle.glow_entries.specs.declared.ReadNode.TheVariants.{Entry as NodeEntry}
 use Rattle.glow_entries.specs.declared.Matrix.{Matrix}
-use Rattle.glow_entries.specs.declared.ReadMatrix.TheVariants.{Entry as MatrixEntry}
 use Rattle.glow_entries.specs.declared.Command.{Command}
-use Rattle.glow_entries.specs.declared.ReadCommand.TheVariants.{Entry as CommandEntry}
 use Rattle.glow_entries.specs.declared.Connection.{Connection}
-use Rattle.glow_entries.specs.declared.ReadConnection.TheVariants.{Entry as ConnectionEntry}
 use Rattle.glow_entries.specs.declared.Stream.{Stream}
-use Rattle.glow_entries.specs.declared.ReadStream.TheVariants.{Entry as StreamEntry}
 use Rattle.glow_rows.specs.Cell.{int_of, value_of, number_in}
 use Rattle.glow_rows.specs.Row.{cell_in, same}
 use Rattle.glow_entries.specs.Member.{int_in, number_of, flag_of, part_of, key_of, parent_of}
@@ -60,12 +52,12 @@ pub data Sample : Type 0 where
   stream : Stream → Sample
 
 abbrev pub ReadAs : List ℕ → Sample → Type 0
-ReadAs r (parameter x) = parameter_read r ≡ ParameterEntry x
-ReadAs r (node x) = node_read r ≡ NodeEntry x
-ReadAs r (matrix x) = matrix_read r ≡ MatrixEntry x
-ReadAs r (command x) = command_read r ≡ CommandEntry x
-ReadAs r (connection x) = connection_read r ≡ ConnectionEntry x
-ReadAs r (stream x) = stream_read r ≡ StreamEntry x
+ReadAs r (parameter x) = parameter_read r ≡ Some x
+ReadAs r (node x) = node_read r ≡ Some x
+ReadAs r (matrix x) = matrix_read r ≡ Some x
+ReadAs r (command x) = command_read r ≡ Some x
+ReadAs r (connection x) = connection_read r ≡ Some x
+ReadAs r (stream x) = stream_read r ≡ Some x
 
 -- the first rows, one after another
 abbrev pub All : Rows → List Sample → Type 0
@@ -99,67 +91,67 @@ elements =
 abbrev pub element_samples : List Sample
 element_samples =
     parameter (record {
-      parent = Root;
+      parent = None;
       key = ByNumber (pos 7);
       identifier = PartAt 25 1;
       description = PartAt 30 2;
       value = Int (negsuc 0);
       minimum = Truth true;
       maximum = Text 46 3;
-      access = IsNumber (pos 3);
-      factor = IsNumber (pos 108);
-      online = IsFlag true;
-      step = IsNumber (pos 111);
-      stream = IsNumber (pos 114);
+      access = Some (pos 3);
+      factor = Some (pos 108);
+      online = Some true;
+      step = Some (pos 111);
+      stream = Some (pos 114);
     })
     ∷ node (record {
-      parent = Root;
+      parent = None;
       key = ByNumber (pos 9);
       identifier = PartAt 91 1;
       description = PartAt 96 2;
-      root = IsFlag false;
-      online = IsFlag true;
+      root = Some false;
+      online = Some true;
     })
-    ∷ command (record { parent = At 1; number = pos 32; mask = IsNumber (negsuc 1) })
+    ∷ command (record { parent = Some 1; number = pos 32; mask = Some (negsuc 1) })
     ∷ matrix (record {
-      parent = Root;
+      parent = None;
       key = ByNumber (pos 4);
       identifier = PartAt 143 1;
       description = PartAt 148 2;
-      matrix_type = IsNumber (pos 2);
-      mode = IsNumber (pos 0);
-      targets = IsNumber (pos 104);
-      sources = IsNumber (pos 105);
-      total_limit = IsNumber (pos 106);
-      target_limit = IsNumber (pos 107);
+      matrix_type = Some (pos 2);
+      mode = Some (pos 0);
+      targets = Some (pos 104);
+      sources = Some (pos 105);
+      total_limit = Some (pos 106);
+      target_limit = Some (pos 107);
     })
-    ∷ connection (record { parent = At 3; target = pos 5; sources = PartAt 197 2; operation = IsNumber (pos 1) })
+    ∷ connection (record { parent = Some 3; target = pos 5; sources = PartAt 197 2; operation = Some (pos 1) })
     ∷ parameter (record {
-      parent = Root;
+      parent = None;
       key = ByPath 212 2;
       identifier = NoPart;
       description = NoPart;
       value = Octets 222 2;
       minimum = Absent;
       maximum = Absent;
-      access = NoNumber;
-      factor = NoNumber;
-      online = IsFlag false;
-      step = NoNumber;
-      stream = NoNumber;
+      access = None;
+      factor = None;
+      online = Some false;
+      step = None;
+      stream = None;
     })
-    ∷ node (record { parent = Root; key = ByPath 237 1; identifier = PartAt 246 1; description = NoPart; root = NoFlag; online = NoFlag })
+    ∷ node (record { parent = None; key = ByPath 237 1; identifier = PartAt 246 1; description = NoPart; root = None; online = None })
     ∷ matrix (record {
-      parent = Root;
+      parent = None;
       key = ByPath 255 2;
       identifier = NoPart;
       description = NoPart;
-      matrix_type = IsNumber (pos 1);
-      mode = NoNumber;
-      targets = NoNumber;
-      sources = IsNumber (pos 6);
-      total_limit = NoNumber;
-      target_limit = NoNumber;
+      matrix_type = Some (pos 1);
+      mode = None;
+      targets = None;
+      sources = Some (pos 6);
+      total_limit = None;
+      target_limit = None;
     })
     ∷ []
 
@@ -171,8 +163,8 @@ streams =
 
 abbrev pub stream_samples : List Sample
 stream_samples =
-    stream (record { parent = Root; identifier = pos 100; value = Octets 17 3 })
-    ∷ stream (record { parent = Root; identifier = pos 101; value = Real (fin false 3 (pos 0)) })
+    stream (record { parent = None; identifier = pos 100; value = Octets 17 3 })
+    ∷ stream (record { parent = None; identifier = pos 101; value = Real (fin false 3 (pos 0)) })
     ∷ []
 
 pub elements-read : (r : List ℕ) → ((read_at elements (rows_of r 9)).answer ≡ Read 0 8) × All (read_at elements (rows_of r 9)).rows element_samples

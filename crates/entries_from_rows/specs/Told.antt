@@ -1,45 +1,33 @@
 -- What the structs of the kinds of entry (crates/glow_entries) are to make of an entry that the reader read. These are the words of `rows_told`
 -- (proofs/Theorems.antt). Of `glow_entries` they name the structs and what its functions answer, and none of its numbers.
-use Rattle.std.specs.Prelude.{ℕ, suc, ◌+◌, ◌≡◌, Bool, true, false, List, get_or}
+use Rattle.std.specs.Prelude.{ℕ, suc, ◌+◌, ◌≡◌, Bool, true, false, List, get_or, ℤ, Option, Some, None}
 use Rattle.ber_values.specs.declared.Value.TheVariants.{Int, Text, Bool as Truth}
 use Rattle.glow_rows.specs.declared.Cell.{Cell}
 use Rattle.glow_rows.specs.Cell.{absent, cell_of, numbers_cell}
 use Rattle.glow_rows.specs.Entry.{Entry}
 use Rattle.glow_grammar.specs.Grammar as grammar
-use Rattle.glow_entries.specs.declared.Number.{Number}
-use Rattle.glow_entries.specs.declared.Number.TheVariants.{Absent as NoNumber, Is as IsNumber}
-use Rattle.glow_entries.specs.declared.Flag.{Flag}
-use Rattle.glow_entries.specs.declared.Flag.TheVariants.{Absent as NoFlag, Is as IsFlag}
 use Rattle.glow_entries.specs.declared.Part.{Part}
 use Rattle.glow_entries.specs.declared.Part.TheVariants.{Absent as NoPart, At as PartAt}
 use Rattle.glow_entries.specs.declared.Key.{Key}
 use Rattle.glow_entries.specs.declared.Key.TheVariants.{Number as ByNumber, Path as ByPath}
-use Rattle.glow_entries.specs.declared.Parent.{Parent}
-use Rattle.glow_entries.specs.declared.Parent.TheVariants.{Root, At}
 use Rattle.glow_entries.specs.declared.Parameter.{Parameter}
 use Rattle.glow_entries.specs.declared.Node.{Node}
 use Rattle.glow_entries.specs.declared.Matrix.{Matrix}
 use Rattle.glow_entries.specs.declared.Command.{Command}
 use Rattle.glow_entries.specs.declared.Connection.{Connection}
 use Rattle.glow_entries.specs.declared.Stream.{Stream}
-use Rattle.glow_entries.specs.declared.ReadParameter.TheVariants.{Entry as ParameterEntry}
-use Rattle.glow_entries.specs.declared.ReadNode.TheVariants.{Entry as NodeEntry}
-use Rattle.glow_entries.specs.declared.ReadMatrix.TheVariants.{Entry as MatrixEntry}
-use Rattle.glow_entries.specs.declared.ReadCommand.TheVariants.{Entry as CommandEntry}
-use Rattle.glow_entries.specs.declared.ReadConnection.TheVariants.{Entry as ConnectionEntry}
-use Rattle.glow_entries.specs.declared.ReadStream.TheVariants.{Entry as StreamEntry}
 use Rattle.glow_entries.specs.Held.{HeldParameter, HeldNode, HeldMatrix, HeldCommand, HeldConnection, HeldStream}
 use Rattle.glow_entries.specs.Record.{parameter_read, node_read, matrix_read, command_read, connection_read, stream_read}
 
 -- "Every listed member is kept, an absent one as absent": what the reader keeps of a member with this value (`cell_of`, `numbers_cell`:
 -- crates/glow_rows/specs/Cell.antt). Texts, paths and sources are parts of the message, by start and length.
-abbrev pub number_kept : Number → Cell
-number_kept NoNumber = absent
-number_kept (IsNumber z) = cell_of (Int z)
+abbrev pub number_kept : Option ℤ → Cell
+number_kept None = absent
+number_kept (Some z) = cell_of (Int z)
 
-abbrev pub flag_kept : Flag → Cell
-flag_kept NoFlag = absent
-flag_kept (IsFlag b) = cell_of (Truth b)
+abbrev pub flag_kept : Option Bool → Cell
+flag_kept None = absent
+flag_kept (Some b) = cell_of (Truth b)
 
 abbrev pub text_kept : Part → Cell
 text_kept NoPart = absent
@@ -54,9 +42,9 @@ key_kept (ByNumber z) = cell_of (Int z)
 key_kept (ByPath start len) = numbers_cell start len
 
 -- "with its parent's place": and 1; 0 where there is none
-abbrev pub parent_kept : Parent → ℕ
-parent_kept Root = 0
-parent_kept (At i) = i + 1
+abbrev pub parent_kept : Option ℕ → ℕ
+parent_kept None = 0
+parent_kept (Some i) = i + 1
 
 -- The member of this context number: of a command, a connection or a stream entry, and an element's number or path, 0; and of an element's contents.
 abbrev pub member : Entry → ℕ → Cell
@@ -135,13 +123,13 @@ by_path (ByPath start len) = true
 
 -- The row r is read, by the struct of the entry's kind, as the entry e: the nine kinds of the grammar (crates/glow_grammar/specs/Grammar.antt).
 pub data Told (r : List ℕ) (e : Entry) : Type 0 where
-  parameter : (x : Parameter) → e.kind ≡ grammar.parameter → by_path x.key ≡ false → parameter_read r ≡ ParameterEntry x → IsParameter e x → Told r e
-  command : (x : Command) → e.kind ≡ grammar.command → command_read r ≡ CommandEntry x → IsCommand e x → Told r e
-  node : (x : Node) → e.kind ≡ grammar.node → by_path x.key ≡ false → node_read r ≡ NodeEntry x → IsNode e x → Told r e
-  matrix : (x : Matrix) → e.kind ≡ grammar.matrix → by_path x.key ≡ false → matrix_read r ≡ MatrixEntry x → IsMatrix e x → Told r e
-  qualified_parameter : (x : Parameter) → e.kind ≡ grammar.qualified_parameter → by_path x.key ≡ true → parameter_read r ≡ ParameterEntry x → IsParameter e x
+  parameter : (x : Parameter) → e.kind ≡ grammar.parameter → by_path x.key ≡ false → parameter_read r ≡ Some x → IsParameter e x → Told r e
+  command : (x : Command) → e.kind ≡ grammar.command → command_read r ≡ Some x → IsCommand e x → Told r e
+  node : (x : Node) → e.kind ≡ grammar.node → by_path x.key ≡ false → node_read r ≡ Some x → IsNode e x → Told r e
+  matrix : (x : Matrix) → e.kind ≡ grammar.matrix → by_path x.key ≡ false → matrix_read r ≡ Some x → IsMatrix e x → Told r e
+  qualified_parameter : (x : Parameter) → e.kind ≡ grammar.qualified_parameter → by_path x.key ≡ true → parameter_read r ≡ Some x → IsParameter e x
       → Told r e
-  qualified_node : (x : Node) → e.kind ≡ grammar.qualified_node → by_path x.key ≡ true → node_read r ≡ NodeEntry x → IsNode e x → Told r e
-  qualified_matrix : (x : Matrix) → e.kind ≡ grammar.qualified_matrix → by_path x.key ≡ true → matrix_read r ≡ MatrixEntry x → IsMatrix e x → Told r e
-  connection : (x : Connection) → e.kind ≡ grammar.connection → connection_read r ≡ ConnectionEntry x → IsConnection e x → Told r e
-  stream_entry : (x : Stream) → e.kind ≡ grammar.stream_entry → stream_read r ≡ StreamEntry x → IsStream e x → Told r e
+  qualified_node : (x : Node) → e.kind ≡ grammar.qualified_node → by_path x.key ≡ true → node_read r ≡ Some x → IsNode e x → Told r e
+  qualified_matrix : (x : Matrix) → e.kind ≡ grammar.qualified_matrix → by_path x.key ≡ true → matrix_read r ≡ Some x → IsMatrix e x → Told r e
+  connection : (x : Connection) → e.kind ≡ grammar.connection → connection_read r ≡ Some x → IsConnection e x → Told r e
+  stream_entry : (x : Stream) → e.kind ≡ grammar.stream_entry → stream_read r ≡ Some x → IsStream e x → Told r e

@@ -6,8 +6,8 @@ ghost use Rattle.framing_session.specs.Session.{legal, answers, state_of, run, f
 
 pub use framing_content::{Content, Fault};
 pub use framing_session::{
-    BOF, CE, CONTENT_LIMIT, CONTENT_START, EOF, Event, Fed, Frame, MESSAGE_LIMIT, Pending,
-    STORE_LENGTH, Session, frame_length, is_legal, message_length, start,
+    BOF, CE, CONTENT_LIMIT, CONTENT_START, EOF, Event, Fed, Frame, MESSAGE_LIMIT, STORE_LENGTH,
+    Session, frame_length, is_legal, message_length, start,
 };
 
 // Takes bytes of the chunk up to an event, or all of them.

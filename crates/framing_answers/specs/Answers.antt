@@ -1,11 +1,9 @@
 -- Which calls from C are no SETUP, and what they answer in numbers.
-use Rattle.std.specs.Prelude.{ℕ, min, Bool, false, cond, List, [], ◌∷◌, eqb, length}
+use Rattle.std.specs.Prelude.{ℕ, min, Bool, false, cond, List, [], ◌∷◌, eqb, length, Option, Some, None}
 use Rattle.base_choices.specs.Choices.{pick}
 use Rattle.framing_session.specs.declared.Event.{Event}
 use Rattle.framing_session.specs.Session.{said_by, legal}
 use Rattle.framing_events.specs.Events.{length_of}
-use Rattle.framing_packets.specs.declared.Written.{Written}
-use Rattle.framing_packets.specs.declared.Written.TheVariants.{Done, Out}
 use Rattle.framing_words.specs.Words.{session_at, is_session}
 
 -- 1 SETUP: words that are no session's, lengths over their limits, a store that is not 17,408 bytes, an answer that is not three words
@@ -25,6 +23,6 @@ pub record Told : Type 0 where
   pub number : ℕ
   pub count : ℕ
 
-abbrev pub tells : Written → ℕ → Told
-tells (Done n) count = record { number = 0; count = n }
-tells Out count = record { number = 46; count = count }
+abbrev pub tells : Option ℕ → ℕ → Told
+tells (Some n) count = record { number = 0; count = n }
+tells None count = record { number = 46; count = count }

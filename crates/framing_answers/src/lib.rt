@@ -6,7 +6,6 @@ ghost use Rattle.framing_session.specs.Session.{legal as is_legal};
 ghost use Rattle.framing_words.specs.Words.{session_at};
 ghost use Rattle.framing_answers.specs.Answers.{accepts as is_accepted, answer_put, tells};
 
-use framing_packets::Written;
 use framing_session::Event;
 
 fn legal_words(session: &[u64], n: usize) -> bool
@@ -55,14 +54,14 @@ pub fn put_answer(answer: &mut [u64], event: Event, consumed: usize, n: usize)
 }
 
 // What the writer answered: 0 and the count of bytes, or 46.
-pub fn tell(res: Written, count: &mut u64) -> u64
+pub fn tell(res: Option<usize>, count: &mut u64) -> u64
     ensures { tells res count.old ≡ record { number = result; count = count.new } }
 {
     match res {
-        Written::Done { length } => {
+        Some(length) => {
             *count = base_casts::word(length);
             0
         }
-        Written::Out => 46,
+        None => 46,
     }
 }

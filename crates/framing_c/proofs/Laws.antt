@@ -1,4 +1,5 @@
 -- Laws of the definitions, at plain variables.
+use Rattle.std.specs.Prelude.{Option, Some, None}
 use Prim.Native.Nat.{ℕ}
 use mathlib.Core.Path.{◌≡◌, sym, ap, subst, ◌∙◌}
 use mathlib.Core.Bool.{true, false}
@@ -7,8 +8,6 @@ use lib.ListN.{length, length-take}
 use Rattle.framing_session.specs.declared.Fed.{Fed}
 use Rattle.framing_session.specs.declared.Session.{Session}
 use Rattle.framing_session.specs.Session.{said_by, answers, legal, feeds}
-use Rattle.framing_packets.specs.declared.Written.{Written}
-use Rattle.framing_packets.specs.declared.Written.TheVariants.{Done, Out}
 use Rattle.framing_packets.specs.Written.{Outcome, outcome}
 use Rattle.framing_events.specs.Events.{length_of}
 use Rattle.framing_events.proofs.Said.{said-is}
@@ -47,8 +46,8 @@ module _ (ws t bs a : List ℕ) (s : Session) (r : Fed) (ws' t' a' : List ℕ) w
 
 -- ---- the writer
 
-pub puts-told : (o : Outcome) (w : Written) (out : List ℕ) (k : ℕ) {t : Told} → o ≡ outcome w out → tells w k ≡ t → puts o k
+pub puts-told : (o : Outcome) (w : Option ℕ) (out : List ℕ) (k : ℕ) {t : Told} → o ≡ outcome w out → tells w k ≡ t → puts o k
     ≡ record { number = t.number; output = out; count = t.count }
 unfolding puts
-puts-told o (Done n) out k e f = rw (e, ← f)
-puts-told o Out out k e f = rw (e, ← f)
+puts-told o (Some n) out k e f = rw (e, ← f)
+puts-told o None out k e f = rw (e, ← f)

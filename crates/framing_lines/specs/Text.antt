@@ -1,10 +1,8 @@
 -- The lines for a stream's events: what the program prints.
-use Rattle.std.specs.Prelude.{ℕ, zero, suc, ◌+◌, ◌/◌, ◌%◌, Bool, cond, List, [], ◌∷◌, ◌++◌, ltb, leb, eqb, length}
+use Rattle.std.specs.Prelude.{ℕ, zero, suc, ◌+◌, ◌/◌, ◌%◌, Bool, cond, List, [], ◌∷◌, ◌++◌, ltb, leb, eqb, length, Option, Some, None}
 use Rattle.framing_session.specs.declared.Event.{Event}
 use Rattle.framing_session.specs.declared.Frame.{Frame}
 use Rattle.framing_session.specs.declared.Frame.TheVariants.{Outside, Stray, Inside, Escaped, BadByte, TooLong}
-use Rattle.framing_session.specs.declared.Pending.{Pending}
-use Rattle.framing_session.specs.declared.Pending.TheVariants.{Nothing, Part}
 use Rattle.framing_session.specs.declared.Session.{Session}
 use Rattle.base_choices.specs.Choices.{pick}
 use Rattle.base_hex.specs.Digits.{hex_text}
@@ -68,9 +66,9 @@ frame_text (BadByte n) = number_text n
 frame_text (TooLong n) = number_text n
 
 -- "the length of the open message or `-`"
-abbrev pub pending_text : Pending → List ℕ
-pending_text Nothing = dash
-pending_text (Part n) = number_text n
+abbrev pub pending_text : Option ℕ → List ℕ
+pending_text None = dash
+pending_text (Some n) = number_text n
 
 -- "`end BYTES FRAME MESSAGE`"
 unfoldable pub end_text : ℕ → Session → List ℕ

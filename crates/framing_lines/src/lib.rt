@@ -9,7 +9,7 @@ ghost use Rattle.framing_lines.specs.Text.{word_text, decimal_text, frame_text, 
 ghost use Rattle.framing_lines.specs.Text.{line_room, wrote_line, wrote_event};
 
 use base_output::put;
-use framing_session::{Event, Frame, Pending, Session};
+use framing_session::{Event, Frame, Session};
 
 // More than any line has.
 pub const LINE_ROOM: usize = 35000;
@@ -156,14 +156,14 @@ fn put_frame(out: &mut [u8], at: usize, frame: Frame) -> usize
 }
 
 // The length of the open message, or '-'.
-fn put_pending(out: &mut [u8], at: usize, message: Pending) -> usize
+fn put_pending(out: &mut [u8], at: usize, message: Option<usize>) -> usize
     requires { at + 20 ≤ length out.old }
     ensures message_value { wrote out.old at (pending_text message) ≡ record { next = result; output = out.new } }
     ensures upper_bound { result ≤ at + 20 }
 {
     match message {
-        Pending::Nothing => put(out, at, b'-'),
-        Pending::Part { length } => put_decimal(out, at, length as u64),
+        None => put(out, at, b'-'),
+        Some(length) => put_decimal(out, at, length as u64),
     }
 }
 

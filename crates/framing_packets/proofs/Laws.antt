@@ -1,4 +1,5 @@
 -- One law for each answer of the definitions of Written, at plain variables.
+use Rattle.std.specs.Prelude.{Some, None}
 use Prim.Native.Nat.{ℕ, suc, ◌+◌, ◌-◌, ◌/◌, ◌%◌, ◌≤◌, ◌<◌}
 use mathlib.Core.Bool.{Bool, true, false}
 use mathlib.Core.List.{List, [], ◌∷◌, ◌++◌, append_assoc}
@@ -15,7 +16,6 @@ use Rattle.base_choices.specs.Choices.{pick}
 use Rattle.base_output.specs.Output.{Wrote, wrote}
 use Rattle.base_output.proofs.Laws.{wrote-all, wrote_count}
 use Rattle.framing_content.specs.Numbers.{BOF, EOF, CE}
-use Rattle.framing_packets.specs.declared.Written.TheVariants.{Done, Out}
 use Rattle.framing_packets.specs.Written.{escape, escapes, frame, flags, header, packet, packets, payload_limit, earlier, Outcome, outcome, into, limited}
 
 -- ---- escapes
@@ -95,28 +95,28 @@ module _ (first : Bool) (m : List ℕ) (from : ℕ) where
 
 -- v is what counting leaves, and w what writing leaves
 module _ (bs o : List ℕ) where
-  pub into-short : {v : Wrote} → wrote [] 0 bs ≡ v → length (v.output ++ o) < v.next → into bs o ≡ outcome Out (v.output ++ o)
+  pub into-short : {v : Wrote} → wrote [] 0 bs ≡ v → length (v.output ++ o) < v.next → into bs o ≡ outcome None (v.output ++ o)
   unfolding into
-  into-short {v} e = subst (λ (u : Wrote). length (u.output ++ o) < u.next → into bs o ≡ outcome Out (u.output ++ o)) (sym (wrote_count bs) ∙ e) short
+  into-short {v} e = subst (λ (u : Wrote). length (u.output ++ o) < u.next → into bs o ≡ outcome None (u.output ++ o)) (sym (wrote_count bs) ∙ e) short
     where
-      short : length o < length bs → into bs o ≡ outcome Out o
+      short : length o < length bs → into bs o ≡ outcome None o
       short h = simp (lt-leb _ _ h)
 
   pub into-done : {v w : Wrote} → wrote [] 0 bs ≡ v → v.next ≤ length (v.output ++ o) → wrote (v.output ++ o) 0 bs ≡ w → into bs o
-      ≡ outcome (Done v.next) w.output
+      ≡ outcome (Some v.next) w.output
   unfolding into
   into-done {v} {w} e = subst (λ (u : Wrote). u.next ≤ length (u.output ++ o) → wrote (u.output ++ o) 0 bs ≡ w → into bs o
-      ≡ outcome (Done u.next) w.output) (sym (wrote_count bs) ∙ e) done
+      ≡ outcome (Some u.next) w.output) (sym (wrote_count bs) ∙ e) done
     where
-      done : length bs ≤ length o → wrote o 0 bs ≡ w → into bs o ≡ outcome (Done (length bs)) w.output
+      done : length bs ≤ length o → wrote o 0 bs ≡ w → into bs o ≡ outcome (Some (length bs)) w.output
       done h q = simp (le-leb _ _ h, wrote-all o bs h q)
 
 -- what was answered as done stands in the output
-pub into_back : (bs o p : List ℕ) (n : ℕ) → into bs o ≡ outcome (Done n) p → take n p ≡ bs
+pub into_back : (bs o p : List ℕ) (n : ℕ) → into bs o ≡ outcome (Some n) p → take n p ≡ bs
 unfolding into
 into_back bs o p n = by (leb (length bs) (length o))
   where
-    by : (t : Bool) → pick t (outcome (Done (length bs)) (bs ++ drop (length bs) o)) (outcome Out o) ≡ outcome (Done n) p → take n p ≡ bs
+    by : (t : Bool) → pick t (outcome (Some (length bs)) (bs ++ drop (length bs) o)) (outcome None o) ≡ outcome (Some n) p → take n p ≡ bs
     by true e =
         ap (λ (u : Outcome). take u.count u.output) (sym e) ∙ take-append_seam bs (drop (length bs) o)
     by false e = let z : ◌≡◌ {A = ℕ} 46 0 = ap (λ (u : Outcome). u.number) e in absurd (omega arith)
@@ -126,14 +126,14 @@ module _ (n limit : ℕ) (bs o : List ℕ) where
   unfolding limited
   limited-fits h = simp (le-leb _ _ h)
 
-  pub limited-over : limit < n → limited n limit bs o ≡ outcome Out o
+  pub limited-over : limit < n → limited n limit bs o ≡ outcome None o
   unfolding limited
   limited-over h = simp (lt-leb _ _ h)
 
-  pub limited-done : {p : List ℕ} {k : ℕ} → limited n limit bs o ≡ outcome (Done k) p → (n ≤ limit) × (take k p ≡ bs)
+  pub limited-done : {p : List ℕ} {k : ℕ} → limited n limit bs o ≡ outcome (Some k) p → (n ≤ limit) × (take k p ≡ bs)
   unfolding limited
   limited-done {p} {k} = by (leb n limit) refl
     where
-      by : (t : Bool) → leb n limit ≡ t → pick t (into bs o) (outcome Out o) ≡ outcome (Done k) p → (n ≤ limit) × (take k p ≡ bs)
+      by : (t : Bool) → leb n limit ≡ t → pick t (into bs o) (outcome None o) ≡ outcome (Some k) p → (n ≤ limit) × (take k p ≡ bs)
       by true l e = (leb-true _ _ l, into_back bs o p k e)
       by false l e = let z : ◌≡◌ {A = ℕ} 46 0 = ap (λ (u : Outcome). u.number) e in absurd (omega arith)

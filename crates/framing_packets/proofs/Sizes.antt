@@ -1,4 +1,5 @@
 -- How long frames and messages are at most, and the room that is always enough.
+use Rattle.std.specs.Prelude.{Some}
 use Prim.Native.Nat.{ℕ, zero, suc, ◌+◌, ◌*◌, ◌≤◌}
 use mathlib.Core.Bool.{Bool, true, false}
 use mathlib.Core.List.{List, [], ◌∷◌, ◌++◌}
@@ -11,7 +12,6 @@ use lib.ListN.{length, take, drop, length-append, take-append-drop}
 use Rattle.framing_checksum.specs.Checksum.{checksum, octets_of}
 use Rattle.base_choices.specs.Choices.{pick}
 use Rattle.framing_content.specs.Numbers.{EOF, CE, message_limit}
-use Rattle.framing_packets.specs.declared.Written.TheVariants.{Done}
 use Rattle.framing_packets.specs.Written.{escape, escapes, sealed, frame, body_limit, request_body, response_body, packet_body, packet, packets, payload_limit}
 use Rattle.framing_packets.specs.Written.{earlier, in_packets, outcome, into, frame_into, message_into, frame_room, message_room}
 use Rattle.framing_packets.proofs.Laws.{limited-fits}
@@ -64,25 +64,25 @@ message-length m h =
 
 -- ---- room that is always enough: the writer is done, and never answers 46
 
-pub into-fits : (bs o : List ℕ) → length bs ≤ length o → into bs o ≡ outcome (Done (length bs)) (bs ++ drop (length bs) o)
+pub into-fits : (bs o : List ℕ) → length bs ≤ length o → into bs o ≡ outcome (Some (length bs)) (bs ++ drop (length bs) o)
 unfolding into
 into-fits bs o h = simp (le-leb _ _ h)
 
 -- content of at most 1,022 bytes, in 2,050 bytes of output
 pub frame-fits : (xs o : List ℕ) → length xs ≤ body_limit → frame_room ≤ length o
-    → frame_into xs o ≡ outcome (Done (length (frame xs))) (frame xs ++ drop (length (frame xs)) o)
+    → frame_into xs o ≡ outcome (Some (length (frame xs))) (frame xs ++ drop (length (frame xs)) o)
 frame-fits xs o h r = limited-fits _ _ _ _ h ∙ into-fits (frame xs) o (omega (arith, frame-length xs))
 
 -- a message of at most 16,384 bytes, in 34,850 bytes of output
 pub message-fits : (m o : List ℕ) → length m ≤ message_limit → message_room ≤ length o
-    → message_into m o ≡ outcome (Done (length (in_packets m))) (in_packets m ++ drop (length (in_packets m)) o)
+    → message_into m o ≡ outcome (Some (length (in_packets m))) (in_packets m ++ drop (length (in_packets m)) o)
 message-fits m o h r = limited-fits _ _ _ _ h ∙ into-fits (in_packets m) o (omega (arith, message-length m h))
 
 -- a keep-alive, in 14 bytes
 pub request-fits : (o : List ℕ) → 14 ≤ length o
-    → into (frame request_body) o ≡ outcome (Done (length (frame request_body))) (frame request_body ++ drop (length (frame request_body)) o)
+    → into (frame request_body) o ≡ outcome (Some (length (frame request_body))) (frame request_body ++ drop (length (frame request_body)) o)
 request-fits o r = into-fits (frame request_body) o (omega (arith, frame-length request_body))
 
 pub response-fits : (o : List ℕ) → 14 ≤ length o
-    → into (frame response_body) o ≡ outcome (Done (length (frame response_body))) (frame response_body ++ drop (length (frame response_body)) o)
+    → into (frame response_body) o ≡ outcome (Some (length (frame response_body))) (frame response_body ++ drop (length (frame response_body)) o)
 response-fits o r = into-fits (frame response_body) o (omega (arith, frame-length response_body))

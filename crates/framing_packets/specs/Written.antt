@@ -1,11 +1,9 @@
 -- What the writer writes (document 01, "Framing", "Desk" and "Numbers answered").
-use Rattle.std.specs.Prelude.{ℕ, zero, suc, ◌+◌, ◌-◌, ◌/◌, Bool, true, false, List, [], ◌∷◌, ◌++◌, leb, eqb, length, take, drop}
+use Rattle.std.specs.Prelude.{ℕ, zero, suc, ◌+◌, ◌-◌, ◌/◌, Bool, true, false, List, [], ◌∷◌, ◌++◌, leb, eqb, length, take, drop, Option, Some, None}
 use Rattle.std.specs.Int.Bits.{bit_xor}
 use Rattle.framing_checksum.specs.Checksum.{checksum, octets_of}
 use Rattle.base_choices.specs.Choices.{pick}
 use Rattle.framing_content.specs.Numbers.{BOF, EOF, CE, content_limit, message_limit}
-use Rattle.framing_packets.specs.declared.Written.{Written}
-use Rattle.framing_packets.specs.declared.Written.TheVariants.{Done, Out}
 
 -- "Data bytes F8 and above (001's table, not its sentence) are sent as CE and the byte XOR 20."
 unfoldable pub escape : ℕ → List ℕ
@@ -72,9 +70,9 @@ pub record Outcome : Type 0 where
   pub count : ℕ
   pub output : List ℕ
 
-abbrev pub outcome : Written → List ℕ → Outcome
-outcome (Done n) o = record { number = 0; count = n; output = o }
-outcome Out o = record { number = 46; count = 0; output = o }
+abbrev pub outcome : Option ℕ → List ℕ → Outcome
+outcome (Some n) o = record { number = 0; count = n; output = o }
+outcome None o = record { number = 46; count = 0; output = o }
 
 -- The rows of "Numbers answered" that a writer's call may give.
 abbrev pub write_numbers : List ℕ
@@ -82,11 +80,11 @@ write_numbers = 0 ∷ 46 ∷ []
 
 -- "46 OUT: writer: output too short", which leaves the output as it was. Bytes past the written ones stay.
 unfoldable pub into : List ℕ → List ℕ → Outcome
-into bs o = pick (leb (length bs) (length o)) (outcome (Done (length bs)) (bs ++ drop (length bs) o)) (outcome Out o)
+into bs o = pick (leb (length bs) (length o)) (outcome (Some (length bs)) (bs ++ drop (length bs) o)) (outcome None o)
 
 -- .. and where the body or message, of n bytes, is over its limit: a body that no frame holds, a message over 16,384 bytes
 unfoldable pub limited : ℕ → ℕ → List ℕ → List ℕ → Outcome
-limited n limit bs o = pick (leb n limit) (into bs o) (outcome Out o)
+limited n limit bs o = pick (leb n limit) (into bs o) (outcome None o)
 
 -- What each function gives: a frame around content, a message as packets.
 abbrev pub frame_into : List ℕ → List ℕ → Outcome

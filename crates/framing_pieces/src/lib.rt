@@ -10,22 +10,22 @@ ghost use Rattle.framing_session.specs.Session.{message_length, content_in, mess
 ghost use Rattle.framing_session.specs.Steps.{gives, is_part, staying, refusing, joining, inside_of, unless_setup};
 
 use framing_content::{Content, Fault};
-use framing_session::{CONTENT_START, Event, Frame, MESSAGE_LIMIT, Pending, Session, Stepped};
+use framing_session::{CONTENT_START, Event, Frame, MESSAGE_LIMIT, Session, Stepped};
 
 // The payload of a piece: past the nine bytes of its header.
 const PAYLOAD_START: usize = 16393;
 
-fn is_part(message: Pending) -> bool
+fn is_part(message: Option<usize>) -> bool
     ensures { result ≡ is_part message }
 {
     match message {
-        Pending::Nothing => false,
-        Pending::Part { length: _ } => true,
+        None => false,
+        Some(_) => true,
     }
 }
 
 // A refusal throws the unfinished message away.
-pub fn refuses(fault: Fault, frame: Frame, message: Pending) -> Stepped
+pub fn refuses(fault: Fault, frame: Frame, message: Option<usize>) -> Stepped
     ensures { result ≡ refusing fault frame message }
 {
     let discarded = is_part(message);
@@ -33,13 +33,13 @@ pub fn refuses(fault: Fault, frame: Frame, message: Pending) -> Stepped
         event: Event::Refused { fault, discarded },
         session: Session {
             frame,
-            message: Pending::Nothing,
+            message: None,
         },
     }
 }
 
 // A keep-alive disturbs nothing.
-fn keep_alive(event: Event, message: Pending) -> Stepped
+fn keep_alive(event: Event, message: Option<usize>) -> Stepped
     ensures { result ≡ staying event message }
 {
     Stepped {
@@ -74,7 +74,7 @@ fn joins(last: bool, discarded: bool, length: usize) -> Stepped
             event: Event::Message { length, discarded },
             session: Session {
                 frame: Frame::Outside,
-                message: Pending::Nothing,
+                message: None,
             },
         };
     }
@@ -82,13 +82,13 @@ fn joins(last: bool, discarded: bool, length: usize) -> Stepped
         event: Event::Piece { discarded },
         session: Session {
             frame: Frame::Outside,
-            message: Pending::Part { length },
+            message: Some(length),
         },
     }
 }
 
 // A piece whose payload is the n bytes after the header.
-fn pieces(first: bool, last: bool, n: usize, message: Pending, store: &mut [u8]) -> Stepped
+fn pieces(first: bool, last: bool, n: usize, message: Option<usize>, store: &mut [u8]) -> Stepped
     requires { (lib.ListN.length store.old ≡ store_length) × ((n + 11 ≤ content_limit) × (message_length message ≤ message_limit)) }
     ensures { keeps
         (rule_pieces first last (take n (drop (content_start + 9) store.old)) (message_of message store.old)) store.old
@@ -100,8 +100,8 @@ fn pieces(first: bool, last: bool, n: usize, message: Pending, store: &mut [u8])
         return joins(last, discarded, n);
     }
     match message {
-        Pending::Nothing => refuses(Fault::Orphan, Frame::Outside, message),
-        Pending::Part { length } => {
+        None => refuses(Fault::Orphan, Frame::Outside, message),
+        Some(length) => {
             let all = length + n;
             if MESSAGE_LIMIT < all {
                 return refuses(Fault::Big, Frame::Outside, message);
@@ -113,7 +113,7 @@ fn pieces(first: bool, last: bool, n: usize, message: Pending, store: &mut [u8])
 }
 
 // EOF in a frame that has no fault.
-fn ends(length: usize, message: Pending, store: &mut [u8]) -> Stepped
+fn ends(length: usize, message: Option<usize>, store: &mut [u8]) -> Stepped
     requires { (lib.ListN.length store.old ≡ store_length) × ((length ≤ content_limit) × (message_length message ≤ message_limit)) }
     ensures { keeps (rule_ends (content_in length store.old) (message_of message store.old)) store.old
         ≡ gives result store.new }
@@ -132,7 +132,7 @@ fn ends(length: usize, message: Pending, store: &mut [u8]) -> Stepped
 }
 
 // EOF in a frame that has no fault, and of which the store holds this many content bytes.
-pub fn end_frame(length: usize, message: Pending, store: &mut [u8]) -> Stepped
+pub fn end_frame(length: usize, message: Option<usize>, store: &mut [u8]) -> Stepped
     ensures { unless_setup (inside_of length message) store.old
         (keeps (rule_ends (content_in length store.old) (message_of message store.old)) store.old)
         ≡ gives result store.new }

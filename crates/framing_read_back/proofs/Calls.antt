@@ -1,5 +1,6 @@
 -- Calls of the writer's functions. Their contracts say what the claims of Chunks.antt speak of; and the claims speak of something: there is a call for
 -- everything that can be handed in, and what fits is written, and read back by calls of the session however it is cut, with nothing left open.
+use Rattle.std.specs.Prelude.{Option, Some, None}
 use Prim.Native.Nat.{ℕ, ◌+◌, ◌≤◌}
 use mathlib.Core.Bool.{false}
 use mathlib.Core.List.{List, [], ◌∷◌, ◌++◌}
@@ -16,8 +17,6 @@ use Rattle.framing.specs.Offers.{Turns, joined, Consumed}
 use Rattle.base_choices.proofs.Laws.{pick-by}
 use Rattle.framing.proofs.Chunks.{fresh-legal}
 use Rattle.framing.proofs.Calls.{some-turns}
-use Rattle.framing_packets.specs.declared.Written.{Written}
-use Rattle.framing_packets.specs.declared.Written.TheVariants.{Done, Out}
 use Rattle.framing_packets.specs.Written.{sealed, frame, body_limit, request_body, response_body, in_packets}
 use Rattle.framing_packets.specs.Written.{Outcome, outcome, write_numbers, into, limited, frame_into, message_into}
 use Rattle.framing_packets.proofs.Laws.{limited-fits}
@@ -37,7 +36,7 @@ lent_out : List ℕ → MutBor (List ℕ)
 lent_out xs = record { ref_ptr = (0, 0); ghost_name = 0; now = xs }
 
 -- What a call gives is what its function's definition says, and nothing else.
-module _ {o : List ℕ} (r : Written) {p : List ℕ} where
+module _ {o : List ℕ} (r : Option ℕ) {p : List ℕ} where
   module _ (xs : List ℕ) where
     pub frame-says : FrameCall xs o r p → frame_into xs o ≡ outcome r p
     frame-says c = cc c.ensured
@@ -91,36 +90,36 @@ module _ {o : List ℕ} (r : Written) {p : List ℕ} where
 
 -- an answer of the enum, with an output, that says this
 abbrev Answered : Outcome → Type 0
-Answered w = (r : Written) × ((p : List ℕ) × (w ≡ outcome r p))
+Answered w = (r : Option ℕ) × ((p : List ℕ) × (w ≡ outcome r p))
 
 into-answered : (bs o : List ℕ) → Answered (into bs o)
 unfolding into
 into-answered bs o =
-    pick-by Answered (leb (length bs) (length o)) (λ e. (Done (length bs), (bs ++ drop (length bs) o, refl))) (λ e. (Out, (o, refl)))
+    pick-by Answered (leb (length bs) (length o)) (λ e. (Some (length bs), (bs ++ drop (length bs) o, refl))) (λ e. (None, (o, refl)))
 
 limited-answered : (n limit : ℕ) (bs o : List ℕ) → Answered (limited n limit bs o)
 unfolding limited
-limited-answered n limit bs o = pick-by Answered (leb n limit) (λ e. into-answered bs o) (λ e. (Out, (o, refl)))
+limited-answered n limit bs o = pick-by Answered (leb n limit) (λ e. into-answered bs o) (λ e. (None, (o, refl)))
 
 -- FOR EVERYTHING that can be handed in there is a call.
-pub some-frame-call : (xs o : List ℕ) → (r : Written) × ((p : List ℕ) × FrameCall xs o r p)
+pub some-frame-call : (xs o : List ℕ) → (r : Option ℕ) × ((p : List ℕ) × FrameCall xs o r p)
 some-frame-call xs o = let k = limited-answered (length xs) body_limit (frame xs) o in (k.0, (k.1.0, frame-called k.0 xs k.1.1))
 
-pub some-message-call : (m o : List ℕ) → (r : Written) × ((p : List ℕ) × MessageCall m o r p)
+pub some-message-call : (m o : List ℕ) → (r : Option ℕ) × ((p : List ℕ) × MessageCall m o r p)
 some-message-call m o =
     let k = limited-answered (length m) message_limit (in_packets m) o in (k.0, (k.1.0, message-called k.0 m k.1.1))
 
-pub some-request-call : (o : List ℕ) → (r : Written) × ((p : List ℕ) × RequestCall o r p)
+pub some-request-call : (o : List ℕ) → (r : Option ℕ) × ((p : List ℕ) × RequestCall o r p)
 some-request-call o = let k = into-answered (frame request_body) o in (k.0, (k.1.0, request-called k.0 k.1.1))
 
-pub some-response-call : (o : List ℕ) → (r : Written) × ((p : List ℕ) × ResponseCall o r p)
+pub some-response-call : (o : List ℕ) → (r : Option ℕ) × ((p : List ℕ) × ResponseCall o r p)
 some-response-call o = let k = into-answered (frame response_body) o in (k.0, (k.1.0, response-called k.0 k.1.1))
 
 -- ---- with which numbers: 0 or 46, whatever is handed in
 
-answer-numbered : (r : Written) (p : List ℕ) → OneOf write_numbers (outcome r p).number
-answer-numbered (Done n) p = hit write_numbers 0 tt
-answer-numbered Out p = hit write_numbers 46 tt
+answer-numbered : (r : Option ℕ) (p : List ℕ) → OneOf write_numbers (outcome r p).number
+answer-numbered (Some n) p = hit write_numbers 0 tt
+answer-numbered None p = hit write_numbers 46 tt
 
 said-numbered : (w : Outcome) → Answered w → OneOf write_numbers w.number
 said-numbered w k = subst (λ (x : Outcome). OneOf write_numbers x.number) (sym k.1.1) (answer-numbered k.0 k.1.0)

@@ -1,10 +1,9 @@
 -- Calls at literal words, by computation: what 1 leaves, and which bytes of the store a call writes.
-use Rattle.std.specs.Prelude.{ℕ, true, false, ◌≡◌, refl, List, [], ◌∷◌, ◌++◌, map, replicate}
+use Rattle.std.specs.Prelude.{ℕ, true, false, ◌≡◌, refl, List, [], ◌∷◌, ◌++◌, map, replicate, Some, None}
 use Rattle.framing_checksum.specs.Checksum.{table, crc_step, crc_from, checksum}
 use Rattle.framing_content.specs.Content.{packet_of, command_of, body_of, content_of}
 use Rattle.framing_session.specs.Rules.{adds, pieces, ends, faulted, cuts, in_place, step}
 use Rattle.framing_session.specs.Session.{kept, run, feeds}
-use Rattle.framing_packets.specs.declared.Written.TheVariants.{Done, Out}
 use Rattle.framing_words.specs.Words.{frame_at, pending_at, is_frame, is_pending, is_session}
 use Rattle.framing_answers.specs.Answers.{accepts, tells}
 use Rattle.framing_c.specs.Calls.{starts, called_of, calls, puts}
@@ -78,7 +77,7 @@ unfolding is_frame is_pending is_session frame_at pending_at accepts called_of c
 v-fault = refl
 
 -- The writer: 0 and the count of bytes, or 46, which leaves the count.
-pub v-tells : (tells (Done 8) 5 ≡ record { number = 0; count = 8 }) × (tells Out 5 ≡ record { number = 46; count = 5 })
+pub v-tells : (tells (Some 8) 5 ≡ record { number = 0; count = 8 }) × (tells None 5 ≡ record { number = 46; count = 5 })
 v-tells = (refl, refl)
 
 pub v-puts : map (λ (n : ℕ). puts (record { number = n; count = 8; output = 1 ∷ [] }) 5) (0 ∷ 46 ∷ [])

@@ -1,4 +1,5 @@
 -- Laws of the rules and of what the store keeps, at plain variables.
+use Rattle.std.specs.Prelude.{Option, Some, None}
 use Prim.Native.Nat.{ℕ, ◌+◌, ◌-◌, ◌≤◌, ◌<◌}
 use mathlib.Core.Bool.{Bool, true, false}
 use mathlib.Core.Path.{◌≡◌, refl, sym, ap, subst, ◌∙◌}
@@ -20,8 +21,6 @@ use Rattle.framing_content.specs.declared.Content.{Content}
 use Rattle.framing_content.specs.declared.Content.TheVariants.{Refused, Request, Response, Piece}
 use Rattle.framing_session.specs.declared.Frame.{Frame}
 use Rattle.framing_session.specs.declared.Frame.TheVariants.{Outside, Stray, Inside, Escaped, BadByte, TooLong}
-use Rattle.framing_session.specs.declared.Pending.{Pending}
-use Rattle.framing_session.specs.declared.Pending.TheVariants.{Nothing, Part}
 use Rattle.framing_session.specs.declared.Session.{Session}
 use Rattle.framing_session.specs.declared.Stepped.{Stepped}
 use Rattle.framing_session.proofs.Lists.{sets-append, length_part, sets_same, take-sets-le, part-sets, drop-take}
@@ -50,9 +49,9 @@ module _ (t : List ℕ) (room : length t ≡ store_length) where
   pub message-length : (n : ℕ) → n ≤ message_limit → length (take n t) ≡ n
   message-length n h = length-take-le n t (omega arith)
 
-  pub open-part : (m : Pending) → is_open (message_of m t) ≡ is_part m
-  open-part Nothing = refl
-  open-part (Part n) = refl
+  pub open-part : (m : Option ℕ) → is_open (message_of m t) ≡ is_part m
+  open-part None = refl
+  open-part (Some n) = refl
 
   content-place : (f : Frame) → content (place_of f t) ≡ content_in (frame_length f) t
   content-place Outside = refl
@@ -62,9 +61,9 @@ module _ (t : List ℕ) (room : length t ≡ store_length) where
   content-place (BadByte n) = refl
   content-place (TooLong n) = refl
 
-  held-message : (m : Pending) → held (message_of m t) [] ≡ take (message_length m) t
-  held-message Nothing = refl
-  held-message (Part n) = refl
+  held-message : (m : Option ℕ) → held (message_of m t) [] ≡ take (message_length m) t
+  held-message None = refl
+  held-message (Some n) = refl
 
   frame-place : (f : Frame) → frame_length f ≤ content_limit → frame_of (place_of f t) ≡ f
   frame-place Outside h = refl
@@ -74,19 +73,19 @@ module _ (t : List ℕ) (room : length t ≡ store_length) where
   frame-place (BadByte n) h = ap BadByte (content-length n h)
   frame-place (TooLong n) h = ap TooLong (content-length n h)
 
-  pending-message : (m : Pending) → message_length m ≤ message_limit → pending_of (message_of m t) ≡ m
-  pending-message Nothing h = refl
-  pending-message (Part n) h = ap Part (message-length n h)
+  pending-message : (m : Option ℕ) → message_length m ≤ message_limit → pending_of (message_of m t) ≡ m
+  pending-message None h = refl
+  pending-message (Some n) h = ap Some (message-length n h)
 
   same-content : (f : Frame) → frame_length f ≤ content_limit → sets t content_start (content (place_of f t)) ≡ t
   same-content f h =
       ap (λ (xs : List ℕ). sets t content_start xs) (content-place f) ∙ sets_same (frame_length f) content_start t (omega arith)
 
-  same-message : (m : Pending) → message_length m ≤ message_limit → sets t 0 (held (message_of m t) []) ≡ t
+  same-message : (m : Option ℕ) → message_length m ≤ message_limit → sets t 0 (held (message_of m t) []) ≡ t
   same-message m h =
       ap (λ (xs : List ℕ). sets t 0 xs) (held-message m) ∙ sets_same (message_length m) 0 t (omega arith)
 
-  module _ (f : Frame) (m : Pending) (hf : frame_length f ≤ content_limit) (hm : message_length m ≤ message_limit) where
+  module _ (f : Frame) (m : Option ℕ) (hf : frame_length f ≤ content_limit) (hm : message_length m ≤ message_limit) where
     -- an event that leaves message and frame as they are, or none
     pub keeps_same : (k : ℕ) → keeps (makes (place_of f t) (message_of m t) k false []) t
         ≡ record { said = record { number = k; discarded = false; message = [] }; session = record { frame = f; message = m }; store = t }
@@ -101,7 +100,7 @@ module _ (t : List ℕ) (room : length t ≡ store_length) where
     unfolding kept
     keeps-refuses x = rw (same-content f hf, frame-place f hf, open-part m)
 
-  module _ (n x : ℕ) (m : Pending) (hn : n ≤ content_limit) (hm : message_length m ≤ message_limit) where
+  module _ (n x : ℕ) (m : Option ℕ) (hn : n ≤ content_limit) (hm : message_length m ≤ message_limit) where
     -- a content byte that has room
     pub keeps-adds : n < content_limit → keeps (adds (content_in n t) x (message_of m t)) t ≡ gives (going (Inside (n + 1)) m) (set t (content_start + n) x)
     unfolding kept adds
@@ -134,14 +133,14 @@ module _ (t : List ℕ) (room : length t ≡ store_length) where
     p-length : length p ≡ n
     p-length = length_part n (content_start + 9) t (omega arith)
 
-    pub keeps-first : (m : Pending) → keeps (pieces true last p (message_of m t)) t ≡ gives (joining last (is_part m) n) (sets t 0 p)
+    pub keeps-first : (m : Option ℕ) → keeps (pieces true last p (message_of m t)) t ≡ gives (joining last (is_part m) n) (sets t 0 p)
     unfolding pieces
     keeps-first m =
         keeps-joins last (is_open (message_of m t)) p (omega (arith, p-length))
         ∙ ap (λ (d : Bool). gives (joining last d (length p)) (sets t 0 p)) (open-part m)
         ∙ ap (λ (k : ℕ). gives (joining last (is_part m) k) (sets t 0 p)) p-length
 
-    pub keeps-orphan : keeps (pieces false last p none) t ≡ gives (refusing Orphan Outside Nothing) t
+    pub keeps-orphan : keeps (pieces false last p none) t ≡ gives (refusing Orphan Outside None) t
     unfolding pieces kept
     keeps-orphan = refl
 
@@ -162,13 +161,13 @@ module _ (t : List ℕ) (room : length t ≡ store_length) where
           ∙ ap (λ (i : ℕ). gives (joining last false i) (sets t 0 (take k t ++ p))) l
           ∙ ap (λ (r : List ℕ). gives (joining last false (k + n)) r) s)
 
-      pub keeps-big : message_limit < k + n → keeps (pieces false last p (part (take k t))) t ≡ gives (refusing Big Outside (Part k)) t
+      pub keeps-big : message_limit < k + n → keeps (pieces false last p (part (take k t))) t ≡ gives (refusing Big Outside (Some k)) t
       unfolding pieces
       keeps-big h =
-          rw (lt-leb (length (take k t) + length p) message_limit (omega (arith, total))) (keeps-refuses Outside (Part k) (omega arith) hk Big)
+          rw (lt-leb (length (take k t) + length p) message_limit (omega (arith, total))) (keeps-refuses Outside (Some k) (omega arith) hk Big)
 
   -- the rest of a frame that has a fault
-  pub keeps-faulted : (x : Fault) (f : Frame) (b : ℕ) (m : Pending) → frame_length f ≤ content_limit → message_length m ≤ message_limit
+  pub keeps-faulted : (x : Fault) (f : Frame) (b : ℕ) (m : Option ℕ) → frame_length f ≤ content_limit → message_length m ≤ message_limit
       → keeps (faulted x (place_of f t) (message_of m t) b) t ≡ gives (past_fault x f b m) t
   unfolding faulted past_fault
   keeps-faulted x f b m hf hm = go (eqb b BOF) (eqb b EOF)
@@ -543,7 +542,7 @@ module _ (c : List ℕ) (i : ℕ) (s : Session) (t : List ℕ) (r : Stepped) (t'
 pub session-back : (s : Session) (t : List ℕ) → Legal s t → session_of (state_of s t) ≡ s
 session-back s t l =
     ap (λ (f : Frame). record { frame = f; message = pending_of (message_of s.message t) }) (frame-place t l.room s.frame l.frame)
-    ∙ ap (λ (m : Pending). record { frame = s.frame; message = m }) (pending-message t l.room s.message l.message)
+    ∙ ap (λ (m : Option ℕ). record { frame = s.frame; message = m }) (pending-message t l.room s.message l.message)
 
 -- a chunk that is used up
 pub turn_end : (c : List ℕ) (i : ℕ) (s : Session) (t : List ℕ) → Legal s t → length c ≤ i
@@ -565,7 +564,7 @@ reaches_more c i s t r t' l h k e =
     record { legal = turn-legal c i s t r t' l h k; forward = omega arith; inside = omega arith; rest = turn_more c i s t r t' l h k e }
 
 -- a byte of content that needs no escape
-pub reaches-ordinary : (c : List ℕ) (i n : ℕ) (m : Pending) (t : List ℕ) → Legal (record { frame = Inside n; message = m }) t → i < length c
+pub reaches-ordinary : (c : List ℕ) (i n : ℕ) (m : Option ℕ) (t : List ℕ) → Legal (record { frame = Inside n; message = m }) t → i < length c
     → n < content_limit → get_or c i 0 < 0xf8
     → Reaches c i (record { frame = Inside n; message = m }) t (i + 1) (record { frame = Inside (n + 1); message = m }) (set t (content_start + n) (get_or c i 0))
 unfolding step in_place
@@ -581,7 +580,7 @@ reaches-ordinary c i n m t l h hn hb =
     refl
 
 -- .. and one that is escaped: CE and a byte D8 to DF
-pub reaches-escape : (c : List ℕ) (i n : ℕ) (m : Pending) (t : List ℕ) → Legal (record { frame = Inside n; message = m }) t → i + 1 < length c
+pub reaches-escape : (c : List ℕ) (i n : ℕ) (m : Option ℕ) (t : List ℕ) → Legal (record { frame = Inside n; message = m }) t → i + 1 < length c
     → n < content_limit → get_or c i 0 ≡ CE → 0xd8 ≤ get_or c (i + 1) 0 → get_or c (i + 1) 0 ≤ 0xdf
     → Reaches c i (record { frame = Inside n; message = m }) t (i + 1 + 1) (record { frame = Inside (n + 1); message = m })
     (set t (content_start + n) (bit_xor (get_or c (i + 1) 0) 0x20))

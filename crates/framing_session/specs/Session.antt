@@ -1,13 +1,11 @@
 -- The session and the lent store (document 01, "Framing" and "Numbers answered"): which state of the rules they hold, and what a call gives.
-use Rattle.std.specs.Prelude.{ℕ, ◌+◌, ◌≤◌, Bool, false, List, [], ◌∷◌, ◌≡◌, leb, eqb, length, take, drop}
+use Rattle.std.specs.Prelude.{ℕ, ◌+◌, ◌≤◌, Bool, false, List, [], ◌∷◌, ◌≡◌, leb, eqb, length, take, drop, Option, Some, None}
 use Rattle.std.proofs.lemmas.List.Edits.{sets}
 use Rattle.framing_session.specs.declared.Event.{Event}
 use Rattle.framing_session.specs.declared.Event.TheVariants as ev
 use Rattle.framing_session.specs.declared.Fed.{Fed}
 use Rattle.framing_session.specs.declared.Frame.{Frame}
 use Rattle.framing_session.specs.declared.Frame.TheVariants.{Outside, Stray, Inside, Escaped, BadByte, TooLong}
-use Rattle.framing_session.specs.declared.Pending.{Pending}
-use Rattle.framing_session.specs.declared.Pending.TheVariants.{Nothing, Part}
 use Rattle.framing_session.specs.declared.Session.{Session}
 use Rattle.base_choices.specs.Choices.{pick}
 use Rattle.framing_content.specs.Numbers.{content_limit, message_limit, store_length, content_start, number}
@@ -35,9 +33,9 @@ place_of (Escaped n) t = escaped (content_in n t)
 place_of (BadByte n) t = bad_byte (content_in n t)
 place_of (TooLong n) t = too_long (content_in n t)
 
-abbrev pub message_of : Pending → List ℕ → Message
-message_of Nothing t = none
-message_of (Part n) t = part (take n t)
+abbrev pub message_of : Option ℕ → List ℕ → Message
+message_of None t = none
+message_of (Some n) t = part (take n t)
 
 -- The state that a session and a store hold, and the session of a state.
 abbrev pub state_of : Session → List ℕ → State
@@ -51,9 +49,9 @@ frame_of (escaped xs) = Escaped (length xs)
 frame_of (bad_byte xs) = BadByte (length xs)
 frame_of (too_long xs) = TooLong (length xs)
 
-abbrev pub pending_of : Message → Pending
-pending_of none = Nothing
-pending_of (part xs) = Part (length xs)
+abbrev pub pending_of : Message → Option ℕ
+pending_of none = None
+pending_of (part xs) = Some (length xs)
 
 abbrev pub session_of : State → Session
 session_of s = record { frame = frame_of s.place; message = pending_of s.message }
@@ -67,9 +65,9 @@ frame_length (Escaped n) = n
 frame_length (BadByte n) = n
 frame_length (TooLong n) = n
 
-abbrev pub message_length : Pending → ℕ
-message_length Nothing = 0
-message_length (Part n) = n
+abbrev pub message_length : Option ℕ → ℕ
+message_length None = 0
+message_length (Some n) = n
 
 abbrev pub legal : Session → ℕ → Bool
 legal s n =

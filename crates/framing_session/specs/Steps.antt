@@ -1,12 +1,10 @@
 -- What a byte gives, and what bytes without an event do: for the functions below a call.
-use Rattle.std.specs.Prelude.{ℕ, ◌≤◌, Bool, true, false, List, ◌≡◌, eqb, length, drop}
+use Rattle.std.specs.Prelude.{ℕ, ◌≤◌, Bool, true, false, List, ◌≡◌, eqb, length, drop, Option, Some, None}
 use Rattle.framing_session.specs.declared.Event.{Event}
 use Rattle.framing_session.specs.declared.Event.TheVariants as ev
 use Rattle.framing_content.specs.declared.Fault.{Fault}
 use Rattle.framing_session.specs.declared.Frame.{Frame}
 use Rattle.framing_session.specs.declared.Frame.TheVariants.{Outside, Inside}
-use Rattle.framing_session.specs.declared.Pending.{Pending}
-use Rattle.framing_session.specs.declared.Pending.TheVariants.{Nothing, Part}
 use Rattle.framing_session.specs.declared.Session.{Session}
 use Rattle.framing_session.specs.declared.Stepped.{Stepped}
 use Rattle.base_choices.specs.Choices.{pick}
@@ -18,28 +16,28 @@ use Rattle.framing_session.specs.Session.{Kept, said_by, state_of, legal, Legal,
 abbrev pub gives : Stepped → List ℕ → Kept
 gives r t = record { said = said_by r.event t; session = r.session; store = t }
 
-abbrev pub is_part : Pending → Bool
-is_part Nothing = false
-is_part (Part n) = true
+abbrev pub is_part : Option ℕ → Bool
+is_part None = false
+is_part (Some n) = true
 
-abbrev pub going : Frame → Pending → Stepped
+abbrev pub going : Frame → Option ℕ → Stepped
 going f m = record { event = ev.More; session = record { frame = f; message = m } }
 
-abbrev pub staying : Event → Pending → Stepped
+abbrev pub staying : Event → Option ℕ → Stepped
 staying e m = record { event = e; session = record { frame = Outside; message = m } }
 
-abbrev pub refusing : Fault → Frame → Pending → Stepped
-refusing x f m = record { event = ev.Refused x (is_part m); session = record { frame = f; message = Nothing } }
+abbrev pub refusing : Fault → Frame → Option ℕ → Stepped
+refusing x f m = record { event = ev.Refused x (is_part m); session = record { frame = f; message = None } }
 
 abbrev pub joining : Bool → Bool → ℕ → Stepped
-joining true d n = record { event = ev.Message n d; session = record { frame = Outside; message = Nothing } }
-joining false d n = record { event = ev.Piece d; session = record { frame = Outside; message = Part n } }
+joining true d n = record { event = ev.Message n d; session = record { frame = Outside; message = None } }
+joining false d n = record { event = ev.Piece d; session = record { frame = Outside; message = Some n } }
 
-unfoldable pub past_fault : Fault → Frame → ℕ → Pending → Stepped
+unfoldable pub past_fault : Fault → Frame → ℕ → Option ℕ → Stepped
 past_fault x f b m = pick (eqb b BOF) (refusing x (Inside 0) m) (pick (eqb b EOF) (refusing x Outside m) (going f m))
 
 -- in a frame that has no fault and no escape begun
-abbrev pub inside_of : ℕ → Pending → Session
+abbrev pub inside_of : ℕ → Option ℕ → Session
 inside_of n m = record { frame = Inside n; message = m }
 
 -- 1 SETUP: what it refuses is left as it was.

@@ -56,7 +56,7 @@ pub enum Pending {
 #[derive(Clone, Copy)]
 pub struct Session {
     pub frame: Frame,
-    pub message: Pending,
+    pub message: Option<usize>,
 }
 
 // What a byte gives: the event and the next session.
@@ -80,7 +80,7 @@ pub fn start() -> Session
 {
     Session {
         frame: Frame::Outside,
-        message: Pending::Nothing,
+        message: None,
     }
 }
 
@@ -99,12 +99,12 @@ pub fn frame_length(frame: Frame) -> usize
 }
 
 // The length of the unfinished message, 0 if there is none.
-pub fn message_length(message: Pending) -> usize
+pub fn message_length(message: Option<usize>) -> usize
     ensures { result ≡ message_length message }
 {
     match message {
-        Pending::Nothing => 0,
-        Pending::Part { length } => length,
+        None => 0,
+        Some(length) => length,
     }
 }
 
@@ -121,12 +121,12 @@ fn rebuilt_frame(frame: Frame) -> Frame
     }
 }
 
-fn rebuilt_message(message: Pending) -> Pending
+fn rebuilt_message(message: Option<usize>) -> Option<usize>
     ensures { result ≡ message }
 {
     match message {
-        Pending::Nothing => Pending::Nothing,
-        Pending::Part { length } => Pending::Part { length },
+        None => None,
+        Some(length) => Some(length),
     }
 }
 

@@ -9,12 +9,10 @@ ghost use Rattle.framing_session.specs.Session.{frame_length, message_length, co
 ghost use Rattle.framing_session.specs.Steps.{gives, going, past_fault, unless_setup};
 
 use framing_content::Fault;
-use framing_session::{
-    BOF, CE, CONTENT_LIMIT, CONTENT_START, EOF, Event, Frame, Pending, Session, Stepped,
-};
+use framing_session::{BOF, CE, CONTENT_LIMIT, CONTENT_START, EOF, Event, Frame, Session, Stepped};
 
 // No event.
-fn goes(frame: Frame, message: Pending) -> Stepped
+fn goes(frame: Frame, message: Option<usize>) -> Stepped
     ensures { result ≡ going frame message }
 {
     Stepped {
@@ -24,7 +22,7 @@ fn goes(frame: Frame, message: Pending) -> Stepped
 }
 
 // A byte of content.
-fn adds(length: usize, x: u8, message: Pending, store: &mut [u8]) -> Stepped
+fn adds(length: usize, x: u8, message: Option<usize>, store: &mut [u8]) -> Stepped
     requires { (lib.ListN.length store.old ≡ store_length) × ((length ≤ content_limit) × (message_length message ≤ message_limit)) }
     ensures { keeps (rule_adds (content_in length store.old) x (message_of message store.old)) store.old
         ≡ gives result store.new }
@@ -39,7 +37,7 @@ fn adds(length: usize, x: u8, message: Pending, store: &mut [u8]) -> Stepped
 }
 
 // In a frame, no escape begun, no fault.
-fn inside(length: usize, b: u8, message: Pending, store: &mut [u8]) -> Stepped
+fn inside(length: usize, b: u8, message: Option<usize>, store: &mut [u8]) -> Stepped
     requires { (lib.ListN.length store.old ≡ store_length) × ((length ≤ content_limit) × (message_length message ≤ message_limit)) }
     ensures { keeps (in_place (inside_place (content_in length store.old)) (message_of message store.old) b) store.old
         ≡ gives result store.new }
@@ -63,7 +61,7 @@ fn inside(length: usize, b: u8, message: Pending, store: &mut [u8]) -> Stepped
 }
 
 // In a frame, after CE.
-fn escaped(length: usize, b: u8, message: Pending, store: &mut [u8]) -> Stepped
+fn escaped(length: usize, b: u8, message: Option<usize>, store: &mut [u8]) -> Stepped
     requires { (lib.ListN.length store.old ≡ store_length) × ((length ≤ content_limit) × (message_length message ≤ message_limit)) }
     ensures { keeps (in_place (escaped_place (content_in length store.old)) (message_of message store.old) b) store.old
         ≡ gives result store.new }
@@ -84,7 +82,7 @@ fn escaped(length: usize, b: u8, message: Pending, store: &mut [u8]) -> Stepped
 }
 
 // Past the first fault of a frame.
-fn faulted(fault: Fault, frame: Frame, b: u8, message: Pending) -> Stepped
+fn faulted(fault: Fault, frame: Frame, b: u8, message: Option<usize>) -> Stepped
     ensures { result ≡ past_fault fault frame b message }
 {
     if b == BOF {

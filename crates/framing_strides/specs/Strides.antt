@@ -1,12 +1,11 @@
 -- What a stride does: it goes on in a chunk as far as no event can be made.
-use Rattle.std.specs.Prelude.{ℕ, ◌≤◌, ◌<◌, false, List, ◌≡◌, length}
-use Rattle.framing_session.specs.declared.Pending.{Pending}
+use Rattle.std.specs.Prelude.{ℕ, ◌≤◌, ◌<◌, false, List, ◌≡◌, length, Option}
 use Rattle.framing_session.specs.declared.Session.{Session}
 use Rattle.framing_strides.specs.declared.Progress.{Progress}
 use Rattle.framing_session.specs.Session.{legal, Legal}
 use Rattle.framing_session.specs.Steps.{inside_of, Reaches}
 
-abbrev pub arriving : ℕ → Pending → ℕ → Progress
+abbrev pub arriving : ℕ → Option ℕ → ℕ → Progress
 arriving n m i = record { session = inside_of n m; at = i }
 
 -- From byte i of the chunk c, with the session s and the store t: where it came to, and the store that it left. How far it comes is free; from there the call

@@ -7,7 +7,7 @@ ghost use Rattle.framing_session.specs.Session.{Legal};
 ghost use Rattle.framing_session.specs.Steps.{Reaches, Stays};
 ghost use Rattle.framing_strides.specs.Strides.{arriving, Strode};
 
-use framing_session::{BOF, CE, CONTENT_LIMIT, CONTENT_START, EOF, Frame, Pending, Session};
+use framing_session::{BOF, CE, CONTENT_LIMIT, CONTENT_START, EOF, Frame, Session};
 
 // How far a call has come in its chunk.
 #[derive(Clone, Copy)]
@@ -17,7 +17,7 @@ pub struct Progress {
 }
 
 // In a frame that has no fault and no escape begun.
-fn arrives(length: usize, message: Pending, at: usize) -> Progress
+fn arrives(length: usize, message: Option<usize>, at: usize) -> Progress
     ensures { result ≡ arriving length message at }
 {
     Progress {
@@ -30,7 +30,13 @@ fn arrives(length: usize, message: Pending, at: usize) -> Progress
 }
 
 // Takes the content bytes of a frame, escaped ones too, as far as they go.
-fn fills(length: usize, message: Pending, from: usize, store: &mut [u8], chunk: &[u8]) -> Progress
+fn fills(
+    length: usize,
+    message: Option<usize>,
+    from: usize,
+    store: &mut [u8],
+    chunk: &[u8],
+) -> Progress
     requires { Legal (arriving length message from).session store.old × (from ≤ lib.ListN.length chunk.now) }
     ensures { Reaches chunk.now from (arriving length message from).session store.old result.at result.session store.new }
 {

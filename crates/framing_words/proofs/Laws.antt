@@ -1,4 +1,5 @@
 -- Laws of the definitions, at plain variables; and that words and sessions are each other's.
+use Rattle.std.specs.Prelude.{Option, Some, None}
 use Prim.Native.Nat.{ℕ, zero, suc, ◌≤◌}
 use mathlib.Core.Path.{◌≡◌, refl, ◌∙◌}
 use mathlib.Core.Bool.{Bool, true, false}
@@ -9,8 +10,6 @@ use lib.Dec.{eqb}
 use lib.ListN.{length, get_or, set}
 use Rattle.framing_session.specs.declared.Frame.{Frame}
 use Rattle.framing_session.specs.declared.Frame.TheVariants.{Outside, Stray, Inside, Escaped, BadByte, TooLong}
-use Rattle.framing_session.specs.declared.Pending.{Pending}
-use Rattle.framing_session.specs.declared.Pending.TheVariants.{Nothing, Part}
 use Rattle.framing_session.specs.declared.Session.{Session}
 use Rattle.base_choices.specs.Choices.{pick}
 use Rattle.framing_session.specs.Session.{frame_length, message_length}
@@ -28,10 +27,10 @@ frame_back (Escaped n) = refl
 frame_back (BadByte n) = refl
 frame_back (TooLong n) = refl
 
-pub pending-back : (m : Pending) → pending_at (open_word m) (message_length m) ≡ m
+pub pending-back : (m : Option ℕ) → pending_at (open_word m) (message_length m) ≡ m
 unfolding pending_at
-pending-back Nothing = refl
-pending-back (Part n) = refl
+pending-back None = refl
+pending-back (Some n) = refl
 
 is-frame : (f : Frame) → is_frame (place_word f) (frame_length f) ≡ true
 unfolding is_frame
@@ -42,10 +41,10 @@ is-frame (Escaped n) = refl
 is-frame (BadByte n) = refl
 is-frame (TooLong n) = refl
 
-is-pending : (m : Pending) → is_pending (open_word m) (message_length m) ≡ true
+is-pending : (m : Option ℕ) → is_pending (open_word m) (message_length m) ≡ true
 unfolding is_pending
-is-pending Nothing = refl
-is-pending (Part n) = refl
+is-pending None = refl
+is-pending (Some n) = refl
 
 pub words_back : (s : Session) → session_at (words_of s) ≡ s
 words_back s = rw (frame_back s.frame, pending-back s.message)

@@ -1,10 +1,8 @@
 -- A session as four words, and back: where the stream stands, the length of the open frame's content, whether a message is open,
 -- and its length.
-use Rattle.std.specs.Prelude.{ℕ, Bool, false, List, [], ◌∷◌, leb, ltb, eqb, length, get_or}
+use Rattle.std.specs.Prelude.{ℕ, Bool, false, List, [], ◌∷◌, leb, ltb, eqb, length, get_or, Option, Some, None}
 use Rattle.framing_session.specs.declared.Frame.{Frame}
 use Rattle.framing_session.specs.declared.Frame.TheVariants.{Outside, Stray, Inside, Escaped, BadByte, TooLong}
-use Rattle.framing_session.specs.declared.Pending.{Pending}
-use Rattle.framing_session.specs.declared.Pending.TheVariants.{Nothing, Part}
 use Rattle.framing_session.specs.declared.Session.{Session}
 use Rattle.base_choices.specs.Choices.{pick}
 use Rattle.framing_session.specs.Session.{frame_length, message_length}
@@ -17,9 +15,9 @@ place_word (Escaped n) = 3
 place_word (BadByte n) = 4
 place_word (TooLong n) = 5
 
-abbrev pub open_word : Pending → ℕ
-open_word Nothing = 0
-open_word (Part n) = 1
+abbrev pub open_word : Option ℕ → ℕ
+open_word None = 0
+open_word (Some n) = 1
 
 abbrev pub words_of : Session → List ℕ
 words_of s = place_word s.frame ∷ frame_length s.frame ∷ open_word s.message ∷ message_length s.message ∷ []
@@ -37,8 +35,8 @@ frame_at p n =
     (pick (eqb p 4) (BadByte n)
     (TooLong n)))))
 
-unfoldable pub pending_at : ℕ → ℕ → Pending
-pending_at o n = pick (eqb o 0) Nothing (Part n)
+unfoldable pub pending_at : ℕ → ℕ → Option ℕ
+pending_at o n = pick (eqb o 0) None (Some n)
 
 abbrev pub session_at : List ℕ → Session
 session_at ws = record { frame = frame_at (get_or ws 0 0) (get_or ws 1 0); message = pending_at (get_or ws 2 0) (get_or ws 3 0) }

@@ -5,7 +5,7 @@ ghost use Rattle.std.specs.Prelude.{◌≡◌, get_or};
 ghost use Rattle.framing_words.specs.Words.{place_word, open_word, frame_at, pending_at, session_at, is_frame, is_pending, is_session, session_put};
 
 use base_casts::{index, word};
-use framing_session::{Frame, Pending, Session};
+use framing_session::{Frame, Session};
 
 fn place_word(frame: Frame) -> u64
     ensures { result ≡ place_word frame }
@@ -20,12 +20,12 @@ fn place_word(frame: Frame) -> u64
     }
 }
 
-fn open_word(message: Pending) -> u64
+fn open_word(message: Option<usize>) -> u64
     ensures { result ≡ open_word message }
 {
     match message {
-        Pending::Nothing => 0,
-        Pending::Part { length: _ } => 1,
+        None => 0,
+        Some(_) => 1,
     }
 }
 
@@ -59,14 +59,10 @@ fn frame_at(place: u64, length: usize) -> Frame
 }
 
 #[tactic(auto, unfolding(crate::specs::Words::pending_at))]
-fn pending_at(pending: u64, length: usize) -> Pending
+fn pending_at(pending: u64, length: usize) -> Option<usize>
     ensures { result ≡ pending_at pending length }
 {
-    if pending == 0 {
-        Pending::Nothing
-    } else {
-        Pending::Part { length }
-    }
+    if pending == 0 { None } else { Some(length) }
 }
 
 #[tactic(auto, unfolding(crate::specs::Words::is_frame))]

@@ -10,7 +10,7 @@ ghost use Rattle.base_output.specs.Output.{wrote};
 ghost use Rattle.framing_writer.specs.Steps.{room};
 
 use base_output::put;
-pub use framing_packets::{BODY_LIMIT, PAYLOAD_LIMIT, Written};
+pub use framing_packets::{BODY_LIMIT, PAYLOAD_LIMIT};
 use framing_session::{BOF, CE, EOF, MESSAGE_LIMIT};
 
 // Over an output of no bytes these functions count (`put`).
@@ -107,45 +107,45 @@ fn emit_message(out: &mut [u8], message: &[u8]) -> usize
 }
 
 // A frame around a body: content without its CRC.
-pub fn write_frame(body: &[u8], out: &mut [u8]) -> Written
+pub fn write_frame(body: &[u8], out: &mut [u8]) -> Option<usize>
     ensures { frame_into body.now out.old ≡ outcome result out.new }
 {
     if BODY_LIMIT < body.len() {
-        return Written::Out;
+        return None;
     }
     let length = emit_frame(&mut out[..0], 0, &body[..0], body);
     if out.len() < length {
-        return Written::Out;
+        return None;
     }
     emit_frame(out, 0, &body[..0], body);
-    Written::Done { length }
+    Some(length)
 }
 
 // The keep-alive request.
-pub fn write_request(out: &mut [u8]) -> Written
+pub fn write_request(out: &mut [u8]) -> Option<usize>
     ensures { into (frame request_body) out.old ≡ outcome result out.new }
 {
     write_frame(&[0x00, 0x0e, 0x01, 0x01], out)
 }
 
 // The keep-alive response.
-pub fn write_response(out: &mut [u8]) -> Written
+pub fn write_response(out: &mut [u8]) -> Option<usize>
     ensures { into (frame response_body) out.old ≡ outcome result out.new }
 {
     write_frame(&[0x00, 0x0e, 0x02, 0x01], out)
 }
 
 // A message as packets.
-pub fn write_message(message: &[u8], out: &mut [u8]) -> Written
+pub fn write_message(message: &[u8], out: &mut [u8]) -> Option<usize>
     ensures { message_into message.now out.old ≡ outcome result out.new }
 {
     if MESSAGE_LIMIT < message.len() {
-        return Written::Out;
+        return None;
     }
     let total = emit_message(&mut out[..0], message);
     if out.len() < total {
-        return Written::Out;
+        return None;
     }
     emit_message(out, message);
-    Written::Done { length: total }
+    Some(total)
 }

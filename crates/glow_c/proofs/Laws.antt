@@ -1,4 +1,5 @@
 -- Laws of the C interface, at plain variables.
+use Rattle.std.specs.Prelude.{Option, Some, None}
 use Prim.Native.Nat.{ℕ}
 use mathlib.Core.Path.{◌≡◌, refl, ap, ◌∙◌}
 use mathlib.Core.List.{List, [], ◌∷◌}
@@ -9,8 +10,6 @@ use Rattle.glow_rows.specs.Entry.{Rows}
 use Rattle.glow_reader.specs.declared.Answer.{Answer}
 use Rattle.glow_reader.specs.declared.Answer.TheVariants.{Refused, Room, Read}
 use Rattle.glow_reader.specs.Message.{reply_by, read_result, read_at}
-use Rattle.ber_integers.specs.declared.Wrote.{Wrote}
-use Rattle.ber_integers.specs.declared.Wrote.TheVariants.{Next, Out}
 use Rattle.ber_integers.specs.Digits.{wrote, outcome}
 use Rattle.glow_trees.specs.Rows.{items_in}
 use Rattle.glow_member_sizes.specs.Spelling.{least_real}
@@ -56,14 +55,14 @@ set-one [] a h = absurd (omega arith)
 set-one (x ∷ []) a h = refl
 set-one (x ∷ y ∷ ys) a h = absurd (omega arith)
 
-abbrev WroteTold : Wrote → ℕ → List ℕ → Type 0
+abbrev WroteTold : Option ℕ → ℕ → List ℕ → Type 0
 WroteTold w number words = (number ≡ wrote w) × (words ≡ length_word w)
 
-module _ (answer : List ℕ) (one : length answer ≡ 1) {w : Wrote} where
-  pub told-next : {n x : ℕ} → w ≡ Next n → x ≡ n → WroteTold w 0 (set answer 0 x)
+module _ (answer : List ℕ) (one : length answer ≡ 1) {w : Option ℕ} where
+  pub told-next : {n x : ℕ} → w ≡ Some n → x ≡ n → WroteTold w 0 (set answer 0 x)
   told-next {n} {x} e p = rw e (refl, set-one answer x one ∙ ap (λ (y : ℕ). y ∷ []) p)
 
-  pub told-out : w ≡ Out → WroteTold w 46 (set answer 0 0)
+  pub told-out : w ≡ None → WroteTold w 46 (set answer 0 0)
   told-out e = rw e (refl, set-one answer 0 one)
 
 module _ (rows : Rows) (n root : ℕ) (s out answer : List ℕ) where
@@ -71,7 +70,7 @@ module _ (rows : Rows) (n root : ℕ) (s out answer : List ℕ) where
   unfolding write_calls
   write-other h = simp (ne_eqb _ _ h)
 
-  pub write-called : {w : Wrote} {out' answer' : List ℕ} {r : ℕ} → length answer ≡ 1 → writes root (length rows) n (items_in s rows n) out ≡ outcome w out'
+  pub write-called : {w : Option ℕ} {out' answer' : List ℕ} {r : ℕ} → length answer ≡ 1 → writes root (length rows) n (items_in s rows n) out ≡ outcome w out'
       → r ≡ wrote w → answer' ≡ length_word w → write_calls rows n root s out answer ≡ writing r out' answer'
   unfolding write_calls
   write-called {w} {out'} h e i j = simp (eq-eqb _ _ h) (ap wrote_as e ∙ rw (i, j) refl)

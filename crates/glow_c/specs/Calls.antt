@@ -1,9 +1,7 @@
 -- What the C interface of the tree reader and the tree writer answers. Reading: a number, and three words for the place, the count and Root's kind.
-use Rattle.std.specs.Prelude.{ℕ, List, [], ◌∷◌, length, eqb}
+use Rattle.std.specs.Prelude.{ℕ, List, [], ◌∷◌, length, eqb, Option, Some, None}
 use Rattle.base_choices.specs.Choices.{pick}
 use Rattle.glow_rows.specs.Entry.{Rows}
-use Rattle.ber_integers.specs.declared.Wrote.{Wrote}
-use Rattle.ber_integers.specs.declared.Wrote.TheVariants.{Next, Out}
 use Rattle.ber_integers.specs.Digits.{Put}
 use Rattle.glow_trees.specs.Rows.{items_in}
 use Rattle.glow_member_sizes.specs.Spelling.{least_real}
@@ -44,9 +42,9 @@ pub record Writing : Type 0 where
 abbrev pub writing : ℕ → List ℕ → List ℕ → Writing
 writing number out answer = record { number = number; out = out; answer = answer }
 
-abbrev pub length_word : Wrote → List ℕ
-length_word (Next n) = n ∷ []
-length_word Out = 0 ∷ []
+abbrev pub length_word : Option ℕ → List ℕ
+length_word (Some n) = n ∷ []
+length_word None = 0 ∷ []
 
 abbrev pub wrote_as : Put → Writing
 wrote_as p = writing p.number p.out (length_word p.answer)

@@ -1,6 +1,5 @@
 -- Each answer's words, those that say nothing among them, and what 1 leaves, by computation.
-use Rattle.std.specs.Prelude.{ℕ, ◌≡◌, refl, List, [], ◌∷◌, map}
-use Rattle.ber_integers.specs.declared.Wrote.TheVariants.{Next, Out}
+use Rattle.std.specs.Prelude.{ℕ, ◌≡◌, refl, List, [], ◌∷◌, map, Some, None}
 use Rattle.glow_reader.specs.declared.Answer.{Answer}
 use Rattle.glow_reader.specs.declared.Answer.TheVariants.{Setup, Refused, Room, Read}
 use Rattle.glow_c.specs.Calls.{call, words_of, calls, writing, length_word, write_calls}
@@ -14,7 +13,7 @@ pub v-words : map (λ (a : Answer). words_of a (three 7 8 9)) (Setup ∷ Refused
 v-words = refl
 
 -- The writer's word: the length, and 0 after 46.
-pub v-lengths : map length_word (Next 0 ∷ Next 4 ∷ Out ∷ []) ≡ (0 ∷ []) ∷ (4 ∷ []) ∷ (0 ∷ []) ∷ []
+pub v-lengths : map length_word (Some 0 ∷ Some 4 ∷ None ∷ []) ≡ (0 ∷ []) ∷ (4 ∷ []) ∷ (0 ∷ []) ∷ []
 v-lengths = refl
 
 -- 1 for an answer of other than three words, or of other than one to write; "1 leaves everything as it was".

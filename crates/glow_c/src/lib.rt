@@ -7,7 +7,6 @@ ghost use Rattle.glow_c.specs.Calls.{call, words_of, calls, length_word, writing
 ghost use Rattle.ber_integers.specs.Digits.{wrote};
 
 use base_casts::word;
-use ber_integers::Wrote;
 use glow_reader::Answer;
 
 fn put(answer: &mut [u64], place: u64, count: u64, root: u64)
@@ -54,17 +53,17 @@ pub extern "C" fn glow_read(message: &[u8], table: &mut [[u64; 50]], answer: &mu
 }
 
 // The number of what was written, and its length.
-fn told(w: Wrote, answer: &mut [u64]) -> u64
+fn told(w: Option<usize>, answer: &mut [u64]) -> u64
     requires { length answer.old ≡ 1 }
     ensures value { result ≡ wrote w }
     ensures answer_after { answer.new ≡ length_word w }
 {
     match w {
-        Wrote::Next(n) => {
+        Some(n) => {
             answer[0] = word(n);
             0
         }
-        Wrote::Out => {
+        None => {
             answer[0] = 0;
             46
         }

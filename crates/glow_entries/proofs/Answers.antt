@@ -1,4 +1,5 @@
 -- One law for each answer of the code, at plain variables.
+use Rattle.std.specs.Prelude.{Some, None}
 use Prim.Native.Nat.{ℕ, ◌-◌, ◌≤◌, ◌<◌}
 use mathlib.Core.Path.{◌≡◌, sym, ap, ◌∙◌}
 use mathlib.Core.Bool.{Bool, true, false}
@@ -11,34 +12,31 @@ use Rattle.glow_rows.specs.Cell.{int_of, number_in}
 use Rattle.glow_rows.specs.Row.{put_in, cell_in, same}
 use Rattle.glow_rows.specs.Entry.{row, blank, blanks}
 use Rattle.glow_rows.proofs.Laws.{row-set}
-use Rattle.glow_entries.specs.declared.Number.TheVariants.{Absent as NoNumber, Is as IsNumber}
-use Rattle.glow_entries.specs.declared.Flag.TheVariants.{Absent as NoFlag, Is as IsFlag}
 use Rattle.glow_entries.specs.declared.Part.TheVariants.{Absent as NoPart, At as PartAt}
 use Rattle.glow_entries.specs.declared.Key.TheVariants.{Number as ByNumber, Path as ByPath}
-use Rattle.glow_entries.specs.declared.Parent.TheVariants.{Root, At}
 use Rattle.glow_entries.specs.Member.{int_in, number_of, flag_of, part_of, key_of, parent_of}
 use Rattle.glow_entries.specs.Record.{read_as}
 use Rattle.glow_entries.proofs.Cells.{entry}
 
 -- a cell that stands for a number, a flag or a part
 module _ (v : Cell) where
-  pub number_is : v.kind ≡ 2 → v.second ≡ 0 → IsNumber (int_of v.first) ≡ number_of v
+  pub number_is : v.kind ≡ 2 → v.second ≡ 0 → Some (int_of v.first) ≡ number_of v
   unfolding number_of
   number_is k l = rw (eq-eqb _ _ k, eq-eqb _ _ l)
 
-  pub number-long : v.kind ≡ 2 → (v.second ≡ 0 → ⊥) → NoNumber ≡ number_of v
+  pub number-long : v.kind ≡ 2 → (v.second ≡ 0 → ⊥) → None ≡ number_of v
   unfolding number_of
   number-long k l = rw (eq-eqb _ _ k, ne_eqb _ _ l)
 
-  pub number-none : (v.kind ≡ 2 → ⊥) → NoNumber ≡ number_of v
+  pub number-none : (v.kind ≡ 2 → ⊥) → None ≡ number_of v
   unfolding number_of
   number-none k = rw (ne_eqb _ _ k)
 
-  pub flag_is : v.kind ≡ 1 → IsFlag (lib.Dec.eqb v.first 1) ≡ flag_of v
+  pub flag_is : v.kind ≡ 1 → Some (lib.Dec.eqb v.first 1) ≡ flag_of v
   unfolding flag_of
   flag_is k = rw (eq-eqb _ _ k)
 
-  pub flag-none : (v.kind ≡ 1 → ⊥) → NoFlag ≡ flag_of v
+  pub flag-none : (v.kind ≡ 1 → ⊥) → None ≡ flag_of v
   unfolding flag_of
   flag-none k = rw (ne_eqb _ _ k)
 
@@ -60,15 +58,15 @@ module _ (r : List ℕ) where
   unfolding key_of int_in
   key-number q v e k = rw (e, ne_eqb _ _ k)
 
-  pub parent-root : get_or r 1 0 ≡ 0 → Root ≡ parent_of r
+  pub parent-root : get_or r 1 0 ≡ 0 → None ≡ parent_of r
   unfolding parent_of
   parent-root k = rw (eq-eqb _ _ k)
 
-  pub parent-at : (get_or r 1 0 ≡ 0 → ⊥) → get_or r 1 0 ≤ 0x100000000 → At (get_or r 1 0 - 1) ≡ parent_of r
+  pub parent-at : (get_or r 1 0 ≡ 0 → ⊥) → get_or r 1 0 ≤ 0x100000000 → Some (get_or r 1 0 - 1) ≡ parent_of r
   unfolding parent_of
   parent-at k h = rw (ne_eqb _ _ k, le-leb _ _ h)
 
-  pub parent-past : (get_or r 1 0 ≡ 0 → ⊥) → 0x100000000 < get_or r 1 0 → Root ≡ parent_of r
+  pub parent-past : (get_or r 1 0 ≡ 0 → ⊥) → 0x100000000 < get_or r 1 0 → None ≡ parent_of r
   unfolding parent_of
   parent-past k h = rw (ne_eqb _ _ k, lt-leb _ _ h)
 

@@ -1,4 +1,5 @@
 -- What was put into a row is read again: a law for each sort of member, over the cell, and one for a kind of entry.
+use Rattle.std.specs.Prelude.{Option, Some, None}
 use Prim.Native.Nat.{ℕ, zero, suc, ◌+◌, ◌-◌, ◌*◌, ◌≤◌, ◌<◌}
 use mathlib.Core.Path.{◌≡◌, refl, sym, ap, ◌∙◌}
 use mathlib.Core.Bool.{Bool, true, false, not}
@@ -18,16 +19,10 @@ use Rattle.glow_rows.specs.declared.Cell.{Cell}
 use Rattle.glow_rows.specs.Cell.{cell, absent, word_of, cell_of, int_of, value_of, number_in}
 use Rattle.glow_rows.specs.Row.{cell_in, same}
 use Rattle.glow_rows.specs.Entry.{words, row}
-use Rattle.glow_entries.specs.declared.Number.{Number}
-use Rattle.glow_entries.specs.declared.Number.TheVariants.{Absent as NoNumber, Is as IsNumber}
-use Rattle.glow_entries.specs.declared.Flag.{Flag}
-use Rattle.glow_entries.specs.declared.Flag.TheVariants.{Absent as NoFlag, Is as IsFlag}
 use Rattle.glow_entries.specs.declared.Part.{Part}
 use Rattle.glow_entries.specs.declared.Part.TheVariants.{Absent as NoPart, At as PartAt}
 use Rattle.glow_entries.specs.declared.Key.{Key}
 use Rattle.glow_entries.specs.declared.Key.TheVariants.{Number as ByNumber, Path as ByPath}
-use Rattle.glow_entries.specs.declared.Parent.{Parent}
-use Rattle.glow_entries.specs.declared.Parent.TheVariants.{Root, At}
 use Rattle.glow_entries.specs.Held.{HeldInt, HeldNumber, HeldKey, HeldParent, HeldValue, Present}
 use Rattle.glow_entries.specs.Member.{number_cell, int_in, number_of, flag_cell, flag_of, part_cell, part_of, key_kind, key_cell, key_of}
 use Rattle.glow_entries.specs.Member.{parent_word, parent_of}
@@ -42,16 +37,16 @@ int-back (negsuc n) h =
     let b : 18446744073709551615 - (18446744073709551615 - n) ≡ n = omega arith in
     rw (le-ltb _ _ a, b)
 
-number-back : (n : Number) → HeldNumber n → number_of (number_cell n) ≡ n
+number-back : (n : Option ℤ) → HeldNumber n → number_of (number_cell n) ≡ n
 unfolding number_of
-number-back NoNumber h = refl
-number-back (IsNumber z) h = ap IsNumber (int-back z h)
+number-back None h = refl
+number-back (Some z) h = ap Some (int-back z h)
 
-flag-back : (f : Flag) → flag_of (flag_cell f) ≡ f
+flag-back : (f : Option Bool) → flag_of (flag_cell f) ≡ f
 unfolding flag_of
-flag-back NoFlag = refl
-flag-back (IsFlag true) = refl
-flag-back (IsFlag false) = refl
+flag-back None = refl
+flag-back (Some true) = refl
+flag-back (Some false) = refl
 
 part-back : (tag : ℕ) (p : Part) → 0 < tag → part_of tag (part_cell tag p) ≡ p
 unfolding part_of
@@ -112,10 +107,10 @@ module _ (k p : ℕ) (cs : List Cell) where
     unfolding int_in number_in
     int_at z h e i = ap int_in (cell-back c h ∙ e) ∙ int-back z i
 
-    pub number_at : (n : Number) → c < 16 → get_or cs c absent ≡ number_cell n → HeldNumber n → number_of (cell_in (row (entry k p cs)) c) ≡ n
+    pub number_at : (n : Option ℤ) → c < 16 → get_or cs c absent ≡ number_cell n → HeldNumber n → number_of (cell_in (row (entry k p cs)) c) ≡ n
     number_at n h e i = ap number_of (cell-back c h ∙ e) ∙ number-back n i
 
-    pub flag_at : (f : Flag) → c < 16 → get_or cs c absent ≡ flag_cell f → flag_of (cell_in (row (entry k p cs)) c) ≡ f
+    pub flag_at : (f : Option Bool) → c < 16 → get_or cs c absent ≡ flag_cell f → flag_of (cell_in (row (entry k p cs)) c) ≡ f
     flag_at f h e = ap flag_of (cell-back c h ∙ e) ∙ flag-back f
 
     pub value-at : (v : Value) → c < 16 → get_or cs c absent ≡ cell_of v → HeldValue v → value_of (cell_in (row (entry k p cs)) c) ≡ v
@@ -133,10 +128,10 @@ key-at plain qualified p cs (ByPath start len) n e h =
     rw (eq-eqb qualified qualified refl)
     (ap (λ (v : Cell). ByPath v.first v.second) (cell-back qualified p cs 0 (omega arith) ∙ e))
 
-pub parent-at : (k : ℕ) (cs : List Cell) (p : Parent) → HeldParent p → parent_of (row (entry k (parent_word p) cs)) ≡ p
+pub parent-at : (k : ℕ) (cs : List Cell) (p : Option ℕ) → HeldParent p → parent_of (row (entry k (parent_word p) cs)) ≡ p
 unfolding parent_of
-parent-at k cs Root h = refl
-parent-at k cs (At i) h =
+parent-at k cs None h = refl
+parent-at k cs (Some i) h =
     let a : i + 1 ≡ 0 → ⊥ = λ e. absurd (omega (arith, e)) in
     let b : i + 1 ≤ 0x100000000 = omega arith in
     let d : i + 1 - 1 ≡ i = omega arith in

@@ -1,5 +1,6 @@
 -- Each kind of entry and its row, for all entries: the row made of an entry is read as that entry (`parameter-back`), a row that is read as an
 -- entry is the row made of it (`parameter-made`), and a row that is read_as to be none's is no entry's (`parameter-none`); so for each kind.
+use Rattle.std.specs.Prelude.{Option, Some, None}
 use Prim.Native.Nat.{ℕ}
 use mathlib.Core.Path.{◌≡◌, refl, sym, ap, ◌∙◌}
 use mathlib.Core.List.{List, [], ◌∷◌, cons-ne-nil}
@@ -14,42 +15,30 @@ use Rattle.glow_entries.proofs.Cells.{entry, parameter_cells, parameter-cells, n
 use Rattle.glow_entries.proofs.Cells.{command_cells, command-cells, connection_cells, connection-cells, stream_cells, stream-cells}
 use Rattle.glow_entries.proofs.Back.{number_at, flag_at, part_at, value-at, int_at, key-at, parent-at, told_back, told-made, stream-told, stream-there}
 use Rattle.glow_entries.specs.declared.Parameter.{Parameter}
-use Rattle.glow_entries.specs.declared.ReadParameter.{ReadParameter}
-use Rattle.glow_entries.specs.declared.ReadParameter.TheVariants.{Entry as ParameterEntry, Other as ParameterOther}
 use Rattle.glow_entries.specs.Held.{HeldParameter}
 use Rattle.glow_entries.specs.Record.{parameter_row, parameter_of, parameter_read}
 use Rattle.glow_entries.specs.declared.Node.{Node}
-use Rattle.glow_entries.specs.declared.ReadNode.{ReadNode}
-use Rattle.glow_entries.specs.declared.ReadNode.TheVariants.{Entry as NodeEntry, Other as NodeOther}
 use Rattle.glow_entries.specs.Held.{HeldNode}
 use Rattle.glow_entries.specs.Record.{node_row, node_of, node_read}
 use Rattle.glow_entries.specs.declared.Matrix.{Matrix}
-use Rattle.glow_entries.specs.declared.ReadMatrix.{ReadMatrix}
-use Rattle.glow_entries.specs.declared.ReadMatrix.TheVariants.{Entry as MatrixEntry, Other as MatrixOther}
 use Rattle.glow_entries.specs.Held.{HeldMatrix}
 use Rattle.glow_entries.specs.Record.{matrix_row, matrix_of, matrix_read}
 use Rattle.glow_entries.specs.declared.Command.{Command}
-use Rattle.glow_entries.specs.declared.ReadCommand.{ReadCommand}
-use Rattle.glow_entries.specs.declared.ReadCommand.TheVariants.{Entry as CommandEntry, Other as CommandOther}
 use Rattle.glow_entries.specs.Held.{HeldCommand}
 use Rattle.glow_entries.specs.Record.{command_row, command_of, command_read}
 use Rattle.glow_entries.specs.declared.Connection.{Connection}
-use Rattle.glow_entries.specs.declared.ReadConnection.{ReadConnection}
-use Rattle.glow_entries.specs.declared.ReadConnection.TheVariants.{Entry as ConnectionEntry, Other as ConnectionOther}
 use Rattle.glow_entries.specs.Held.{HeldConnection}
 use Rattle.glow_entries.specs.Record.{connection_row, connection_of, connection_read}
 use Rattle.glow_entries.specs.declared.Stream.{Stream}
-use Rattle.glow_entries.specs.declared.ReadStream.{ReadStream}
-use Rattle.glow_entries.specs.declared.ReadStream.TheVariants.{Entry as StreamEntry, Other as StreamOther}
 use Rattle.glow_entries.specs.Held.{HeldStream}
 use Rattle.glow_entries.specs.Record.{stream_row, stream_of, stream_read}
 
 none : {A : Type 0} {x : A} → x ∷ [] ≡ [] → ⊥
 none e = cons-ne-nil _ _ e
 
-abbrev pub parameter_in : ReadParameter → List Parameter
-parameter_in (ParameterEntry e) = e ∷ []
-parameter_in ParameterOther = []
+abbrev pub parameter_in : Option Parameter → List Parameter
+parameter_in (Some e) = e ∷ []
+parameter_in None = []
 
 parameter-from : (e : Parameter) → HeldParameter e → parameter_of (row (entry (key_kind e.key 1 5) (parent_word e.parent) (parameter_cells e))) ≡ e
 unfolding parameter_of
@@ -75,20 +64,20 @@ parameter-from e h =
 parameter-of : (e : Parameter) → HeldParameter e → parameter_of (parameter_row e) ≡ e
 parameter-of e h = ap parameter_of (parameter-cells e) ∙ parameter-from e h
 
-pub parameter-back : (e : Parameter) → HeldParameter e → parameter_read (parameter_row e) ≡ ParameterEntry e
+pub parameter-back : (e : Parameter) → HeldParameter e → parameter_read (parameter_row e) ≡ Some e
 unfolding parameter_read
-parameter-back e h = told_back parameter_of parameter_row ParameterEntry ParameterOther e (parameter-of e h)
+parameter-back e h = told_back parameter_of parameter_row Some None e (parameter-of e h)
 
-pub parameter-made : (r : List ℕ) (e : Parameter) → parameter_read r ≡ ParameterEntry e → r ≡ parameter_row e
+pub parameter-made : (r : List ℕ) (e : Parameter) → parameter_read r ≡ Some e → r ≡ parameter_row e
 unfolding parameter_read
-parameter-made r e q = told-made parameter_of parameter_row ParameterEntry ParameterOther parameter_in (λ x. refl) refl r e q
+parameter-made r e q = told-made parameter_of parameter_row Some None parameter_in (λ x. refl) refl r e q
 
-pub parameter-none : (r : List ℕ) (e : Parameter) → HeldParameter e → parameter_read r ≡ ParameterOther → r ≡ parameter_row e → ⊥
+pub parameter-none : (r : List ℕ) (e : Parameter) → HeldParameter e → parameter_read r ≡ None → r ≡ parameter_row e → ⊥
 parameter-none r e h q s = none (sym (ap parameter_in (sym q ∙ ap parameter_read s ∙ parameter-back e h)))
 
-abbrev pub node_in : ReadNode → List Node
-node_in (NodeEntry e) = e ∷ []
-node_in NodeOther = []
+abbrev pub node_in : Option Node → List Node
+node_in (Some e) = e ∷ []
+node_in None = []
 
 node-from : (e : Node) → HeldNode e → node_of (row (entry (key_kind e.key 3 6) (parent_word e.parent) (node_cells e))) ≡ e
 unfolding node_of blanks
@@ -108,20 +97,20 @@ node-from e h =
 node-of : (e : Node) → HeldNode e → node_of (node_row e) ≡ e
 node-of e h = ap node_of (node-cells e) ∙ node-from e h
 
-pub node-back : (e : Node) → HeldNode e → node_read (node_row e) ≡ NodeEntry e
+pub node-back : (e : Node) → HeldNode e → node_read (node_row e) ≡ Some e
 unfolding node_read
-node-back e h = told_back node_of node_row NodeEntry NodeOther e (node-of e h)
+node-back e h = told_back node_of node_row Some None e (node-of e h)
 
-pub node_made : (r : List ℕ) (e : Node) → node_read r ≡ NodeEntry e → r ≡ node_row e
+pub node_made : (r : List ℕ) (e : Node) → node_read r ≡ Some e → r ≡ node_row e
 unfolding node_read
-node_made r e q = told-made node_of node_row NodeEntry NodeOther node_in (λ x. refl) refl r e q
+node_made r e q = told-made node_of node_row Some None node_in (λ x. refl) refl r e q
 
-pub node-none : (r : List ℕ) (e : Node) → HeldNode e → node_read r ≡ NodeOther → r ≡ node_row e → ⊥
+pub node-none : (r : List ℕ) (e : Node) → HeldNode e → node_read r ≡ None → r ≡ node_row e → ⊥
 node-none r e h q s = none (sym (ap node_in (sym q ∙ ap node_read s ∙ node-back e h)))
 
-abbrev pub matrix_in : ReadMatrix → List Matrix
-matrix_in (MatrixEntry e) = e ∷ []
-matrix_in MatrixOther = []
+abbrev pub matrix_in : Option Matrix → List Matrix
+matrix_in (Some e) = e ∷ []
+matrix_in None = []
 
 matrix-from : (e : Matrix) → HeldMatrix e → matrix_of (row (entry (key_kind e.key 4 7) (parent_word e.parent) (matrix_cells e))) ≡ e
 unfolding matrix_of blanks
@@ -145,20 +134,20 @@ matrix-from e h =
 matrix-of : (e : Matrix) → HeldMatrix e → matrix_of (matrix_row e) ≡ e
 matrix-of e h = ap matrix_of (matrix-cells e) ∙ matrix-from e h
 
-pub matrix-back : (e : Matrix) → HeldMatrix e → matrix_read (matrix_row e) ≡ MatrixEntry e
+pub matrix-back : (e : Matrix) → HeldMatrix e → matrix_read (matrix_row e) ≡ Some e
 unfolding matrix_read
-matrix-back e h = told_back matrix_of matrix_row MatrixEntry MatrixOther e (matrix-of e h)
+matrix-back e h = told_back matrix_of matrix_row Some None e (matrix-of e h)
 
-pub matrix-made : (r : List ℕ) (e : Matrix) → matrix_read r ≡ MatrixEntry e → r ≡ matrix_row e
+pub matrix-made : (r : List ℕ) (e : Matrix) → matrix_read r ≡ Some e → r ≡ matrix_row e
 unfolding matrix_read
-matrix-made r e q = told-made matrix_of matrix_row MatrixEntry MatrixOther matrix_in (λ x. refl) refl r e q
+matrix-made r e q = told-made matrix_of matrix_row Some None matrix_in (λ x. refl) refl r e q
 
-pub matrix-none : (r : List ℕ) (e : Matrix) → HeldMatrix e → matrix_read r ≡ MatrixOther → r ≡ matrix_row e → ⊥
+pub matrix-none : (r : List ℕ) (e : Matrix) → HeldMatrix e → matrix_read r ≡ None → r ≡ matrix_row e → ⊥
 matrix-none r e h q s = none (sym (ap matrix_in (sym q ∙ ap matrix_read s ∙ matrix-back e h)))
 
-abbrev pub command_in : ReadCommand → List Command
-command_in (CommandEntry e) = e ∷ []
-command_in CommandOther = []
+abbrev pub command_in : Option Command → List Command
+command_in (Some e) = e ∷ []
+command_in None = []
 
 command-from : (e : Command) → HeldCommand e → command_of (row (entry 2 (parent_word e.parent) (command_cells e))) ≡ e
 unfolding command_of blanks
@@ -175,20 +164,20 @@ command-from e h =
 command-of : (e : Command) → HeldCommand e → command_of (command_row e) ≡ e
 command-of e h = ap command_of (command-cells e) ∙ command-from e h
 
-pub command-back : (e : Command) → HeldCommand e → command_read (command_row e) ≡ CommandEntry e
+pub command-back : (e : Command) → HeldCommand e → command_read (command_row e) ≡ Some e
 unfolding command_read
-command-back e h = told_back command_of command_row CommandEntry CommandOther e (command-of e h)
+command-back e h = told_back command_of command_row Some None e (command-of e h)
 
-pub command-made : (r : List ℕ) (e : Command) → command_read r ≡ CommandEntry e → r ≡ command_row e
+pub command-made : (r : List ℕ) (e : Command) → command_read r ≡ Some e → r ≡ command_row e
 unfolding command_read
-command-made r e q = told-made command_of command_row CommandEntry CommandOther command_in (λ x. refl) refl r e q
+command-made r e q = told-made command_of command_row Some None command_in (λ x. refl) refl r e q
 
-pub command-none : (r : List ℕ) (e : Command) → HeldCommand e → command_read r ≡ CommandOther → r ≡ command_row e → ⊥
+pub command-none : (r : List ℕ) (e : Command) → HeldCommand e → command_read r ≡ None → r ≡ command_row e → ⊥
 command-none r e h q s = none (sym (ap command_in (sym q ∙ ap command_read s ∙ command-back e h)))
 
-abbrev pub connection_in : ReadConnection → List Connection
-connection_in (ConnectionEntry e) = e ∷ []
-connection_in ConnectionOther = []
+abbrev pub connection_in : Option Connection → List Connection
+connection_in (Some e) = e ∷ []
+connection_in None = []
 
 connection-from : (e : Connection) → HeldConnection e → connection_of (row (entry 8 (parent_word e.parent) (connection_cells e))) ≡ e
 unfolding connection_of blanks
@@ -206,20 +195,20 @@ connection-from e h =
 connection-of : (e : Connection) → HeldConnection e → connection_of (connection_row e) ≡ e
 connection-of e h = ap connection_of (connection-cells e) ∙ connection-from e h
 
-pub connection-back : (e : Connection) → HeldConnection e → connection_read (connection_row e) ≡ ConnectionEntry e
+pub connection-back : (e : Connection) → HeldConnection e → connection_read (connection_row e) ≡ Some e
 unfolding connection_read
-connection-back e h = told_back connection_of connection_row ConnectionEntry ConnectionOther e (connection-of e h)
+connection-back e h = told_back connection_of connection_row Some None e (connection-of e h)
 
-pub connection-made : (r : List ℕ) (e : Connection) → connection_read r ≡ ConnectionEntry e → r ≡ connection_row e
+pub connection-made : (r : List ℕ) (e : Connection) → connection_read r ≡ Some e → r ≡ connection_row e
 unfolding connection_read
-connection-made r e q = told-made connection_of connection_row ConnectionEntry ConnectionOther connection_in (λ x. refl) refl r e q
+connection-made r e q = told-made connection_of connection_row Some None connection_in (λ x. refl) refl r e q
 
-pub connection-none : (r : List ℕ) (e : Connection) → HeldConnection e → connection_read r ≡ ConnectionOther → r ≡ connection_row e → ⊥
+pub connection-none : (r : List ℕ) (e : Connection) → HeldConnection e → connection_read r ≡ None → r ≡ connection_row e → ⊥
 connection-none r e h q s = none (sym (ap connection_in (sym q ∙ ap connection_read s ∙ connection-back e h)))
 
-abbrev pub stream_in : ReadStream → List Stream
-stream_in (StreamEntry e) = e ∷ []
-stream_in StreamOther = []
+abbrev pub stream_in : Option Stream → List Stream
+stream_in (Some e) = e ∷ []
+stream_in None = []
 
 stream-from : (e : Stream) → HeldStream e → stream_of (row (entry 9 (parent_word e.parent) (stream_cells e))) ≡ e
 unfolding stream_of blanks
@@ -236,14 +225,14 @@ stream-from e h =
 stream-of : (e : Stream) → HeldStream e → stream_of (stream_row e) ≡ e
 stream-of e h = ap stream_of (stream-cells e) ∙ stream-from e h
 
-pub stream-back : (e : Stream) → HeldStream e → stream_read (stream_row e) ≡ StreamEntry e
+pub stream-back : (e : Stream) → HeldStream e → stream_read (stream_row e) ≡ Some e
 unfolding stream_read stream_row filled with_cell blanks words cell_in
-stream-back e h = rw (stream-there e.value h.value h.present) (told_back stream_of stream_row StreamEntry StreamOther e (stream-of e h))
+stream-back e h = rw (stream-there e.value h.value h.present) (told_back stream_of stream_row Some None e (stream-of e h))
 
-pub stream-made : (r : List ℕ) (e : Stream) → stream_read r ≡ StreamEntry e → r ≡ stream_row e
+pub stream-made : (r : List ℕ) (e : Stream) → stream_read r ≡ Some e → r ≡ stream_row e
 unfolding stream_read
-stream-made r e q = told-made stream_of stream_row StreamEntry StreamOther stream_in (λ x. refl) refl r e
-    (stream-told stream_in (eqb (cell_in r 1).kind 0) (read_as stream_of stream_row StreamEntry StreamOther r) StreamOther e refl refl q)
+stream-made r e q = told-made stream_of stream_row Some None stream_in (λ x. refl) refl r e
+    (stream-told stream_in (eqb (cell_in r 1).kind 0) (read_as stream_of stream_row Some None r) None e refl refl q)
 
-pub stream-none : (r : List ℕ) (e : Stream) → HeldStream e → stream_read r ≡ StreamOther → r ≡ stream_row e → ⊥
+pub stream-none : (r : List ℕ) (e : Stream) → HeldStream e → stream_read r ≡ None → r ≡ stream_row e → ⊥
 stream-none r e h q s = none (sym (ap stream_in (sym q ∙ ap stream_read s ∙ stream-back e h)))

@@ -1,15 +1,11 @@
 -- What the types of an entry's members hold: integers of 64 bits, doubles, places of 32 bits; and a real is a number.
-use Rattle.std.specs.Prelude.{◌<◌, ◌^◌, not, T, ℤ, pos, negsuc}
+use Rattle.std.specs.Prelude.{◌<◌, ◌^◌, not, T, ℤ, pos, negsuc, ℕ, Option, Some, None}
 use Rattle.std.specs.Float.Ieee as Ieee
 use Rattle.std.specs.Float.{binary64}
 use Rattle.ber_values.specs.declared.Value.{Value}
 use Rattle.ber_values.specs.declared.Value.TheVariants.{Absent, Int, Real, Text, Bool as Truth, Octets}
-use Rattle.glow_entries.specs.declared.Number.{Number}
-use Rattle.glow_entries.specs.declared.Number.TheVariants.{Absent as NoNumber, Is as IsNumber}
 use Rattle.glow_entries.specs.declared.Key.{Key}
 use Rattle.glow_entries.specs.declared.Key.TheVariants.{Number as ByNumber, Path as ByPath}
-use Rattle.glow_entries.specs.declared.Parent.{Parent}
-use Rattle.glow_entries.specs.declared.Parent.TheVariants.{Root, At}
 use Rattle.glow_entries.specs.declared.Parameter.{Parameter}
 use Rattle.glow_entries.specs.declared.Node.{Node}
 use Rattle.glow_entries.specs.declared.Matrix.{Matrix}
@@ -21,17 +17,17 @@ abbrev pub HeldInt : ℤ → Type 0
 HeldInt (pos n) = n < 2 ^ 63
 HeldInt (negsuc n) = n < 2 ^ 63
 
-abbrev pub HeldNumber : Number → Type 0
-HeldNumber NoNumber = Unit {0}
-HeldNumber (IsNumber z) = HeldInt z
+abbrev pub HeldNumber : Option ℤ → Type 0
+HeldNumber None = Unit {0}
+HeldNumber (Some z) = HeldInt z
 
 abbrev pub HeldKey : Key → Type 0
 HeldKey (ByNumber z) = HeldInt z
 HeldKey (ByPath start len) = Unit {0}
 
-abbrev pub HeldParent : Parent → Type 0
-HeldParent Root = Unit {0}
-HeldParent (At i) = i < 2 ^ 32
+abbrev pub HeldParent : Option ℕ → Type 0
+HeldParent None = Unit {0}
+HeldParent (Some i) = i < 2 ^ 32
 
 abbrev pub HeldValue : Value → Type 0
 HeldValue Absent = Unit {0}

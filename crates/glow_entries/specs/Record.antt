@@ -1,5 +1,5 @@
 -- The kinds of entry by value, and their rows: a row begins with the kind and the parent, and each member stands in its cell.
-use Rattle.std.specs.Prelude.{ℕ, ◌≡◌, List, [], ◌∷◌, eqb}
+use Rattle.std.specs.Prelude.{ℕ, ◌≡◌, List, [], ◌∷◌, eqb, Option, Some, None}
 use Rattle.base_choices.specs.Choices.{pick}
 use Rattle.glow_rows.specs.declared.Cell.{Cell}
 use Rattle.glow_rows.specs.Cell.{integer, text, numbers, cell, word_of, cell_of, value_of, number_in}
@@ -10,23 +10,11 @@ use Rattle.glow_rows.specs.Row.{cell_in, same}
 use Rattle.glow_entries.specs.Member.{number_cell, flag_cell, part_cell, key_cell, key_kind, parent_word}
 use Rattle.glow_entries.specs.Member.{int_in, number_of, flag_of, part_of, key_of, parent_of}
 use Rattle.glow_entries.specs.declared.Parameter.{Parameter}
-use Rattle.glow_entries.specs.declared.ReadParameter.{ReadParameter}
-use Rattle.glow_entries.specs.declared.ReadParameter.TheVariants.{Entry as ParameterEntry, Other as ParameterOther}
 use Rattle.glow_entries.specs.declared.Node.{Node}
-use Rattle.glow_entries.specs.declared.ReadNode.{ReadNode}
-use Rattle.glow_entries.specs.declared.ReadNode.TheVariants.{Entry as NodeEntry, Other as NodeOther}
 use Rattle.glow_entries.specs.declared.Matrix.{Matrix}
-use Rattle.glow_entries.specs.declared.ReadMatrix.{ReadMatrix}
-use Rattle.glow_entries.specs.declared.ReadMatrix.TheVariants.{Entry as MatrixEntry, Other as MatrixOther}
 use Rattle.glow_entries.specs.declared.Command.{Command}
-use Rattle.glow_entries.specs.declared.ReadCommand.{ReadCommand}
-use Rattle.glow_entries.specs.declared.ReadCommand.TheVariants.{Entry as CommandEntry, Other as CommandOther}
 use Rattle.glow_entries.specs.declared.Connection.{Connection}
-use Rattle.glow_entries.specs.declared.ReadConnection.{ReadConnection}
-use Rattle.glow_entries.specs.declared.ReadConnection.TheVariants.{Entry as ConnectionEntry, Other as ConnectionOther}
 use Rattle.glow_entries.specs.declared.Stream.{Stream}
-use Rattle.glow_entries.specs.declared.ReadStream.{ReadStream}
-use Rattle.glow_entries.specs.declared.ReadStream.TheVariants.{Entry as StreamEntry, Other as StreamOther}
 
 -- an entry with its members put, each into its cell
 unfoldable pub filled : Entry → List (ℕ × Cell) → Entry
@@ -71,8 +59,8 @@ parameter_of r =
       stream = number_of (cell_in r place.stream);
     }
 
-unfoldable pub parameter_read : List ℕ → ReadParameter
-parameter_read r = read_as parameter_of parameter_row ParameterEntry ParameterOther r
+unfoldable pub parameter_read : List ℕ → Option Parameter
+parameter_read r = read_as parameter_of parameter_row Some None r
 
 -- A node.
 unfoldable pub node_row : Node → List ℕ
@@ -96,8 +84,8 @@ node_of r =
       online = flag_of (cell_in r place.node_online);
     }
 
-unfoldable pub node_read : List ℕ → ReadNode
-node_read r = read_as node_of node_row NodeEntry NodeOther r
+unfoldable pub node_read : List ℕ → Option Node
+node_read r = read_as node_of node_row Some None r
 
 -- A matrix.
 unfoldable pub matrix_row : Matrix → List ℕ
@@ -129,8 +117,8 @@ matrix_of r =
       target_limit = number_of (cell_in r place.target_limit);
     }
 
-unfoldable pub matrix_read : List ℕ → ReadMatrix
-matrix_read r = read_as matrix_of matrix_row MatrixEntry MatrixOther r
+unfoldable pub matrix_read : List ℕ → Option Matrix
+matrix_read r = read_as matrix_of matrix_row Some None r
 
 -- A command.
 unfoldable pub command_row : Command → List ℕ
@@ -148,8 +136,8 @@ command_of r =
       mask = number_of (cell_in r place.mask);
     }
 
-unfoldable pub command_read : List ℕ → ReadCommand
-command_read r = read_as command_of command_row CommandEntry CommandOther r
+unfoldable pub command_read : List ℕ → Option Command
+command_read r = read_as command_of command_row Some None r
 
 -- A connection of a matrix.
 unfoldable pub connection_row : Connection → List ℕ
@@ -169,8 +157,8 @@ connection_of r =
       operation = number_of (cell_in r place.operation);
     }
 
-unfoldable pub connection_read : List ℕ → ReadConnection
-connection_read r = read_as connection_of connection_row ConnectionEntry ConnectionOther r
+unfoldable pub connection_read : List ℕ → Option Connection
+connection_read r = read_as connection_of connection_row Some None r
 
 -- A stream entry.
 unfoldable pub stream_row : Stream → List ℕ
@@ -189,8 +177,8 @@ stream_of r =
     }
 
 -- its value is never absent
-unfoldable pub stream_read : List ℕ → ReadStream
-stream_read r = pick (eqb (cell_in r place.stream_value).kind 0) StreamOther (read_as stream_of stream_row StreamEntry StreamOther r)
+unfoldable pub stream_read : List ℕ → Option Stream
+stream_read r = pick (eqb (cell_in r place.stream_value).kind 0) None (read_as stream_of stream_row Some None r)
 
 -- The numbers of a connection and of a matrix have the words that stand in their cells, whatever row it is.
 pub record ConnectionWords (r : List ℕ) (e : Connection) : Type 0 where

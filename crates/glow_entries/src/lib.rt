@@ -1,10 +1,9 @@
 // The kinds of entry of the Glow tree, by value: each is made from a row of the lent table and put into one.
 #![tactic(auto)]
 
-ghost use Rattle.std.specs.Prelude.{◌≡◌, ◌-◌, ◌≤◌, length, take, drop};
+ghost use Rattle.std.specs.Prelude.{◌≡◌, ◌-◌, ◌≤◌, length, take, drop, Some};
 ghost use Rattle.glow_rows.specs.Cell.{numbers, cell_of, word_of, int_of, value_of, number_in, octets_in};
 ghost use Rattle.glow_rows.specs.Row.{cell_in};
-ghost use Rattle.glow_entries.specs.declared.Number.TheVariants as number_case;
 ghost use Rattle.glow_entries.specs.Member.{number_cell, int_in, number_of, flag_cell, flag_of, part_cell, part_of, parent_word, parent_of};
 ghost use Rattle.glow_entries.specs.Record.{parameter_row, parameter_of, parameter_read, node_row, node_of, node_read, matrix_row, matrix_of, matrix_read};
 ghost use Rattle.glow_entries.specs.Record.{command_row, command_of, command_read, connection_row};
@@ -54,21 +53,21 @@ pub enum Parent {
     At(u32),
 }
 
-fn number_cell(n: Number) -> Cell
+fn number_cell(n: Option<i64>) -> Cell
     ensures { result ≡ number_cell n }
 {
     match n {
-        Number::Absent => absent(),
-        Number::Is(x) => cell_of(Value::Int(x)),
+        None => absent(),
+        Some(x) => cell_of(Value::Int(x)),
     }
 }
 
-fn flag_cell(f: Flag) -> Cell
+fn flag_cell(f: Option<bool>) -> Cell
     ensures { result ≡ flag_cell f }
 {
     match f {
-        Flag::Absent => absent(),
-        Flag::Is(x) => cell_of(Value::Bool(x)),
+        None => absent(),
+        Some(x) => cell_of(Value::Bool(x)),
     }
 }
 
@@ -108,26 +107,26 @@ fn key_kind(k: Key, plain: u64, qualified: u64) -> u64
 }
 
 // The parent's place and 1; 0 where there is none.
-pub fn parent_word(p: Parent) -> u64
+pub fn parent_word(p: Option<u32>) -> u64
     ensures { result ≡ parent_word p }
 {
     match p {
-        Parent::Root => 0,
-        Parent::At(i) => i as u64 + 1,
+        None => 0,
+        Some(i) => i as u64 + 1,
     }
 }
 
-fn number_at(row: &[u64; 50], c: usize) -> Number
+fn number_at(row: &[u64; 50], c: usize) -> Option<i64>
     ensures value { result ≡ number_of (cell_in row.now c) }
     ensures result_value { number_in (number_cell result) ≡ number_in (cell_in row.now c) }
 {
     let v = cell_in(row, c);
     if v.kind == tags::INTEGER {
         if v.second == 0 {
-            return Number::Is(int_of(v.first));
+            return Some(int_of(v.first));
         }
     }
-    Number::Absent
+    None
 }
 
 // What a cell stands for as a number that is never absent.
@@ -138,14 +137,14 @@ fn int_at(row: &[u64; 50], c: usize) -> i64
     int_of(glow_rows::number_of(cell_in(row, c)))
 }
 
-fn flag_at(row: &[u64; 50], c: usize) -> Flag
+fn flag_at(row: &[u64; 50], c: usize) -> Option<bool>
     ensures { result ≡ flag_of (cell_in row.now c) }
 {
     let v = cell_in(row, c);
     if v.kind == tags::BOOLEAN {
-        return Flag::Is(v.first == 1);
+        return Some(v.first == 1);
     }
-    Flag::Absent
+    None
 }
 
 fn part_at(row: &[u64; 50], tag: u64, c: usize) -> Part
@@ -181,17 +180,17 @@ fn key_at(row: &[u64; 50], qualified: u64) -> Key
     Key::Number(int_of(glow_rows::number_of(v)))
 }
 
-fn parent_at(row: &[u64; 50]) -> Parent
+fn parent_at(row: &[u64; 50]) -> Option<u32>
     ensures { result ≡ parent_of row.now }
 {
     let w = row[PARENT];
     if w == 0 {
-        return Parent::Root;
+        return None;
     }
     if w <= 0x100000000 {
-        return Parent::At((w - 1) as u32);
+        return Some((w - 1) as u32);
     }
-    Parent::Root
+    None
 }
 
 // The 64 bits of an integer, in two's complement.
@@ -203,17 +202,17 @@ pub fn int_word(z: i64) -> u64
 }
 
 // The same of a number, 0 where there is none.
-pub fn number_word(n: Number) -> u64
+pub fn number_word(n: Option<i64>) -> u64
     ensures { number_in (number_cell n) ≡ result }
 {
     glow_rows::number_of(number_cell(n))
 }
 
 // The number that 64 bits are.
-pub fn number_from(w: u64) -> Number
-    ensures { result ≡ number_case.Is (int_of w) }
+pub fn number_from(w: u64) -> Option<i64>
+    ensures { result ≡ Some (int_of w) }
 {
-    Number::Is(int_of(w))
+    Some(int_of(w))
 }
 
 // The octets of a list of identifier numbers; none where there is no list, or where they do not lie in the message.
@@ -227,18 +226,18 @@ pub fn span_of(s: &[u8], p: Part) -> Span
 // A parameter, with its value, its minimum and its maximum, of any kind each.
 #[derive(Clone, Copy)]
 pub struct Parameter {
-    pub parent: Parent,
+    pub parent: Option<u32>,
     pub key: Key,
     pub identifier: Part,
     pub description: Part,
     pub value: Value,
     pub minimum: Value,
     pub maximum: Value,
-    pub access: Number,
-    pub factor: Number,
-    pub online: Flag,
-    pub step: Number,
-    pub stream: Number,
+    pub access: Option<i64>,
+    pub factor: Option<i64>,
+    pub online: Option<bool>,
+    pub step: Option<i64>,
+    pub stream: Option<i64>,
 }
 
 // What a row is read as: an entry, or that it is none of this kind.
@@ -322,26 +321,26 @@ fn parameter_at(row: &[u64; 50]) -> Parameter
 }
 
 // The parameter of a row, or that the row is none's.
-pub fn parameter_of(row: &[u64; 50]) -> ReadParameter
+pub fn parameter_of(row: &[u64; 50]) -> Option<Parameter>
     ensures { result ≡ parameter_read row.now }
 {
     let e = parameter_at(row);
     let again = parameter_row(e);
     if is_same(row, &again) {
-        return ReadParameter::Entry(e);
+        return Some(e);
     }
-    ReadParameter::Other
+    None
 }
 
 // A node.
 #[derive(Clone, Copy)]
 pub struct Node {
-    pub parent: Parent,
+    pub parent: Option<u32>,
     pub key: Key,
     pub identifier: Part,
     pub description: Part,
-    pub root: Flag,
-    pub online: Flag,
+    pub root: Option<bool>,
+    pub online: Option<bool>,
 }
 
 // What a row is read as: an entry, or that it is none of this kind.
@@ -401,30 +400,30 @@ fn node_at(row: &[u64; 50]) -> Node
 }
 
 // The node of a row, or that the row is none's.
-pub fn node_of(row: &[u64; 50]) -> ReadNode
+pub fn node_of(row: &[u64; 50]) -> Option<Node>
     ensures { result ≡ node_read row.now }
 {
     let e = node_at(row);
     let again = node_row(e);
     if is_same(row, &again) {
-        return ReadNode::Entry(e);
+        return Some(e);
     }
-    ReadNode::Other
+    None
 }
 
 // A matrix.
 #[derive(Clone, Copy)]
 pub struct Matrix {
-    pub parent: Parent,
+    pub parent: Option<u32>,
     pub key: Key,
     pub identifier: Part,
     pub description: Part,
-    pub matrix_type: Number,
-    pub mode: Number,
-    pub targets: Number,
-    pub sources: Number,
-    pub total_limit: Number,
-    pub target_limit: Number,
+    pub matrix_type: Option<i64>,
+    pub mode: Option<i64>,
+    pub targets: Option<i64>,
+    pub sources: Option<i64>,
+    pub total_limit: Option<i64>,
+    pub target_limit: Option<i64>,
 }
 
 // What a row is read as: an entry, or that it is none of this kind.
@@ -502,23 +501,23 @@ pub fn matrix_at(row: &[u64; 50]) -> Matrix
 }
 
 // The matrix of a row, or that the row is none's.
-pub fn matrix_of(row: &[u64; 50]) -> ReadMatrix
+pub fn matrix_of(row: &[u64; 50]) -> Option<Matrix>
     ensures { result ≡ matrix_read row.now }
 {
     let e = matrix_at(row);
     let again = matrix_row(e);
     if is_same(row, &again) {
-        return ReadMatrix::Entry(e);
+        return Some(e);
     }
-    ReadMatrix::Other
+    None
 }
 
 // A command.
 #[derive(Clone, Copy)]
 pub struct Command {
-    pub parent: Parent,
+    pub parent: Option<u32>,
     pub number: i64,
-    pub mask: Number,
+    pub mask: Option<i64>,
 }
 
 // What a row is read as: an entry, or that it is none of this kind.
@@ -559,24 +558,24 @@ fn command_at(row: &[u64; 50]) -> Command
 }
 
 // The command of a row, or that the row is none's.
-pub fn command_of(row: &[u64; 50]) -> ReadCommand
+pub fn command_of(row: &[u64; 50]) -> Option<Command>
     ensures { result ≡ command_read row.now }
 {
     let e = command_at(row);
     let again = command_row(e);
     if is_same(row, &again) {
-        return ReadCommand::Entry(e);
+        return Some(e);
     }
-    ReadCommand::Other
+    None
 }
 
 // A connection of a matrix.
 #[derive(Clone, Copy)]
 pub struct Connection {
-    pub parent: Parent,
+    pub parent: Option<u32>,
     pub target: i64,
     pub sources: Part,
-    pub operation: Number,
+    pub operation: Option<i64>,
 }
 
 // What a row is read as: an entry, or that it is none of this kind.
@@ -623,21 +622,21 @@ pub fn connection_at(row: &[u64; 50]) -> Connection
 }
 
 // The connection of a row, or that the row is none's.
-pub fn connection_of(row: &[u64; 50]) -> ReadConnection
+pub fn connection_of(row: &[u64; 50]) -> Option<Connection>
     ensures { result ≡ connection_read row.now }
 {
     let e = connection_at(row);
     let again = connection_row(e);
     if is_same(row, &again) {
-        return ReadConnection::Entry(e);
+        return Some(e);
     }
-    ReadConnection::Other
+    None
 }
 
 // A stream entry.
 #[derive(Clone, Copy)]
 pub struct Stream {
-    pub parent: Parent,
+    pub parent: Option<u32>,
     pub identifier: i64,
     pub value: Value,
 }
@@ -680,17 +679,17 @@ fn stream_at(row: &[u64; 50]) -> Stream
 }
 
 // The stream entry of a row, or that the row is none's.
-pub fn stream_of(row: &[u64; 50]) -> ReadStream
+pub fn stream_of(row: &[u64; 50]) -> Option<Stream>
     ensures { result ≡ stream_read row.now }
 {
     let v = cell_in(row, places::STREAM_VALUE);
     if v.kind == tags::ABSENT {
-        return ReadStream::Other;
+        return None;
     }
     let e = stream_at(row);
     let again = stream_row(e);
     if is_same(row, &again) {
-        return ReadStream::Entry(e);
+        return Some(e);
     }
-    ReadStream::Other
+    None
 }

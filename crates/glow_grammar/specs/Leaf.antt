@@ -1,12 +1,11 @@
 -- One value, judged by what stands at its member. Its tag, at `at`, is a universal primitive one with this number; its len content octets stand at `start`.
 -- `above` counts the numbers of the path so far. For other crates: `leaf_at s at number start len what above` is what `read_leaf` of glow_leaves answers.
-use Rattle.std.specs.Prelude.{ℕ, ◌+◌, ◌≤◌, ◌≡◌, ◌⊎◌, List, [], ◌∷◌, Bool, true, false, length, take, drop, leb, ltb, eqb, ℤ, pos, negsuc}
+use Rattle.std.specs.Prelude.{ℕ, ◌+◌, ◌≤◌, ◌≡◌, ◌⊎◌, List, [], ◌∷◌, Bool, true, false, length, take, drop, leb, ltb, eqb, ℤ, pos, negsuc, Option}
 use Rattle.base_choices.specs.Choices.{pick, both}
 use Rattle.ber_integers.specs.Readings.{Reading, done, refused}
 use Rattle.ber_values.specs.declared.Value.{Value}
 use Rattle.ber_values.specs.declared.Value.TheVariants.{Absent, Int, Real, Text, Bool as Truth, Octets}
 use Rattle.ber_values.specs.declared.Answer.{Answer}
-use Rattle.ber_integers.specs.declared.Number.{Number}
 use Rattle.ber_values.specs.Value.{is_listed, content_at, on_number, answer_says}
 use Rattle.ber_identifiers.specs.Identifier.{Arcs, bad, over, numbers, arcs, oid_says, judged as oid_of}
 use Rattle.ber_identifiers.specs.declared.Oid.{Oid}
@@ -142,7 +141,7 @@ Counted what = (expects what universal.integer ≡ true) × (what ≡ step → �
 abbrev pub no_word : ℕ
 no_word = 9223372036854775808
 
-abbrev pub NumberTold : ℕ → Number → ℕ → Type 0
+abbrev pub NumberTold : ℕ → Option ℤ → ℕ → Type 0
 NumberTold what n r = (what ≡ step → ⊥) → (s : List ℕ) (at above next : ℕ)
     → judged s at what above (on_number at next n) ≡ Kept (cell universal.integer r 0) above
 

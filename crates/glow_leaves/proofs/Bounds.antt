@@ -1,5 +1,6 @@
 -- A value that is kept: the count of the path's numbers is at most 16 or as it was (`leaf-bounded`); a text, octets or a relative identifier lie in the
 -- message (`kept-part`); a path has 1 to 16 numbers, each at least 1 (`kept-path`).
+use Rattle.std.specs.Prelude.{Float, Option, Some, None}
 use Prim.Native.Nat.{ℕ, ◌+◌, ◌≤◌, ◌<◌}
 use mathlib.Core.Path.{◌≡◌, refl, sym, subst, ◌∙◌}
 use mathlib.Core.List.{List}
@@ -13,14 +14,8 @@ use lib.IntN.{ℤ}
 use lib.Ieee as Ieee
 use Rattle.base_choices.specs.Choices.{pick}
 use Rattle.base_choices.proofs.Laws.{pick-by, both_left, both_right}
-use Rattle.ber_integers.specs.declared.Number.{Number}
-use Rattle.ber_integers.specs.declared.Number.TheVariants.{Int as Whole, Refused as NoInt}
 use Rattle.ber_integers.specs.Integer.{integer_at}
-use Rattle.ber_reals.specs.declared.Read.{Read}
-use Rattle.ber_reals.specs.declared.Read.TheVariants.{Real as Double, Refused as NoReal}
 use Rattle.ber_reals.specs.Real.{real_at}
-use Rattle.ber_values.specs.declared.Flag.{Flag}
-use Rattle.ber_values.specs.declared.Flag.TheVariants.{Is, Refused as NoFlag}
 use Rattle.ber_values.specs.declared.Value.{Value}
 use Rattle.ber_values.specs.declared.Value.TheVariants.{Absent, Int, Real, Text, Bool as Truth, Octets}
 use Rattle.ber_values.specs.declared.Answer.{Answer}
@@ -145,17 +140,17 @@ module _ (s : List ℕ) (start len : ℕ) where
   AnswerLies Other = Unit {0}
   AnswerLies (Refused number place) = Unit {0}
 
-  flag-lies : (at next : ℕ) (f : Flag) → AnswerLies (on_flag at next f)
-  flag-lies at next (Is b) = tt
-  flag-lies at next NoFlag = tt
+  flag-lies : (at next : ℕ) (f : Option Bool) → AnswerLies (on_flag at next f)
+  flag-lies at next (Some b) = tt
+  flag-lies at next None = tt
 
-  integer-lies : (at next : ℕ) (n : Number) → AnswerLies (on_number at next n)
-  integer-lies at next (Whole z) = tt
-  integer-lies at next NoInt = tt
+  integer-lies : (at next : ℕ) (n : Option ℤ) → AnswerLies (on_number at next n)
+  integer-lies at next (Some z) = tt
+  integer-lies at next None = tt
 
-  double-lies : (at next : ℕ) (x : Read) → AnswerLies (on_real at next x)
-  double-lies at next (Double x) = tt
-  double-lies at next NoReal = tt
+  double-lies : (at next : ℕ) (x : Option Float) → AnswerLies (on_real at next x)
+  double-lies at next (Some x) = tt
+  double-lies at next None = tt
 
   content-lies : (at kind : ℕ) → AnswerLies (content_at s at kind start len)
   unfolding content_at kind_at

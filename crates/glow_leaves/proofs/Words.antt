@@ -1,4 +1,5 @@
 -- Laws of `word_of`: a value told by its first word is what `leaf_at` gives.
+use Rattle.std.specs.Prelude.{Option, Some}
 use Prim.Native.Nat.{ℕ, ◌+◌, ◌≤◌, ◌<◌}
 use mathlib.Core.Path.{◌≡◌, sym, ap, subst, ◌∙◌}
 use mathlib.Core.List.{List}
@@ -10,8 +11,6 @@ use lib.Dec.{leb}
 use lib.IntN.{ℤ}
 use mir.Syntax.{w64}
 use mir.Val.{SFits}
-use Rattle.ber_integers.specs.declared.Number.{Number}
-use Rattle.ber_integers.specs.declared.Number.TheVariants.{Int as Whole}
 use Rattle.ber_integers.specs.Integer.{integer_at}
 use Rattle.ber_values.specs.declared.Value.TheVariants.{Int}
 use Rattle.ber_values.specs.Value.{is_listed, content_at, on_number}
@@ -38,20 +37,20 @@ module _ (what : ℕ) (z : ℤ) {v : Cell} (e : v ≡ cell_of (Int z)) where
   same : cell 2 v.first 0 ≡ cell_of (Int z)
   same = ap (λ (x : Cell). cell 2 x.first 0) e
 
-  pub word-any : what ≡ 4 → NumberTold what (Whole z) v.first
+  pub word-any : what ≡ 4 → NumberTold what (Some z) v.first
   word-any h f s at above next = number-any at what above z h ∙ ap (λ (x : Cell). Kept x above) (sym same)
 
-  pub word_kept : (what ≡ 4 → ⊥) → SFits w64 z → word_in what v.first ≡ true → NumberTold what (Whole z) v.first
+  pub word_kept : (what ≡ 4 → ⊥) → SFits w64 z → word_in what v.first ≡ true → NumberTold what (Some z) v.first
   word_kept h i w f s at above next = number-kept at what above z h (cell-range what i e w) f ∙ ap (λ (x : Cell). Kept x above) (sym same)
 
-pub number-told : (what r : ℕ) {n m : Number} → n ≡ m → NumberTold what m r → NumberTold what n r
+pub number-told : (what r : ℕ) {n m : Option ℤ} → n ≡ m → NumberTold what m r → NumberTold what n r
 number-told what r e t = subst (λ n. NumberTold what n r) (sym e) t
 
 pub list-told : (start : ℕ) {n r : ℕ} {o : Oid} → o ≡ Numbers n → r ≡ start → ListTold start o r
 list-told start e q at len above = ap (oid_leaf at start len above) e ∙ ap (λ (x : ℕ). Kept (cell 13 x len) above) (sym q)
 
 module _ (s : List ℕ) (number start len what : ℕ) (h : leb (start + len) (length s) ≡ true) where
-  pub told-number : {r : ℕ} {n : Number} → number ≡ 2 → Counted what → n ≡ integer_at s start len → NumberTold what n r
+  pub told-number : {r : ℕ} {n : Option ℤ} → number ≡ 2 → Counted what → n ≡ integer_at s start len → NumberTold what n r
       → LeafTold s number start len what r
   unfolding cell_by
   told-number {r} e k i t at above =

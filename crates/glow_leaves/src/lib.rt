@@ -10,7 +10,6 @@ ghost use Rattle.glow_grammar.specs.Leaf.{number_leaf, text_leaf, value_leaf, ju
 
 use base_casts::word;
 use ber_identifiers::{Arc, Oid};
-use ber_integers::Number;
 use ber_values::{Answer, Value};
 use glow_grammar::{Leaf, rules};
 use glow_rows::{Cell, tags as universal};
@@ -203,12 +202,12 @@ fn word_in(what: u64, x: i64) -> u64
     NO_WORD
 }
 
-fn number_word(what: u64, n: Number) -> u64
+fn number_word(what: u64, n: Option<i64>) -> u64
     ensures { (result ≡ no_word → ⊥) → NumberTold what n result }
 {
     match n {
-        Number::Refused => NO_WORD,
-        Number::Int(x) => word_in(what, x),
+        None => NO_WORD,
+        Some(x) => word_in(what, x),
     }
 }
 

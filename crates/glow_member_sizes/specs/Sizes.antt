@@ -1,8 +1,6 @@
 -- Sizes of what is written. A size over the longest message's is one number, and so is the size of what is not legal.
-use Rattle.std.specs.Prelude.{ℕ, ◌+◌, ◌≡◌, List, Bool, true, false, length, leb, eqb}
+use Rattle.std.specs.Prelude.{ℕ, ◌+◌, ◌≡◌, List, Bool, true, false, length, leb, eqb, Option, Some, None}
 use Rattle.base_choices.specs.Choices.{pick}
-use Rattle.ber_integers.specs.declared.Wrote.{Wrote}
-use Rattle.ber_integers.specs.declared.Wrote.TheVariants.{Next, Out}
 use Rattle.ber_tags.specs.Write.{length_octets}
 use Rattle.glow_grammar.specs.declared.Leaf.{Leaf}
 use Rattle.glow_grammar.specs.declared.Leaf.TheVariants.{Kept, Refused as Not}
@@ -24,9 +22,9 @@ cap n = pick (leb n message_limit) n no_size
 unfoldable pub tagged_size : ℕ → ℕ
 tagged_size n = 1 + (length (length_octets n) + n)
 
-abbrev pub next_of : Wrote → ℕ
-next_of (Next n) = n
-next_of Out = 0
+abbrev pub next_of : Option ℕ → ℕ
+next_of (Some n) = n
+next_of None = 0
 
 -- the content octets of a boolean, an integer, or a real that is written
 abbrev pub WordSized : (ℕ → List ℕ) → ℕ → ℕ → ℕ → Type 0

@@ -10,7 +10,7 @@ ghost use Rattle.glow_member_sizes.specs.Spelling.{spelling};
 ghost use Rattle.glow_member_sizes.specs.Sizes.{cap, tagged_size, next_of, WordSized, is_kept, member_size};
 
 use base_casts::{index, word};
-use ber_integers::{Wrote, magnitude, size_of};
+use ber_integers::{magnitude, size_of};
 use glow_grammar::{Leaf, rules};
 use glow_leaves::NO_WORD;
 use glow_rows::{Cell, MOST_BYTES, int_of, tags};
@@ -53,12 +53,12 @@ pub fn around(n: u64) -> u64
 }
 
 // The place after what was written, 0 where the output was too short.
-pub fn place(w: Wrote) -> usize
+pub fn place(w: Option<usize>) -> usize
     ensures { next_of w ≡ result }
 {
     match w {
-        Wrote::Next(n) => n,
-        Wrote::Out => 0,
+        Some(n) => n,
+        None => 0,
     }
 }
 

@@ -1,4 +1,5 @@
 -- What holds of every call of `read`, for what stands above it: `read_at s rows` is its answer and the table after it.
+use Rattle.std.specs.Prelude.{Ok, Err}
 use Prim.Native.Nat.{ℕ, ◌≤◌, ◌<◌}
 use mathlib.Core.Path.{◌≡◌, refl, sym, ap, subst, ◌∙◌}
 use mathlib.Core.List.{List, [], ◌∷◌}
@@ -12,8 +13,6 @@ use types.Run.{OneOf, hit, miss}
 use Rattle.base_choices.specs.Choices.{pick}
 use Rattle.base_choices.proofs.Laws.{pick-by}
 use Rattle.ber_containers.specs.declared.No.{No as Refusal}
-use Rattle.ber_containers.specs.declared.Onto.{Onto}
-use Rattle.ber_containers.specs.declared.Onto.TheVariants.{Next, Refused as Stopped}
 use Rattle.glow_rows.specs.Entry.{Entries, Rows, overlay}
 use Rattle.glow_rows.proofs.Laws.{overlay-length}
 use Rattle.glow_reader.specs.declared.Answer.{Answer}
@@ -24,9 +23,9 @@ use Rattle.glow_reader.proofs.Places.{OntoIn}
 use Rattle.glow_reader.proofs.Within.{EntriesIn, walk-in}
 
 -- The answer by the bytes and the table's length alone.
-abbrev judged_by : ℕ → ℕ → ℕ → Onto → Answer
-judged_by table which count (Next next) = pick (ltb table count) (Room count) (Read which count)
-judged_by table which count (Stopped e) = No e.0 e.1
+abbrev judged_by : ℕ → ℕ → ℕ → Result ℕ No → Answer
+judged_by table which count (Ok next) = pick (ltb table count) (Room count) (Read which count)
+judged_by table which count (Err e) = No e.0 e.1
 
 abbrev pub answered : List ℕ → ℕ → Answer
 answered s table = pick (setup (length s) table) Setup (judged_by table (walk s).which (length (walk s).out.entries) (walk s).out.answer)
@@ -35,10 +34,10 @@ pick-answer : (b : Bool) (x y : Result) → (pick b x y).answer ≡ pick b x.ans
 pick-answer true x y = refl
 pick-answer false x y = refl
 
-judged-answer : (rows : Rows) (which : ℕ) (es : Entries) (a : Onto) → (read_of rows which es a).answer ≡ judged_by (length rows) which (length es) a
-judged-answer rows which es (Next next) =
+judged-answer : (rows : Rows) (which : ℕ) (es : Entries) (a : Result ℕ No) → (read_of rows which es a).answer ≡ judged_by (length rows) which (length es) a
+judged-answer rows which es (Ok next) =
     pick-answer (ltb (length rows) (length es)) (read_result (Room (length es)) rows) (read_result (Read which (length es)) (overlay es rows))
-judged-answer rows which es (Stopped e) = refl
+judged-answer rows which es (Err e) = refl
 
 pub answer-is : (s : List ℕ) (rows : Rows) → (read_at s rows).answer ≡ answered s (length rows)
 unfolding read_at
@@ -77,10 +76,10 @@ said-by : (x y : Result) (b : Bool) → x.said ≡ reply_by x.answer → y.said 
 said-by x y true e f = e
 said-by x y false e f = f
 
-said_of : (rows : Rows) (which : ℕ) (es : Entries) (a : Onto) → (read_of rows which es a).said ≡ reply_by (read_of rows which es a).answer
-said_of rows which es (Next next) =
+said_of : (rows : Rows) (which : ℕ) (es : Entries) (a : Result ℕ No) → (read_of rows which es a).said ≡ reply_by (read_of rows which es a).answer
+said_of rows which es (Ok next) =
     said-by (read_result (Room (length es)) rows) (read_result (Read which (length es)) (overlay es rows)) (ltb (length rows) (length es)) refl refl
-said_of rows which es (Stopped e) = refl
+said_of rows which es (Err e) = refl
 
 module _ (s : List ℕ) (rows : Rows) where
   pub said-is : (read_at s rows).said ≡ reply_by (read_at s rows).answer
@@ -92,11 +91,11 @@ module _ (s : List ℕ) (rows : Rows) where
   abbrev Keeps : Result → Type 0
   Keeps x = Ruled s rows x.rows x.answer
 
-  of-walk : length rows ≤ 256 → (which : ℕ) (es : Entries) (a : Onto) → OntoIn s 0 a → EntriesIn s es → Keeps (read_of rows which es a)
-  of-walk t which es (Next next) w h =
+  of-walk : length rows ≤ 256 → (which : ℕ) (es : Entries) (a : Result ℕ No) → OntoIn s 0 a → EntriesIn s es → Keeps (read_of rows which es a)
+  of-walk t which es (Ok next) w h =
       pick-by Keeps (ltb (length rows) (length es)) (λ e. (refl, ltb-true (length rows) (length es) e))
       (λ e. record { entries = es; counts = refl; holds = refl; parts = h; room = ltb-false (length rows) (length es) e; table = t })
-  of-walk t which es (Stopped e) w h = (refl, w)
+  of-walk t which es (Err e) w h = (refl, w)
 
   setup-no : setup (length s) (length rows) ≡ false → length rows ≤ 256
   unfolding setup
@@ -148,12 +147,12 @@ module _ (s : List ℕ) (rows : Rows) where
       other : (e : Refusal) → OneOf refusals e.0 → eqb e.0 1 ≡ false
       other e h = ne_eqb e.0 1 (λ q. miss refusals 1 tt (subst (OneOf refusals) q h))
 
-      go : (u : Bool) (a : Onto) → OntoIn s 0 a
+      go : (u : Bool) (a : Result ℕ No) → OntoIn s 0 a
           → eqb (pick u (read_result Setup rows) (read_of rows (walk s).which (walk s).out.entries a)).said.number 1 ≡ u
       go true a w = refl
-      go false (Next next) w =
+      go false (Ok next) w =
           pick-by (λ (x : Result). eqb x.said.number 1 ≡ false) (ltb (length rows) (length (walk s).out.entries)) (λ e. refl) (λ e. refl)
-      go false (Stopped e) w = other e w.1
+      go false (Err e) w = other e w.1
 
   -- Every answer but 0 leaves the table as it was.
   pub refused-as-was : is_read (read_at s rows).answer ≡ false → (read_at s rows).rows ≡ rows

@@ -1,4 +1,5 @@
 -- Laws of the answer: judged over no rows first, then filled.
+use Rattle.std.specs.Prelude.{Result, Ok, Err}
 use Prim.Native.Nat.{ℕ, ◌≤◌, ◌<◌}
 use mathlib.Core.Path.{◌≡◌, refl, sym, ap, ◌∙◌}
 use mathlib.Core.List.{List, [], ◌∷◌, ◌++◌}
@@ -6,33 +7,29 @@ use native.Mathlib.Omega.{arith}
 use borrow.Author.Tests.{lt-ltb, le-ltb}
 use lib.ListN.{length}
 use Rattle.ber_containers.specs.declared.No.{No}
-use Rattle.ber_containers.specs.declared.Onto.{Onto}
-use Rattle.ber_containers.specs.declared.Onto.TheVariants.{Next, Refused as Stopped}
 use Rattle.glow_rows.specs.Entry.{Entries, Rows, overlay}
-use Rattle.glow_walk.specs.declared.Whole.{Whole}
-use Rattle.glow_walk.specs.declared.Whole.TheVariants.{Read as ReadWhole, Refused as NotWhole}
 use Rattle.glow_walk.specs.Walk.{walk}
 use Rattle.glow_walk.specs.Progress.{whole, MessageFill}
 use Rattle.glow_reader.specs.declared.Answer.TheVariants.{Setup, Refused as NoTree, Room, Read as ReadTree}
 use Rattle.glow_reader.specs.Message.{setup, read_result, read_of, read_at}
 
-pub whole-no : (which : ℕ) (a : Onto) (n : ℕ) {e : No} → whole which a n ≡ NotWhole e → a ≡ Stopped e
-whole-no which (Next p) n h = let z : ◌≡◌ {A = ℕ} 0 1 = cc in absurd (omega arith)
-whole-no which (Stopped e) n h = cc
+pub whole-no : (which : ℕ) (a : Result ℕ No) (n : ℕ) {e : No} → whole which a n ≡ Err e → a ≡ Err e
+whole-no which (Ok p) n h = let z : ◌≡◌ {A = ℕ} 0 1 = cc in absurd (omega arith)
+whole-no which (Err e) n h = cc
 
 module _ (rows : Rows) (which : ℕ) (es : Entries) {which' count : ℕ} where
-  pub whole_room : (a : Onto) → whole which a (length es) ≡ ReadWhole which' count → length rows < count
+  pub whole_room : (a : Result ℕ No) → whole which a (length es) ≡ Ok (which', count) → length rows < count
       → read_of rows which es a ≡ read_result (Room count) rows
-  whole_room (Next p) h r = let e : length es ≡ count = cc in simp (lt-ltb (length rows) (length es) (rw e r)) (ap (λ n. read_result (Room n) rows) e)
-  whole_room (Stopped e) h r = let z : ◌≡◌ {A = ℕ} 0 1 = cc in absurd (omega arith)
+  whole_room (Ok p) h r = let e : length es ≡ count = cc in simp (lt-ltb (length rows) (length es) (rw e r)) (ap (λ n. read_result (Room n) rows) e)
+  whole_room (Err e) h r = let z : ◌≡◌ {A = ℕ} 0 1 = cc in absurd (omega arith)
 
-  pub whole-filled : (a : Onto) → whole which a (length es) ≡ ReadWhole which' count → count ≤ length rows
+  pub whole-filled : (a : Result ℕ No) → whole which a (length es) ≡ Ok (which', count) → count ≤ length rows
       → read_of rows which es a ≡ read_result (ReadTree which' count) (overlay es rows)
-  whole-filled (Next p) h r =
+  whole-filled (Ok p) h r =
       let e : length es ≡ count = cc in
       let f : which ≡ which' = cc in
       simp (le-ltb (length rows) (length es) (rw e r)) (rw (e, f))
-  whole-filled (Stopped e) h r = let z : ◌≡◌ {A = ℕ} 0 1 = cc in absurd (omega arith)
+  whole-filled (Err e) h r = let z : ◌≡◌ {A = ℕ} 0 1 = cc in absurd (omega arith)
 
 -- What the reader answers: judged over no rows first, then filled.
 module _ (s : List ℕ) (rows : Rows) where
@@ -59,20 +56,20 @@ module _ (s : List ℕ) (rows : Rows) where
             go [] e = refl
             go (x ∷ m) e = absurd (omega arith)
 
-        pub read_no : {w : Whole} {e : No} → MessageFill s [] l w → w ≡ NotWhole e → read_at s rows ≡ read_result (NoTree e.0 e.1) (l ++ rows)
+        pub read_no : {w : Result (ℕ × ℕ) No} {e : No} → MessageFill s [] l w → w ≡ Err e → read_at s rows ≡ read_result (NoTree e.0 e.1) (l ++ rows)
         read_no {e = e} f h =
             judged
             ∙ ap (read_of rows (walk s).which (walk s).out.entries)
             (whole-no (walk s).which (walk s).out.answer (length (walk s).out.entries) (f.answers ∙ h))
             ∙ ap (read_result (NoTree e.0 e.1)) (sym same)
 
-        module _ {w : Whole} {which count : ℕ} (f : MessageFill s [] l w) (h : w ≡ ReadWhole which count) where
+        module _ {w : Result (ℕ × ℕ) No} {which count : ℕ} (f : MessageFill s [] l w) (h : w ≡ Ok (which, count)) where
           pub read-room : length (l ++ rows) < count → read_at s rows ≡ read_result (Room count) (l ++ rows)
           read-room r =
               judged ∙ whole_room rows (walk s).which (walk s).out.entries (walk s).out.answer (f.answers ∙ h) (rw same at r)
               ∙ ap (read_result (Room count)) (sym same)
 
-          pub read-filled : count ≤ length (l ++ rows) → {rows' : Rows} {v : Whole} → MessageFill s (l ++ rows) rows' v
+          pub read-filled : count ≤ length (l ++ rows) → {rows' : Rows} {v : Result (ℕ × ℕ) No} → MessageFill s (l ++ rows) rows' v
               → read_at s rows ≡ read_result (ReadTree which count) rows'
           read-filled r g =
               judged ∙ whole-filled rows (walk s).which (walk s).out.entries (walk s).out.answer (f.answers ∙ h) (rw same at r)

@@ -1,5 +1,7 @@
 -- What is told at a place of the message is told of a place in it, its end included, and not before it: heads, containers, values, members. What is
 -- refused has one of the numbers of refusals, and what is kept is a part of the message.
+use Rattle.std.specs.Prelude.{Float, Option, Some, None, Result, Ok, Err}
+use Rattle.ber_tags.specs.declared.Length.{Length}
 use Prim.Native.Nat.{ℕ, zero, suc, ◌+◌, ◌-◌, ◌*◌, ◌%◌, ◌≤◌, ◌<◌}
 use mathlib.Core.Path.{◌≡◌, refl}
 use mathlib.Core.List.{List}
@@ -11,21 +13,11 @@ use lib.Dec.{leb, ltb, eqb}
 use lib.IntN.{ℤ}
 use types.Run.{OneOf, hit}
 use Rattle.ber_integers.specs.Digits.{natural}
-use Rattle.ber_integers.specs.declared.Number.{Number as Numeral}
-use Rattle.ber_integers.specs.declared.Number.TheVariants.{Int as Whole, Refused as NoInt}
 use Rattle.ber_integers.specs.Integer.{integer_at}
-use Rattle.ber_reals.specs.declared.Read.{Read}
-use Rattle.ber_reals.specs.declared.Read.TheVariants.{Real as Double, Refused as NoReal}
 use Rattle.ber_reals.specs.Real.{real_at}
-use Rattle.ber_tags.specs.declared.Numbered.{Numbered}
-use Rattle.ber_tags.specs.declared.Numbered.TheVariants.{Number, Refused as NoNumber}
-use Rattle.ber_tags.specs.declared.Sized.{Sized}
-use Rattle.ber_tags.specs.declared.Sized.TheVariants.{Length as Long, Refused as NoLength}
 use Rattle.ber_tags.specs.declared.Head.{Head}
 use Rattle.ber_tags.specs.declared.Head.TheVariants.{Tag as HeadTag, Refused as NoHead}
 use Rattle.ber_tags.specs.Tag.{stop, cut, long_number, tag_number, sized, length_at, head_of, after_number, head_at}
-use Rattle.ber_values.specs.declared.Flag.{Flag}
-use Rattle.ber_values.specs.declared.Flag.TheVariants.{Is, Refused as NoFlag}
 use Rattle.ber_values.specs.declared.Value.{Value as Any}
 use Rattle.ber_values.specs.declared.Value.TheVariants.{Absent, Int, Real, Text, Bool as Truth, Octets}
 use Rattle.ber_values.specs.declared.Answer.{Answer}
@@ -37,10 +29,6 @@ use Rattle.ber_containers.specs.declared.Open.{Open}
 use Rattle.ber_containers.specs.declared.Tag.{Tag}
 use Rattle.ber_containers.specs.declared.Stands.{Stands}
 use Rattle.ber_containers.specs.declared.Stands.TheVariants.{Ended, Here, Refused}
-use Rattle.ber_containers.specs.declared.Found.{Found}
-use Rattle.ber_containers.specs.declared.Found.TheVariants.{Value, Refused as NotFound}
-use Rattle.ber_containers.specs.declared.Onto.{Onto}
-use Rattle.ber_containers.specs.declared.Onto.TheVariants.{Next, Refused as Stopped}
 use Rattle.ber_containers.specs.declared.Crossing.{Crossing}
 use Rattle.ber_containers.specs.declared.Crossing.TheVariants.{Over as Ends, Past, Into, Refused as Stuck}
 use Rattle.ber_containers.specs.Ends.{of_head, zero_at, closing_at, standing_at, deep, counted, enter_at, first_of, first_at, last_of, last_at, is_tag}
@@ -90,13 +78,13 @@ is-37 = hit refusals 37 tt
 
 module _ (s : List ℕ) where
   -- heads
-  abbrev NumberIn : Numbered → Type 0
-  NumberIn (Number n p) = p ≤ length s
-  NumberIn (NoNumber place) = place ≤ length s
+  abbrev NumberIn : Result (ℕ × ℕ) ℕ → Type 0
+  NumberIn (Ok (n, p)) = p ≤ length s
+  NumberIn (Err place) = place ≤ length s
 
-  abbrev SizedIn : Sized → Type 0
-  SizedIn (Long l next) = next ≤ length s
-  SizedIn (NoLength place) = place ≤ length s
+  abbrev SizedIn : Result (Length × ℕ) ℕ → Type 0
+  SizedIn (Ok (l, next)) = next ≤ length s
+  SizedIn (Err place) = place ≤ length s
 
   abbrev HeadIn : Head → Type 0
   HeadIn (HeadTag c b n l next) = next ≤ length s
@@ -144,13 +132,13 @@ module _ (s : List ℕ) where
     unfolding head_at
     head_in = by_number (tag_number s at bound) number_in
       where
-        by_length : (b n : ℕ) (z : Sized) → SizedIn z → HeadIn (head_of b n z)
-        by_length b n (Long l next) w = w
-        by_length b n (NoLength place) w = w
+        by_length : (b n : ℕ) (z : Result (Length × ℕ) ℕ) → SizedIn z → HeadIn (head_of b n z)
+        by_length b n (Ok (l, next)) w = w
+        by_length b n (Err place) w = w
 
-        by_number : (r : Numbered) → NumberIn r → HeadIn (after_number s at bound r)
-        by_number (Number n p) w = by_length (get_or s at 0) n (length_at s at bound (leb 32 (get_or s at 0 % 64)) p) (length-in (leb 32 (get_or s at 0 % 64)) p)
-        by_number (NoNumber place) w = w
+        by_number : (r : Result (ℕ × ℕ) ℕ) → NumberIn r → HeadIn (after_number s at bound r)
+        by_number (Ok (n, p)) w = by_length (get_or s at 0) n (length_at s at bound (leb 32 (get_or s at 0 % 64)) p) (length-in (leb 32 (get_or s at 0 % 64)) p)
+        by_number (Err place) w = w
 
   -- a refusal, and a tag after the place p
   abbrev pub NoIn : No → Type 0
@@ -165,13 +153,13 @@ module _ (s : List ℕ) where
   StandsIn p (Here t) = TagIn p t
   StandsIn p (Refused e) = NoIn e
 
-  abbrev pub FoundIn : ℕ → Found → Type 0
-  FoundIn p (Value t) = TagIn p t
-  FoundIn p (NotFound e) = NoIn e
+  abbrev pub FoundIn : ℕ → Result Tag No → Type 0
+  FoundIn p (Ok t) = TagIn p t
+  FoundIn p (Err e) = NoIn e
 
-  abbrev pub OntoIn : ℕ → Onto → Type 0
-  OntoIn p (Next n) = (p ≤ n) × (n ≤ length s)
-  OntoIn p (Stopped e) = NoIn e
+  abbrev pub OntoIn : ℕ → Result ℕ No → Type 0
+  OntoIn p (Ok n) = (p ≤ n) × (n ≤ length s)
+  OntoIn p (Err e) = NoIn e
 
   abbrev CrossIn : ℕ → Crossing → Type 0
   CrossIn p (Ends n) = (p ≤ n) × (n ≤ length s)
@@ -180,9 +168,9 @@ module _ (s : List ℕ) where
   CrossIn p (Stuck e) = NoIn e
 
   -- after an earlier place too
-  pub onto-earlier : {p q : ℕ} → p ≤ q → (x : Onto) → OntoIn q x → OntoIn p x
-  onto-earlier h (Next n) w = (omega (arith, h, w.0), w.1)
-  onto-earlier h (Stopped e) w = w
+  pub onto-earlier : {p q : ℕ} → p ≤ q → (x : Result ℕ No) → OntoIn q x → OntoIn p x
+  onto-earlier h (Ok n) w = (omega (arith, h, w.0), w.1)
+  onto-earlier h (Err e) w = w
 
   -- what stands at p: its place within, and that it is ahead
   abbrev Standing : Stands → Type 0
@@ -204,9 +192,9 @@ module _ (s : List ℕ) where
   skipped-in t a =
       pick-by (OntoIn t.start) (leb t.inner.end (length s)) (λ e. (a.opens, leb-true t.inner.end (length s) e)) (λ e. (omega arith, is-30))
 
-  past-of : {p q : ℕ} → p < q → (x : Onto) → OntoIn q x → CrossIn p (past_of x)
-  past-of h (Next n) w = (omega (arith, h, w.0), w.1)
-  past-of h (Stopped e) w = w
+  past-of : {p q : ℕ} → p < q → (x : Result ℕ No) → OntoIn q x → CrossIn p (past_of x)
+  past-of h (Ok n) w = (omega (arith, h, w.0), w.1)
+  past-of h (Err e) w = w
 
   module _ (p : ℕ) (h : p ≤ length s) where
     closing-in : (o : Open) → Standing (closing_at s p o)
@@ -269,7 +257,7 @@ module _ (s : List ℕ) where
     cross-in o k = cross-of k (standing_at s p o) (standing-in o)
 
   module _ (p : ℕ) where
-    on-crossing : (x : Crossing) (past : ℕ → Onto) (into : Tag → Onto) → CrossIn p x
+    on-crossing : (x : Crossing) (past : ℕ → Result ℕ No) (into : Tag → Result ℕ No) → CrossIn p x
         → ((n : ℕ) → p < n → n ≤ length s → OntoIn p (past n))
         → ((t : Tag) → TagIn p t → OntoIn p (into t)) → OntoIn p (on_crossing x past into)
     on-crossing (Ends n) past into w f g = w
@@ -277,9 +265,9 @@ module _ (s : List ℕ) where
     on-crossing (Into t) past into w f g = g t w
     on-crossing (Stuck e) past into w f g = w
 
-    on-wards : {q : ℕ} → p < q → (x : Onto) (go : ℕ → Onto) → OntoIn q x → ((n : ℕ) → p < n → n ≤ length s → OntoIn p (go n)) → OntoIn p (onwards x go)
-    on-wards h (Next n) go w f = f n (omega (arith, h, w.0)) w.1
-    on-wards h (Stopped e) go w f = w
+    on-wards : {q : ℕ} → p < q → (x : Result ℕ No) (go : ℕ → Result ℕ No) → OntoIn q x → ((n : ℕ) → p < n → n ≤ length s → OntoIn p (go n)) → OntoIn p (onwards x go)
+    on-wards h (Ok n) go w f = f n (omega (arith, h, w.0)) w.1
+    on-wards h (Err e) go w f = w
 
   -- Fuel that is more than what is left of the message never runs out: each turn goes on.
   through-in : (f k : ℕ) (o : Open) (p : ℕ) → p ≤ length s → length s - p < f → OntoIn p (through_by f s k o p)
@@ -313,17 +301,17 @@ module _ (s : List ℕ) where
     AnswerIn (Bad number place) = (place ≤ length s) × OneOf refusals number
 
     module _ (w : start + len ≤ length s) where
-      flag-in : (next : ℕ) (f : Flag) → AnswerIn (on_flag at next f)
-      flag-in next (Is b) = w
-      flag-in next NoFlag = (h, is-30)
+      flag-in : (next : ℕ) (f : Option Bool) → AnswerIn (on_flag at next f)
+      flag-in next (Some b) = w
+      flag-in next None = (h, is-30)
 
-      integer-in : (next : ℕ) (n : Numeral) → AnswerIn (on_number at next n)
-      integer-in next (Whole z) = w
-      integer-in next NoInt = (h, is-30)
+      integer-in : (next : ℕ) (n : Option ℤ) → AnswerIn (on_number at next n)
+      integer-in next (Some z) = w
+      integer-in next None = (h, is-30)
 
-      double-in : (next : ℕ) (x : Read) → AnswerIn (on_real at next x)
-      double-in next (Double x) = w
-      double-in next NoReal = (h, is-35)
+      double-in : (next : ℕ) (x : Option Float) → AnswerIn (on_real at next x)
+      double-in next (Some x) = w
+      double-in next None = (h, is-35)
 
       kind-in : (kind : ℕ) → AnswerIn (kind_at s at kind start len)
       unfolding kind_at
@@ -415,13 +403,13 @@ module _ (s : List ℕ) where
   ItemIn p (NoItem e) = NoIn e
 
   module _ (p : ℕ) where
-    over-of : {q : ℕ} → p < q → (after : ℕ) (x : Onto) → OntoIn q x → MemberIn p (over_of after x)
-    over-of h after (Next n) w = (omega (arith, h, w.0), w.1)
-    over-of h after (Stopped e) w = w
+    over-of : {q : ℕ} → p < q → (after : ℕ) (x : Result ℕ No) → OntoIn q x → MemberIn p (over_of after x)
+    over-of h after (Ok n) w = (omega (arith, h, w.0), w.1)
+    over-of h after (Err e) w = w
 
-    kept_of_lem : {q : ℕ} → p < q → (after c : ℕ) (v : Cell) (above : ℕ) (x : Onto) → CellIn v → OntoIn q x → MemberIn p (kept_of after c v above x)
-    kept_of_lem h after c v above (Next n) i w = (omega (arith, h, w.0), (w.1, i))
-    kept_of_lem h after c v above (Stopped e) i w = w
+    kept_of_lem : {q : ℕ} → p < q → (after c : ℕ) (v : Cell) (above : ℕ) (x : Result ℕ No) → CellIn v → OntoIn q x → MemberIn p (kept_of after c v above x)
+    kept_of_lem h after c v above (Ok n) i w = (omega (arith, h, w.0), (w.1, i))
+    kept_of_lem h after c v above (Err e) i w = w
 
     module _ (t : Tag) (h : TagIn p t) (k : ℕ) where
       plain_in : (g : Tag) → TagIn t.start g → (what above after c : ℕ) → MemberIn p (plain_at s t k g what above after c)
@@ -448,9 +436,9 @@ module _ (s : List ℕ) where
           (λ e. pick-by (MemberIn p) (eqb what body) (λ e. (a, w.1)) (λ e. (a, w.1)))
           (λ e. (h.1, is-33))
 
-      value-of : (what above after c : ℕ) (x : Found) → FoundIn t.start x → MemberIn p (value_of s t k what above after c x)
-      value-of what above after c (Value g) w = pick-by (MemberIn p) (leb body what) (λ e. inner-in g what after w) (λ e. plain_in g w what above after c)
-      value-of what above after c (NotFound e) w = w
+      value-of : (what above after c : ℕ) (x : Result Tag No) → FoundIn t.start x → MemberIn p (value_of s t k what above after c x)
+      value-of what above after c (Ok g) w = pick-by (MemberIn p) (leb body what) (λ e. inner-in g what after w) (λ e. plain_in g w what above after c)
+      value-of what above after c (Err e) w = w
 
       listed_in : (what above after c : ℕ) → MemberIn p (listed_at s t k what above after c)
       unfolding listed_at
@@ -465,10 +453,10 @@ module _ (s : List ℕ) where
           (λ e. listed_in what above (after_listed row before t.number) (column row t.number)))
           (λ e. (w, is-33)))
 
-      element-of : (which : ℕ) (x : Found) → FoundIn t.start x → ItemIn p (element_of which t k x)
-      element-of which (Value g) w =
+      element-of : (which : ℕ) (x : Result Tag No) → FoundIn t.start x → ItemIn p (element_of which t k x)
+      element-of which (Ok g) w =
           pick-by (ItemIn p) (eqb (kind_of which g) 0) (λ e. (h.1, is-33)) (λ e. (omega (arith, h.0.later, w.0.later), w.1))
-      element-of which (NotFound e) w = w
+      element-of which (Err e) w = w
 
     module _ (h : p ≤ length s) (k : ℕ) where
       member_of_lem : (row above before : ℕ) (x : Stands) → StandsIn p x → MemberIn p (member_of s p k row above before x)

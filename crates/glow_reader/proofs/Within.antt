@@ -1,5 +1,7 @@
 -- The walk keeps to the message: every place that it tells lies in it, and every text, octets, path and sources that an entry keeps. It refuses with the
 -- numbers of refusals alone, since its fuel, which is more than what is left of the message, never runs out.
+use Rattle.std.specs.Prelude.{Result, Ok, Err}
+use Rattle.ber_containers.specs.declared.No.{No}
 use Prim.Native.Nat.{ℕ, zero, suc, ◌+◌, ◌-◌, ◌≤◌, ◌<◌}
 use mathlib.Core.Path.{◌≡◌, subst}
 use mathlib.Core.List.{List, [], ◌∷◌, ◌++◌}
@@ -12,10 +14,6 @@ use Rattle.ber_containers.specs.declared.Open.{Open}
 use Rattle.ber_containers.specs.declared.Tag.{Tag}
 use Rattle.ber_containers.specs.declared.Stands.{Stands}
 use Rattle.ber_containers.specs.declared.Stands.TheVariants.{Ended, Here, Refused}
-use Rattle.ber_containers.specs.declared.Found.{Found}
-use Rattle.ber_containers.specs.declared.Found.TheVariants.{Value, Refused as NotFound}
-use Rattle.ber_containers.specs.declared.Onto.{Onto}
-use Rattle.ber_containers.specs.declared.Onto.TheVariants.{Next, Refused as Stopped}
 use Rattle.ber_containers.specs.Ends.{no, enter_at, first_at, last_at, is_tag}
 use Rattle.base_choices.proofs.Laws.{pick-by}
 use Rattle.glow_rows.specs.declared.Cell.{Cell}
@@ -25,8 +23,6 @@ use Rattle.glow_steps.specs.declared.Member.{Member}
 use Rattle.glow_steps.specs.declared.Member.TheVariants.{Done, Over, Leaf, Contents, Items, Refused as NoMember}
 use Rattle.glow_steps.specs.declared.Item.{Item}
 use Rattle.glow_steps.specs.declared.Item.TheVariants.{Done as NoMore, Element, Refused as NoItem}
-use Rattle.glow_steps.specs.declared.Top.{Top}
-use Rattle.glow_steps.specs.declared.Top.TheVariants.{Root, Refused as NoRoot}
 use Rattle.glow_steps.specs.Members.{member_at, item_at}
 use Rattle.glow_walk.specs.Tree.{Out, closed, on_next, then_closed, on_member, on_item, members_by, items_by}
 use Rattle.glow_steps.specs.Root.{unbounded, root_kind, root_in, top_of, top_at}
@@ -87,16 +83,16 @@ module _ (s : List ℕ) where
   out-earlier : {p q : ℕ} → p ≤ q → (x : Out) → OutIn q x → OutIn p x
   out-earlier h x w = (onto-earlier s h x.answer w.0, w.1)
 
-  closed_in : (q : ℕ) (outer : Open) (k : ℕ) (a : Onto) → OntoIn s q a → OntoIn s q (closed s outer k a)
+  closed_in : (q : ℕ) (outer : Open) (k : ℕ) (a : Result ℕ No) → OntoIn s q a → OntoIn s q (closed s outer k a)
   unfolding closed
-  closed_in q outer k (Next n) w = onto-earlier s w.0 (last_at s n outer k) (last-in s n w.1 outer k)
-  closed_in q outer k (Stopped e) w = w
+  closed_in q outer k (Ok n) w = onto-earlier s w.0 (last_at s n outer k) (last-in s n w.1 outer k)
+  closed_in q outer k (Err e) w = w
 
   module _ (p : ℕ) where
-    on-next : {q : ℕ} → p < q → (a : Onto) (es : Entries) (go : ℕ → Entries → Out) → OntoIn s q a → EntriesIn es
+    on-next : {q : ℕ} → p < q → (a : Result ℕ No) (es : Entries) (go : ℕ → Entries → Out) → OntoIn s q a → EntriesIn es
         → ((n : ℕ) (es' : Entries) → p < n → n ≤ length s → EntriesIn es' → OutIn p (go n es')) → OutIn p (on_next a es go)
-    on-next l (Next n) es go w h f = f n es (omega (arith, l, w.0)) w.1 h
-    on-next l (Stopped e) es go w h f = (w, h)
+    on-next l (Ok n) es go w h f = f n es (omega (arith, l, w.0)) w.1 h
+    on-next l (Err e) es go w h f = (w, h)
 
     then-closed : {q : ℕ} → p < q → (outer : Open) (k : ℕ) (x : Out) (go : ℕ → Entries → Out) → OutIn q x
         → ((n : ℕ) (es : Entries) → p < n → n ≤ length s → EntriesIn es → OutIn p (go n es)) → OutIn p (then_closed s outer k x go)
@@ -198,13 +194,13 @@ module _ (s : List ℕ) where
   both-in (suc f) = let r = both-in f in (members_step f r.0 r.1, items-step f r.0 r.1)
 
   -- the whole message
-  abbrev TopIn : Top → Type 0
-  TopIn (Root which outer g) = g.start ≤ length s
-  TopIn (NoRoot e) = NoIn s e
+  abbrev TopIn : Result (ℕ × Open × Tag) No → Type 0
+  TopIn (Ok (which, outer, g)) = g.start ≤ length s
+  TopIn (Err e) = NoIn s e
 
-  root_in_lem : (t : Tag) → t.start ≤ length s → (x : Found) → FoundIn s t.start x → TopIn (root_in t x)
-  root_in_lem t h (Value g) w = pick-by TopIn (eqb (root_kind g) 4) (λ e. (h, is-33)) (λ e. w.1)
-  root_in_lem t h (NotFound e) w = w
+  root_in_lem : (t : Tag) → t.start ≤ length s → (x : Result Tag No) → FoundIn s t.start x → TopIn (root_in t x)
+  root_in_lem t h (Ok g) w = pick-by TopIn (eqb (root_kind g) 4) (λ e. (h, is-33)) (λ e. w.1)
+  root_in_lem t h (Err e) w = w
 
   top-of : (x : Stands) → StandsIn s 0 x → TopIn (top_of s x)
   top-of (Ended n) w = (omega arith, is-33)
@@ -217,23 +213,23 @@ module _ (s : List ℕ) where
   unfolding top_at
   top_in = top-of (enter_at s 0 unbounded 64) (enter-in s 0 (omega arith) unbounded 64)
 
-  finished-in : (p : ℕ) (a : Onto) → OntoIn s p a → OntoIn s p (finished s a)
+  finished-in : (p : ℕ) (a : Result ℕ No) → OntoIn s p a → OntoIn s p (finished s a)
   unfolding finished
-  finished-in p (Next n) w = pick-by (OntoIn s p) (eqb n (length s)) (λ e. w) (λ e. (w.1, is-30))
-  finished-in p (Stopped e) w = w
+  finished-in p (Ok n) w = pick-by (OntoIn s p) (eqb n (length s)) (λ e. w) (λ e. (w.1, is-30))
+  finished-in p (Err e) w = w
 
-  walk-of : (x : Top) → TopIn x → OutIn 0 (walk_of s x).out
-  walk-of (Root which outer g) w =
+  walk-of : (x : Result (ℕ × Open × Tag) No) → TopIn x → OutIn 0 (walk_of s x).out
+  walk-of (Ok (which, outer, g)) w =
       let r = (both-in (suc (length s))).1 62 g.inner which 0 0 g.start [] w (omega arith) tt in
       let x : Out = items_by (suc (length s)) s 62 g.inner which 0 0 g.start [] in
-      out-earlier (omega arith) (walk_of s (Root which outer g)).out
+      out-earlier (omega arith) (walk_of s (Ok (which, outer, g))).out
       (finished-in g.start (closed s outer 63 x.answer) (closed_in g.start outer 63 x.answer r.0), r.1)
-  walk-of (NoRoot e) w = (w, tt)
+  walk-of (Err e) w = (w, tt)
 
   pub walk-in : OutIn 0 (walk s).out
   unfolding walk
   walk-in = walk-of (top_at s) top_in
 
   -- The fuel that the walk is given never runs out: that would be a refusal of number 0.
-  pub fuel-enough : {place : ℕ} → (walk s).out.answer ≡ Stopped (no 0 place) → ⊥
+  pub fuel-enough : {place : ℕ} → (walk s).out.answer ≡ Err (no 0 place) → ⊥
   fuel-enough e = miss refusals 0 tt (subst (OntoIn s 0) e walk-in.0).1

@@ -5,7 +5,6 @@ ghost use Rattle.std.specs.Prelude.{◌≤◌, ◌<◌, ◌≡◌};
 ghost use Rattle.glow_reader.specs.Message.{read_result, read_at};
 
 use glow_rows::{MOST_BYTES, MOST_ENTRIES};
-use glow_walk::Whole;
 
 // What the reader answers.
 #[derive(Clone, Copy)]
@@ -27,11 +26,11 @@ pub fn read(s: &[u8], table: &mut [[u64; 50]]) -> Answer
         return Answer::Setup;
     }
     match glow_walk::message(s, &mut table[..0]) {
-        Whole::Refused(e) => Answer::Refused {
+        Err(e) => Answer::Refused {
             number: e.0,
             place: e.1,
         },
-        Whole::Read(root, count) => {
+        Ok((root, count)) => {
             if table.len() < count {
                 return Answer::Room { count };
             }

@@ -1,4 +1,5 @@
 -- One law for each answer of the turns, at plain variables.
+use Rattle.std.specs.Prelude.{Ok, Err}
 use Prim.Native.Nat.{ℕ, zero, suc, ◌+◌, ◌-◌, ◌*◌, ◌/◌, ◌%◌, ◌^◌, ◌≤◌, ◌<◌}
 use mathlib.Core.Path.{◌≡◌, refl, sym, ◌∙◌}
 use mathlib.Core.List.{List, [], ◌∷◌}
@@ -13,8 +14,6 @@ use Rattle.ber_containers.specs.declared.No.{No}
 use Rattle.ber_containers.specs.declared.Open.{Open}
 use Rattle.ber_containers.specs.declared.Tag.{Tag}
 use Rattle.ber_containers.specs.declared.Stands.TheVariants.{Ended, Here, Refused}
-use Rattle.ber_containers.specs.declared.Found.TheVariants.{Value, Refused as NotFound}
-use Rattle.ber_containers.specs.declared.Onto.TheVariants.{Next, Refused as Stopped}
 use Rattle.ber_containers.specs.Ends.{no, enter_at, first_at, last_at, is_tag}
 use Rattle.ber_containers.specs.Passing.{passed_at}
 use Rattle.glow_rows.specs.declared.Cell.{Cell}
@@ -98,12 +97,12 @@ module _ (s : List ℕ) (t : Tag) (k : ℕ) (g : Tag) (what above after c : ℕ)
     unfolding plain_at
     plain-no l = simp (i, l)
 
-    pub plain_more : {v : Cell} {path : ℕ} {e : No} → judged-as (Kept v path) → last_at s g.inner.end t.inner k ≡ Stopped e
+    pub plain_more : {v : Cell} {path : ℕ} {e : No} → judged-as (Kept v path) → last_at s g.inner.end t.inner k ≡ Err e
         → plain_at s t k g what above after c ≡ NoMember e
     unfolding plain_at
     plain_more l m = simp (i, l, m)
 
-    pub plain-kept : {v : Cell} {path next : ℕ} → judged-as (Kept v path) → last_at s g.inner.end t.inner k ≡ Next next
+    pub plain-kept : {v : Cell} {path next : ℕ} → judged-as (Kept v path) → last_at s g.inner.end t.inner k ≡ Ok next
         → plain_at s t k g what above after c ≡ Cell-of after c v path next
     unfolding plain_at
     plain-kept l m = simp (i, l, m)
@@ -123,27 +122,27 @@ module _ (t : Tag) (k : ℕ) (g : Tag) (what after : ℕ) where
     inner-items h = simp (i, ne_eqb _ _ h)
 
 module _ (s : List ℕ) (t : Tag) (k what above after c : ℕ) where
-  pub listed-missing : {e : No} → first_at s t.start t.inner k ≡ NotFound e → listed_at s t k what above after c ≡ NoMember e
+  pub listed-missing : {e : No} → first_at s t.start t.inner k ≡ Err e → listed_at s t k what above after c ≡ NoMember e
   unfolding listed_at
   listed-missing h = rw h
 
-  pub listed-inner : {g : Tag} → first_at s t.start t.inner k ≡ Value g → 13 ≤ what → listed_at s t k what above after c ≡ inner_at t k g what after
+  pub listed-inner : {g : Tag} → first_at s t.start t.inner k ≡ Ok g → 13 ≤ what → listed_at s t k what above after c ≡ inner_at t k g what after
   unfolding listed_at
   listed-inner h w = simp (h, le-leb _ _ w)
 
-  pub listed_plain : {g : Tag} → first_at s t.start t.inner k ≡ Value g → what < 13
+  pub listed_plain : {g : Tag} → first_at s t.start t.inner k ≡ Ok g → what < 13
       → listed_at s t k what above after c ≡ plain_at s t k g what above after c
   unfolding listed_at
   listed_plain h w = simp (h, lt-leb _ _ w)
 
 module _ (s : List ℕ) (p : ℕ) (t : Tag) (k row above before what : ℕ) where
   module _ (u : what ≡ 0) where
-    pub ruled-over : {next : ℕ} → passed_at s t k ≡ Next next
+    pub ruled-over : {next : ℕ} → passed_at s t k ≡ Ok next
         → ruled_at s p t k row above before what ≡ Over (after_other row before t.number) next
     unfolding ruled_at
     ruled-over e = simp (eq-eqb _ _ u, e)
 
-    pub ruled-over-no : {e : No} → passed_at s t k ≡ Stopped e → ruled_at s p t k row above before what ≡ NoMember e
+    pub ruled-over-no : {e : No} → passed_at s t k ≡ Err e → ruled_at s p t k row above before what ≡ NoMember e
     unfolding ruled_at
     ruled-over-no e = simp (eq-eqb _ _ u, e)
 
@@ -212,11 +211,11 @@ module _ (s : List ℕ) (p : ℕ) (o : Open) (k which : ℕ) where
     item-other i = simp (h, i)
 
     module _ (i : is_tag t 2 1 0 ≡ true) {left : ℕ} (l : left ≡ k - 1) where
-      pub item-missing : {e : No} → first_at s t.start t.inner left ≡ NotFound e → item_at s p o k which ≡ NoItem e
+      pub item-missing : {e : No} → first_at s t.start t.inner left ≡ Err e → item_at s p o k which ≡ NoItem e
       unfolding item_at
       item-missing f = simp (h, i, rw l at f)
 
-      module _ {g : Tag} (f : first_at s t.start t.inner left ≡ Value g) {kind : ℕ} (e : kind_of which g ≡ kind) where
+      module _ {g : Tag} (f : first_at s t.start t.inner left ≡ Ok g) {kind : ℕ} (e : kind_of which g ≡ kind) where
         pub item-kind : kind ≡ 0 → item_at s p o k which ≡ NoItem (no 33 t.start)
         unfolding item_at
         item-kind z = simp (h, i, rw l at f, eq-eqb _ _ (e ∙ z))

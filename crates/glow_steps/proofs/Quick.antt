@@ -1,4 +1,5 @@
 -- A member or an item told at once is what the general turn gives.
+use Rattle.std.specs.Prelude.{Ok}
 use Prim.Native.Nat.{ℕ, ◌+◌, ◌-◌, ◌/◌, ◌%◌, ◌≤◌, ◌<◌}
 use mathlib.Core.Path.{◌≡◌, refl, sym, ap, subst, ◌∙◌}
 use mathlib.Core.Bool.{Bool, true, false}
@@ -11,8 +12,6 @@ use Rattle.base_choices.specs.Choices.{pick}
 use Rattle.ber_containers.specs.declared.Open.{Open}
 use Rattle.ber_containers.specs.declared.Tag.{Tag}
 use Rattle.ber_containers.specs.declared.Stands.TheVariants.{Here}
-use Rattle.ber_containers.specs.declared.Found.TheVariants.{Value}
-use Rattle.ber_containers.specs.declared.Onto.TheVariants.{Next}
 use Rattle.ber_containers.specs.Ends.{no, deep, standing_at, enter_at, first_at, last_at, is_tag}
 use Rattle.ber_containers.specs.Passing.{Through, passed_at}
 use Rattle.ber_containers.specs.Short.{short_tag, Short}
@@ -140,7 +139,7 @@ module _ (s : List ℕ) (p : ℕ) (o : Open) (k : ℕ) (room : 2 ≤ k) (h : Pai
   entered : enter_at s p o k ≡ Here outer
   entered = enter-here s p o k (h.outer o refl) (deep_room _ k (λ (z : k ≡ 0). omega arith))
 
-  found : first_at s (p + 2) inside (k - 1) ≡ Value value
+  found : first_at s (p + 2) inside (k - 1) ≡ Ok value
   found = first-here s (p + 2) inside (k - 1) h.inner (eq-eqb inside.definite inside.definite refl) (deep_room _ (k - 1) (λ
       (z : k - 1 ≡ 0). omega arith))
 
@@ -200,7 +199,7 @@ module _ (s : List ℕ) (p : ℕ) (o : Open) (k row above before what : ℕ) (h 
     ends : within.end ≡ p + 4 + get_or s (p + 3) 0
     ends = ap (λ (y : Open). y.end) opens
 
-    last : last_at s within.end within (k - 1) ≡ Next within.end
+    last : last_at s within.end within (k - 1) ≡ Ok within.end
     last = last-ended s _ within (k - 1) (standing-ended s _ within refl (ap (λ (y : Open). y.definite) opens))
 
     -- the leaf's arguments as the code gives them
@@ -340,27 +339,27 @@ unlisted-is b row before c e r z o = record {
 }
 
 module _ (s : List ℕ) (p b l end k : ℕ) where
-  pub past-plain : l < 128 → b % 64 < 32 → p + 2 + l ≤ length s → passed_at s (short_tag b (p + 2) l end) k ≡ Next (p + 2 + l)
+  pub past-plain : l < 128 → b % 64 < 32 → p + 2 + l ≤ length s → passed_at s (short_tag b (p + 2) l end) k ≡ Ok (p + 2 + l)
   past-plain h f m =
       ap (λ (t : Tag). passed_at s t k) (short-definite b (p + 2) l end h)
       ∙ passed-skip s (tag_in b (p + 2) (definite (p + 2 + l))) k (λ q. omega arith)
       ∙ skip-next s (tag_in b (p + 2) (definite (p + 2 + l))) m
 
-  pub past-in : {r : ℕ} → l < 128 → 32 ≤ b % 64 → Through s k (definite (p + 2 + l)) (p + 2) (Next r)
-      → passed_at s (short_tag b (p + 2) l end) k ≡ Next r
+  pub past-in : {r : ℕ} → l < 128 → 32 ≤ b % 64 → Through s k (definite (p + 2 + l)) (p + 2) (Ok r)
+      → passed_at s (short_tag b (p + 2) l end) k ≡ Ok r
   past-in h f i =
       let c : b % 64 / 32 ≡ 1 = omega arith in
       ap (λ (t : Tag). passed_at s t k) (short-definite b (p + 2) l end h) ∙ passed-in s (tag_in b (p + 2) (definite (p + 2 + l))) k c i
 
-  pub past_open : {r : ℕ} → l ≤ 128 → 128 ≤ l → 32 ≤ b % 64 → Through s k (indefinite end) (p + 2) (Next r)
-      → passed_at s (short_tag b (p + 2) l end) k ≡ Next r
+  pub past_open : {r : ℕ} → l ≤ 128 → 128 ≤ l → 32 ≤ b % 64 → Through s k (indefinite end) (p + 2) (Ok r)
+      → passed_at s (short_tag b (p + 2) l end) k ≡ Ok r
   past_open m n f i =
       let h : l ≡ 128 = omega arith in
       let c : b % 64 / 32 ≡ 1 = omega arith in
       ap (λ (t : Tag). passed_at s t k) (short-open b (p + 2) l end h) ∙ passed-in s (tag_in b (p + 2) (indefinite end)) k c i
 
 pub over-told : (s : List ℕ) (p end k row before : ℕ) {l r : ℕ} → (k ≡ 0 → ⊥) → Short s p end l → Unlisted (get_or s p 0) row before
-    → passed_at s (short_tag (get_or s p 0) (p + 2) l end) (k - 1) ≡ Next r → p < r → OverTold s p end k row before r
+    → passed_at s (short_tag (get_or s p 0) (p + 2) l end) (k - 1) ≡ Ok r → p < r → OverTold s p end k row before r
 unfolding short_tag
 over-told s p end k row before {l} z h u e m = record {
   inside = omega (arith, h.inside);

@@ -1,4 +1,5 @@
 -- Laws of Root, and of the small tables that the turns read.
+use Rattle.std.specs.Prelude.{Ok, Err}
 use Prim.Native.Nat.{ℕ}
 use mathlib.Core.Path.{◌≡◌, sym, ◌∙◌}
 use mathlib.Core.List.{List}
@@ -7,12 +8,10 @@ use borrow.Author.Tests.{eq-eqb, ne_eqb}
 use Rattle.ber_containers.specs.declared.No.{No}
 use Rattle.ber_containers.specs.declared.Tag.{Tag}
 use Rattle.ber_containers.specs.declared.Stands.TheVariants.{Ended, Here, Refused}
-use Rattle.ber_containers.specs.declared.Found.TheVariants.{Value, Refused as NotFound}
 use Rattle.ber_containers.specs.Ends.{no, enter_at, first_at, is_tag}
 use Rattle.glow_grammar.specs.Grammar.{body, kids, children, connections, root_elements, streams, no_root, application, universal, set, sequence}
 use Rattle.glow_grammar.specs.Grammar.{element_collection, stream_collection, root_element_collection}
 use Rattle.glow_grammar.specs.Grammar.{inner_class, inner_number, collection_of, root_of}
-use Rattle.glow_steps.specs.declared.Top.TheVariants.{Root, Refused as NoRoot}
 use Rattle.glow_steps.specs.Root.{unbounded, root_kind, top_at}
 
 module _ (what : ℕ) where
@@ -67,29 +66,29 @@ module _ (g : Tag) where
   root-held i = simp i
 
 module _ (s : List ℕ) where
-  pub top-no : {e : No} → enter_at s 0 unbounded 64 ≡ Refused e → top_at s ≡ NoRoot e
+  pub top-no : {e : No} → enter_at s 0 unbounded 64 ≡ Refused e → top_at s ≡ Err e
   unfolding top_at
   top-no h = rw h
 
-  pub top-ended : {n : ℕ} → enter_at s 0 unbounded 64 ≡ Ended n → top_at s ≡ NoRoot (no 33 0)
+  pub top-ended : {n : ℕ} → enter_at s 0 unbounded 64 ≡ Ended n → top_at s ≡ Err (no 33 0)
   unfolding top_at
   top-ended h = rw h
 
   module _ {t : Tag} (h : enter_at s 0 unbounded 64 ≡ Here t) where
-    pub top-other : is_tag t 1 1 0 ≡ false → top_at s ≡ NoRoot (no 33 0)
+    pub top-other : is_tag t 1 1 0 ≡ false → top_at s ≡ Err (no 33 0)
     unfolding top_at
     top-other i = simp (h, i)
 
     module _ (i : is_tag t 1 1 0 ≡ true) where
-      pub top-missing : {e : No} → first_at s t.start t.inner 63 ≡ NotFound e → top_at s ≡ NoRoot e
+      pub top-missing : {e : No} → first_at s t.start t.inner 63 ≡ Err e → top_at s ≡ Err e
       unfolding top_at
       top-missing f = simp (h, i, f)
 
-      module _ {g : Tag} (f : first_at s t.start t.inner 63 ≡ Value g) {which : ℕ} (e : root_kind g ≡ which) where
-        pub top-none : which ≡ 4 → top_at s ≡ NoRoot (no 33 t.start)
+      module _ {g : Tag} (f : first_at s t.start t.inner 63 ≡ Ok g) {which : ℕ} (e : root_kind g ≡ which) where
+        pub top-none : which ≡ 4 → top_at s ≡ Err (no 33 t.start)
         unfolding top_at
         top-none z = simp (h, i, f, eq-eqb _ _ (e ∙ z))
 
-        pub top-root : (which ≡ 4 → ⊥) → top_at s ≡ Root which t.inner g
+        pub top-root : (which ≡ 4 → ⊥) → top_at s ≡ Ok (which, t.inner, g)
         unfolding top_at
         top-root z = rw (← e) (simp (h, i, f, ne_eqb _ _ (λ q. z (sym e ∙ q))))

@@ -1,10 +1,9 @@
 -- For quick answers that may give up: a member or an item told at once, where tags and lengths take one octet each and the value fills its outer tag.
-use Rattle.std.specs.Prelude.{ℕ, ◌+◌, ◌/◌, ◌%◌, ◌≤◌, ◌<◌, ◌≡◌, true, false, List, length, get_or, ltb, eqb}
+use Rattle.std.specs.Prelude.{ℕ, ◌+◌, ◌/◌, ◌%◌, ◌≤◌, ◌<◌, ◌≡◌, true, false, List, length, get_or, ltb, eqb, Ok}
 use Rattle.base_choices.specs.Choices.{pick}
 use Rattle.ber_containers.specs.declared.Open.{Open}
 use Rattle.ber_containers.specs.declared.Tag.{Tag}
 use Rattle.ber_containers.specs.declared.Stands.TheVariants.{Here}
-use Rattle.ber_containers.specs.declared.Onto.TheVariants.{Next}
 use Rattle.ber_containers.specs.Ends.{standing_at}
 use Rattle.ber_containers.specs.Passing.{passed_at}
 use Rattle.ber_containers.specs.Short.{not_shut, short_tag}
@@ -60,7 +59,7 @@ pub record Unlisted (b row before : ℕ) : Type 0 where
 
 -- any answer but not_shut is the place after the value of a tag at p, of one octet, with the length l
 abbrev pub Pasts : List ℕ → ℕ → ℕ → ℕ → ℕ → ℕ → ℕ → Type 0
-Pasts s p b l end k r = (r ≡ not_shut → ⊥) → (passed_at s (short_tag b (p + 2) l end) k ≡ Next r) × (p < r)
+Pasts s p b l end k r = (r ≡ not_shut → ⊥) → (passed_at s (short_tag b (p + 2) l end) k ≡ Ok r) × (p < r)
 
 -- `next` is the place after a member at p that is not listed
 pub record OverTold (s : List ℕ) (p end k row before next : ℕ) : Type 0 where

@@ -1,16 +1,13 @@
 -- One turn of the walk: what stands at a place among the members of a row of the grammar, or in a collection (document 01, "Glow").
 -- No turn recurs; what is to be gone into is told.
-use Rattle.std.specs.Prelude.{ℕ, ◌+◌, ◌-◌, ◌/◌, ◌%◌, ◌^◌, List, Bool, true, false, not, leb, ltb, eqb}
+use Rattle.ber_containers.specs.declared.No.{No}
+use Rattle.std.specs.Prelude.{ℕ, ◌+◌, ◌-◌, ◌/◌, ◌%◌, ◌^◌, List, Bool, true, false, not, leb, ltb, eqb, Result, Ok, Err}
 use Rattle.std.specs.Int.Bits.{bit_or}
 use Rattle.base_choices.specs.Choices.{pick, unless}
 use Rattle.ber_containers.specs.declared.Open.{Open}
 use Rattle.ber_containers.specs.declared.Tag.{Tag}
 use Rattle.ber_containers.specs.declared.Stands.{Stands}
 use Rattle.ber_containers.specs.declared.Stands.TheVariants.{Ended, Here, Refused}
-use Rattle.ber_containers.specs.declared.Found.{Found}
-use Rattle.ber_containers.specs.declared.Found.TheVariants.{Value, Refused as NotFound}
-use Rattle.ber_containers.specs.declared.Onto.{Onto}
-use Rattle.ber_containers.specs.declared.Onto.TheVariants.{Next, Refused as Stopped}
 use Rattle.ber_containers.specs.Ends.{no, enter_at, first_at, last_at, is_tag}
 use Rattle.ber_containers.specs.Passing.{passed_at}
 use Rattle.glow_rows.specs.declared.Cell.{Cell}
@@ -58,13 +55,13 @@ column row n = pick (is_set row) (n + 1) n
 
 -- The tag t of a member, with k containers allowed inside it; `above` counts the numbers of the path so far.
 
-abbrev pub over_of : ℕ → Onto → Member
-over_of after (Next next) = Over after next
-over_of after (Stopped e) = NoMember e
+abbrev pub over_of : ℕ → Result ℕ No → Member
+over_of after (Ok next) = Over after next
+over_of after (Err e) = NoMember e
 
-abbrev pub kept_of : ℕ → ℕ → Cell → ℕ → Onto → Member
-kept_of after c v above (Next next) = Cell-of after c v above next
-kept_of after c v above (Stopped e) = NoMember e
+abbrev pub kept_of : ℕ → ℕ → Cell → ℕ → Result ℕ No → Member
+kept_of after c v above (Ok next) = Cell-of after c v above next
+kept_of after c v above (Err e) = NoMember e
 
 -- a value kept, and nothing after it in its outer tag
 abbrev pub leaf_of : List ℕ → Tag → ℕ → Tag → ℕ → ℕ → Leaf → Member
@@ -85,9 +82,9 @@ inner_at t k g what after =
     (pick (eqb what body) (Contents after t.inner g k) (Items after (collection_of what) t.inner g k))
     (NoMember (no 33 t.start))
 
-abbrev pub value_of : List ℕ → Tag → ℕ → ℕ → ℕ → ℕ → ℕ → Found → Member
-value_of s t k what above after c (Value g) = pick (leb body what) (inner_at t k g what after) (plain_at s t k g what above after c)
-value_of s t k what above after c (NotFound e) = NoMember e
+abbrev pub value_of : List ℕ → Tag → ℕ → ℕ → ℕ → ℕ → ℕ → Result Tag No → Member
+value_of s t k what above after c (Ok g) = pick (leb body what) (inner_at t k g what after) (plain_at s t k g what above after c)
+value_of s t k what above after c (Err e) = NoMember e
 
 -- a listed member
 unfoldable pub listed_at : List ℕ → Tag → ℕ → ℕ → ℕ → ℕ → ℕ → Member
@@ -118,10 +115,10 @@ member_at s p o k row above before = member_of s p k row above before (enter_at 
 unfoldable pub kind_of : ℕ → Tag → ℕ
 kind_of which g = pick (is_tag g application 1 g.number) (kind_in which g.number) 0
 
-abbrev pub element_of : ℕ → Tag → ℕ → Found → Item
-element_of which t k (Value g) =
+abbrev pub element_of : ℕ → Tag → ℕ → Result Tag No → Item
+element_of which t k (Ok g) =
     pick (eqb (kind_of which g) 0) (NoItem (no 33 t.start)) (Element (kind_of which g) t.inner g k)
-element_of which t k (NotFound e) = NoItem e
+element_of which t k (Err e) = NoItem e
 
 -- "Item of any collection: 0, no other."
 abbrev pub item_of : List ℕ → ℕ → ℕ → ℕ → Stands → Item

@@ -12,7 +12,7 @@ ghost use Rattle.glow_steps.specs.Root.{root_kind, top_at};
 ghost use Rattle.glow_steps.specs.Progress.{MemberOnward, InnerOnward, ItemOnward};
 
 use base_casts::{index, wide};
-use ber_containers::{Found, No, Onto, Open, Stands, Tag};
+use ber_containers::{No, Open, Stands, Tag};
 use glow_grammar::{Leaf, collections, rules, tags};
 use glow_rows::Cell;
 
@@ -154,8 +154,8 @@ fn plain(
         Leaf::Kept(v, path) => {
             let outer = t.inner;
             match ber_containers::last(s, end, outer, k) {
-                Onto::Refused(e) => Member::Refused(e),
-                Onto::Next(next) => Member::Leaf(after, c, v, path, next),
+                Err(e) => Member::Refused(e),
+                Ok(next) => Member::Leaf(after, c, v, path, next),
             }
         }
     }
@@ -216,8 +216,8 @@ fn listed(s: &[u8], t: Tag, k: usize, what: u64, above: usize, after: u64, c: us
     ensures member_onward { MemberOnward s.now t.start result }
 {
     match ber_containers::first(s, t.start, t.inner, k) {
-        Found::Refused(e) => Member::Refused(e),
-        Found::Value(g) => {
+        Err(e) => Member::Refused(e),
+        Ok(g) => {
             if rules::BODY <= what {
                 return inner(t, k, g, what, after);
             }
@@ -237,10 +237,10 @@ fn ruled(s: &[u8], p: usize, t: Tag, k: usize, row: u64, above: usize, before: u
     if what == rules::NONE {
         let after = after_other(row, before, n);
         match ber_containers::passed(s, t, k) {
-            Onto::Refused(e) => {
+            Err(e) => {
                 return Member::Refused(e);
             }
-            Onto::Next(next) => {
+            Ok(next) => {
                 return Member::Over(after, next);
             }
         }
@@ -510,8 +510,8 @@ pub fn item_at(s: &[u8], p: usize, o: Open, k: usize, which: u64) -> Item
             let outer = t.inner;
             let left = ber_containers::less(k);
             match ber_containers::first(s, start, outer, left) {
-                Found::Refused(e) => Item::Refused(e),
-                Found::Value(g) => {
+                Err(e) => Item::Refused(e),
+                Ok(g) => {
                     let kind = kind_of(which, g);
                     if kind == 0 {
                         return Item::Refused(No(33, start));
@@ -546,7 +546,7 @@ fn root_kind(g: Tag) -> u64
 }
 
 // Root and the collection in it.
-pub fn root_of(s: &[u8]) -> Top
+pub fn root_of(s: &[u8]) -> Result<(u64, Open, Tag), No>
     ensures { top_at s.now ≡ result }
 {
     let all = Open {
@@ -554,22 +554,22 @@ pub fn root_of(s: &[u8]) -> Top
         end: 18446744073709551615,
     };
     match ber_containers::entering(s, 0, all, collections::DEPTH) {
-        Stands::Refused(e) => Top::Refused(e),
-        Stands::Ended(next) => Top::Refused(No(33, 0)),
+        Stands::Refused(e) => Err(e),
+        Stands::Ended(next) => Err(No(33, 0)),
         Stands::Here(t) => {
             if !ber_containers::is_tag(t, tags::APPLICATION, 1, tags::ROOT) {
-                return Top::Refused(No(33, 0));
+                return Err(No(33, 0));
             }
             let start = t.start;
             let outer = t.inner;
             match ber_containers::first(s, start, outer, collections::IN_ROOT) {
-                Found::Refused(e) => Top::Refused(e),
-                Found::Value(g) => {
+                Err(e) => Err(e),
+                Ok(g) => {
                     let which = root_kind(g);
                     if which == collections::NO_ROOT {
-                        return Top::Refused(No(33, start));
+                        return Err(No(33, start));
                     }
-                    Top::Root(which, outer, g)
+                    Ok((which, outer, g))
                 }
             }
         }

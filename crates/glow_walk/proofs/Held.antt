@@ -1,4 +1,5 @@
 -- One turn, as the code makes it: the rows are those of some entries, and what is left gives what the whole gives.
+use Rattle.std.specs.Prelude.{Result, Ok, Err}
 use Prim.Native.Nat.{ℕ, ◌+◌, ◌-◌, ◌≤◌, ◌<◌}
 use mathlib.Core.Path.{◌≡◌, refl, ap, sym, subst, ◌∙◌}
 use mathlib.Core.Bool.{true, false}
@@ -9,7 +10,6 @@ use Rattle.base_choices.proofs.Laws.{pick-by}
 use Rattle.ber_containers.specs.declared.No.{No}
 use Rattle.ber_containers.specs.declared.Open.{Open}
 use Rattle.ber_containers.specs.declared.Tag.{Tag}
-use Rattle.ber_containers.specs.declared.Onto.TheVariants.{Next, Refused as Stopped}
 use Rattle.ber_containers.specs.declared.Stands.TheVariants.{Ended as HasEnded}
 use Rattle.ber_containers.specs.Ends.{no, enter_at}
 use Rattle.glow_rows.specs.declared.Cell.{Cell}
@@ -22,8 +22,6 @@ use Rattle.glow_steps.specs.declared.Item.TheVariants.{Done as NoMore, Element, 
 use Rattle.glow_walk.specs.declared.Cursor.{Cursor}
 use Rattle.glow_walk.specs.declared.Turn.{Turn}
 use Rattle.glow_walk.specs.declared.Turn.TheVariants.{On, Read as Ended, Refused as NoTurn}
-use Rattle.glow_walk.specs.declared.Walked.{Walked}
-use Rattle.glow_walk.specs.declared.Walked.TheVariants.{Read, Refused as NotRead}
 use Rattle.glow_steps.specs.Members.{due, member_at, item_at}
 use Rattle.glow_steps.proofs.Laws.{member-due, member-done}
 use Rattle.glow_walk.specs.Tree.{Out, out, closed, MembersGive, ItemsGive}
@@ -33,26 +31,26 @@ use Rattle.glow_walk.proofs.Ways.{members-done, members-no, members-over, member
 use Rattle.glow_walk.proofs.Ways.{items-done, items-no, element-no, element-in, counted-no, counted-read}
 
 -- what was gone into, closed
-module _ {Inner : Out → Type 0} {base rows' : Rows} {v : Walked} (s : List ℕ) (outer : Open) (j : ℕ) (f : FillsIn s outer j Inner base rows' v) where
-  closed-no : {e : No} → v ≡ NotRead e → closed s outer j f.given.answer ≡ Stopped e
+module _ {Inner : Out → Type 0} {base rows' : Rows} {v : Result (ℕ × ℕ) No} (s : List ℕ) (outer : Open) (j : ℕ) (f : FillsIn s outer j Inner base rows' v) where
+  closed-no : {e : No} → v ≡ Err e → closed s outer j f.given.answer ≡ Err e
   closed-no q = counted-no _ _ (f.answers ∙ q)
 
-  closed_in : {next n : ℕ} → v ≡ Read next n → (closed s outer j f.given.answer ≡ Next next) × (length f.given.entries ≡ n)
+  closed_in : {next n : ℕ} → v ≡ Ok (next, n) → (closed s outer j f.given.answer ≡ Ok next) × (length f.given.entries ≡ n)
   closed_in q = counted-read _ _ (f.answers ∙ q)
 
 module _ {All : Out → Type 0} {base : Rows} {rows : Rows} {count : ℕ} where
   module _ (s : List ℕ) (k : ℕ) (o : Open) (row me above p before : ℕ) (h : Held All (MembersGive s k o row me above p before) base rows count) where
-    held-done : {next : ℕ} → member_at s p o k row above before ≡ Done next → Fills All base rows (Read next count)
+    held-done : {next : ℕ} → member_at s p o k row above before ≡ Done next → Fills All base rows (Ok (next, count))
     held-done {next} e = record {
-      given = out (Next next) h.es;
+      given = out (Ok next) h.es;
       gives = h.gives _ (members-done s k o row me above p before h.es e);
-      answers = ap (λ n. Read next n) h.counts;
+      answers = ap (λ n. Ok (next, n)) h.counts;
       holds = h.holds;
     }
 
-    held-no : {e : No} → member_at s p o k row above before ≡ NoMember e → Fills All base rows (NotRead e)
+    held-no : {e : No} → member_at s p o k row above before ≡ NoMember e → Fills All base rows (Err e)
     held-no {e} q = record {
-      given = out (Stopped e) h.es;
+      given = out (Err e) h.es;
       gives = h.gives _ (members-no s k o row me above p before h.es q);
       answers = refl;
       holds = h.holds;
@@ -77,18 +75,18 @@ module _ {All : Out → Type 0} {base : Rows} {rows : Rows} {count : ℕ} where
       gives = λ x g. h.gives x (members-leaf s k o row me above p before h.es e w l g);
     }
 
-    module _ {after j : ℕ} {outer : Open} {g : Tag} {rows' : Rows} {v : Walked}
+    module _ {after j : ℕ} {outer : Open} {g : Tag} {rows' : Rows} {v : Result (ℕ × ℕ) No}
         (e : member_at s p o k row above before ≡ Contents after outer g j) (w : p < length s) (l : p < g.start)
         (f : FillsIn s outer j (MembersGive s (j - 1) g.inner (contents_of row) me above g.start 0 h.es) base rows' v) where
-      held-contents-no : {r : No} → v ≡ NotRead r → Fills All base rows' (NotRead r)
+      held-contents-no : {r : No} → v ≡ Err r → Fills All base rows' (Err r)
       held-contents-no {r} q = record {
-        given = out (Stopped r) f.given.entries;
+        given = out (Err r) f.given.entries;
         gives = h.gives _ (contents-no s k o row me above p before h.es e w l f.gives (closed-no s outer j f q));
         answers = refl;
         holds = f.holds;
       }
 
-      held-contents : {next n : ℕ} → v ≡ Read next n → p < next → Held All (MembersGive s k o row me above next after) base rows' n
+      held-contents : {next n : ℕ} → v ≡ Ok (next, n) → p < next → Held All (MembersGive s k o row me above next after) base rows' n
       held-contents q m = record {
         es = f.given.entries;
         counts = (closed_in s outer j f q).1;
@@ -96,18 +94,18 @@ module _ {All : Out → Type 0} {base : Rows} {rows : Rows} {count : ℕ} where
         gives = λ y d. h.gives y (contents-in s k o row me above p before h.es e w l f.gives (closed_in s outer j f q).0 m d);
       }
 
-    module _ {after j which : ℕ} {outer : Open} {g : Tag} {rows' : Rows} {v : Walked}
+    module _ {after j which : ℕ} {outer : Open} {g : Tag} {rows' : Rows} {v : Result (ℕ × ℕ) No}
         (e : member_at s p o k row above before ≡ Items after which outer g j) (w : p < length s) (l : p < g.start)
         (f : FillsIn s outer j (ItemsGive s (j - 1) g.inner which (me + 1) above g.start h.es) base rows' v) where
-      held-list-no : {r : No} → v ≡ NotRead r → Fills All base rows' (NotRead r)
+      held-list-no : {r : No} → v ≡ Err r → Fills All base rows' (Err r)
       held-list-no {r} q = record {
-        given = out (Stopped r) f.given.entries;
+        given = out (Err r) f.given.entries;
         gives = h.gives _ (list-no s k o row me above p before h.es e w l f.gives (closed-no s outer j f q));
         answers = refl;
         holds = f.holds;
       }
 
-      held-list : {next n : ℕ} → v ≡ Read next n → p < next → Held All (MembersGive s k o row me above next after) base rows' n
+      held-list : {next n : ℕ} → v ≡ Ok (next, n) → p < next → Held All (MembersGive s k o row me above next after) base rows' n
       held-list q m = record {
         es = f.given.entries;
         counts = (closed_in s outer j f q).1;
@@ -116,35 +114,35 @@ module _ {All : Out → Type 0} {base : Rows} {rows : Rows} {count : ℕ} where
       }
 
   module _ (s : List ℕ) (k : ℕ) (o : Open) (which parent above p : ℕ) (h : Held All (ItemsGive s k o which parent above p) base rows count) where
-    item-held-done : {next : ℕ} → item_at s p o k which ≡ NoMore next → Fills All base rows (Read next count)
+    item-held-done : {next : ℕ} → item_at s p o k which ≡ NoMore next → Fills All base rows (Ok (next, count))
     item-held-done {next} e = record {
-      given = out (Next next) h.es;
+      given = out (Ok next) h.es;
       gives = h.gives _ (items-done s k o which parent above p h.es e);
-      answers = ap (λ n. Read next n) h.counts;
+      answers = ap (λ n. Ok (next, n)) h.counts;
       holds = h.holds;
     }
 
-    item-held-no : {e : No} → item_at s p o k which ≡ NoItem e → Fills All base rows (NotRead e)
+    item-held-no : {e : No} → item_at s p o k which ≡ NoItem e → Fills All base rows (Err e)
     item-held-no {e} q = record {
-      given = out (Stopped e) h.es;
+      given = out (Err e) h.es;
       gives = h.gives _ (items-no s k o which parent above p h.es q);
       answers = refl;
       holds = h.holds;
     }
 
-    module _ {kind j : ℕ} {outer : Open} {g : Tag} {rows' : Rows} {v : Walked}
+    module _ {kind j : ℕ} {outer : Open} {g : Tag} {rows' : Rows} {v : Result (ℕ × ℕ) No}
         (e : item_at s p o k which ≡ Element kind outer g j) (w : p < length s) (l : p < g.start)
         (f : FillsIn s outer j (MembersGive s (j - 1) g.inner kind (length h.es) above g.start 0
         (h.es ++ (blank kind parent ∷ []))) base rows' v) where
-      item-held-element-no : {z : No} → v ≡ NotRead z → Fills All base rows' (NotRead z)
+      item-held-element-no : {z : No} → v ≡ Err z → Fills All base rows' (Err z)
       item-held-element-no {z} q = record {
-        given = out (Stopped z) f.given.entries;
+        given = out (Err z) f.given.entries;
         gives = h.gives _ (element-no s k o which parent above p h.es e w l f.gives (closed-no s outer j f q));
         answers = refl;
         holds = f.holds;
       }
 
-      item-held-element : {next n : ℕ} → v ≡ Read next n → p < next → Held All (ItemsGive s k o which parent above next) base rows' n
+      item-held-element : {next n : ℕ} → v ≡ Ok (next, n) → p < next → Held All (ItemsGive s k o which parent above next) base rows' n
       item-held-element q m = record {
         es = f.given.entries;
         counts = (closed_in s outer j f q).1;
@@ -165,7 +163,7 @@ module _ (Left : Cursor → Entries → Out → Type 0) {All : Out → Type 0} {
       let u = t h.es base h.counts h.holds in
       record { es = u.es; counts = u.counts; holds = u.holds; gives = λ x g. h.gives x (u.gives x g) }
 
-  then-end : {r : Walked} → Fills (Left at h.es) base rows' r → Fills All base rows' r
+  then-end : {r : Result (ℕ × ℕ) No} → Fills (Left at h.es) base rows' r → Fills All base rows' r
   then-end f = record { given = f.given; gives = h.gives _ f.gives; answers = f.answers; holds = f.holds }
 
 -- how far on a turn is
@@ -174,33 +172,33 @@ pub on-onward : (s : List ℕ) (p n : ℕ) {next before above : ℕ} {r : Turn} 
 on-onward s p n e w l m = subst (TurnOnward s p n) e (w, (l, (omega arith, omega arith)))
 
 -- .. after what an outer tag holds
-inside-onward : (s : List ℕ) (p start n before above : ℕ) (v : Walked) {r : Turn} → onward_of before above v ≡ r → p < length s → p < start
+inside-onward : (s : List ℕ) (p start n before above : ℕ) (v : Result (ℕ × ℕ) No) {r : Turn} → onward_of before above v ≡ r → p < length s → p < start
     → WalkedOnward start n v → TurnOnward s p n r
 unfolding onward_of
 inside-onward s p start n before above v t w l u = subst (TurnOnward s p n) t (go v u)
   where
-    go : (v : Walked) → WalkedOnward start n v → TurnOnward s p n (onward_of before above v)
-    go (Read next count) y = (w, (omega (arith, y.0), (y.1.0, y.1.1)))
-    go (NotRead e) y = tt
+    go : (v : Result (ℕ × ℕ) No) → WalkedOnward start n v → TurnOnward s p n (onward_of before above v)
+    go (Ok (next, count)) y = (w, (omega (arith, y.0), (y.1.0, y.1.1)))
+    go (Err e) y = tt
 
-pub onward-no : (before above : ℕ) {w : Walked} {e : No} → w ≡ NotRead e → onward_of before above w ≡ NoTurn e
+pub onward-no : (before above : ℕ) {w : Result (ℕ × ℕ) No} {e : No} → w ≡ Err e → onward_of before above w ≡ NoTurn e
 unfolding onward_of
 onward-no before above q = rw q
 
-pub onward-read : (before above : ℕ) {w : Walked} {next n : ℕ} {r : Turn} → w ≡ Read next n → On (cursor next before above n) ≡ r
+pub onward-read : (before above : ℕ) {w : Result (ℕ × ℕ) No} {next n : ℕ} {r : Turn} → w ≡ Ok (next, n) → On (cursor next before above n) ≡ r
     → onward_of before above w ≡ r
 unfolding onward_of
 onward-read before above q e = rw q e
 
-pub ended-due : (row : ℕ) (at : Cursor) (next : ℕ) → due row at.before 268435456 ≡ true → ended_of row at next ≡ NotRead (no 33 at.place)
+pub ended-due : (row : ℕ) (at : Cursor) (next : ℕ) → due row at.before 268435456 ≡ true → ended_of row at next ≡ Err (no 33 at.place)
 unfolding ended_of
 ended-due row at next d = rw d
 
-pub ended-read : (row : ℕ) (at : Cursor) (next : ℕ) → due row at.before 268435456 ≡ false → ended_of row at next ≡ Read next at.count
+pub ended-read : (row : ℕ) (at : Cursor) (next : ℕ) → due row at.before 268435456 ≡ false → ended_of row at next ≡ Ok (next, at.count)
 unfolding ended_of
 ended-read row at next d = rw d
 
-pub ended-onward : (row : ℕ) (at : Cursor) (next from n : ℕ) {r : Walked} → ended_of row at next ≡ r → from ≤ at.place → at.place ≤ next
+pub ended-onward : (row : ℕ) (at : Cursor) (next from n : ℕ) {r : Result (ℕ × ℕ) No} → ended_of row at next ≡ r → from ≤ at.place → at.place ≤ next
     → at.count ≤ at.place → n ≤ at.count → WalkedOnward from n r
 unfolding ended_of
 ended-onward row at next from n e l h m w =
@@ -214,13 +212,13 @@ module _ (s : List ℕ) (k : ℕ) (o : Open) (row me : ℕ) (at : Cursor) {rows 
       (subst (Turns (MembersLeft s k o row me) at rows rows') e t.turned)
 
   pub members-end : {All : Out → Type 0} {base rows' : Rows} {r : Turn} {next n : ℕ} → Held All (MembersLeft s k o row me at) base rows at.count
-      → MembersTurn s k o row me at rows rows' r → r ≡ Ended next n → Fills All base rows' (Read next n)
+      → MembersTurn s k o row me at rows rows' r → r ≡ Ended next n → Fills All base rows' (Ok (next, n))
   members-end {base = base} {rows' = rows'} h t e =
       then-end (MembersLeft s k o row me) at h
       (subst (Turns (MembersLeft s k o row me) at rows rows') e t.turned h.es base h.counts h.holds)
 
   pub members-stop : {All : Out → Type 0} {base rows' : Rows} {r : Turn} {e : No} → Held All (MembersLeft s k o row me at) base rows at.count
-      → MembersTurn s k o row me at rows rows' r → r ≡ NoTurn e → Fills All base rows' (NotRead e)
+      → MembersTurn s k o row me at rows rows' r → r ≡ NoTurn e → Fills All base rows' (Err e)
   members-stop {base = base} {rows' = rows'} h t e =
       then-end (MembersLeft s k o row me) at h
       (subst (Turns (MembersLeft s k o row me) at rows rows') e t.turned h.es base h.counts h.holds)
@@ -235,7 +233,7 @@ module _ (s : List ℕ) (k : ℕ) (o : Open) (row me : ℕ) (at : Cursor) {rows 
   pub turn-no : {x : No} → member_at s at.place o k row at.above at.before ≡ NoMember x → MembersTurn s k o row me at rows rows (NoTurn x)
   turn-no q = record { turned = λ es base e h. held-no s k o row me at.above at.place at.before (here (MembersLeft s k o row me) at es base e h) q }
 
-  pub members-ended : {All : Out → Type 0} {base : Rows} {next : ℕ} {r : Walked} → Held All (MembersLeft s k o row me at) base rows at.count
+  pub members-ended : {All : Out → Type 0} {base : Rows} {next : ℕ} {r : Result (ℕ × ℕ) No} → Held All (MembersLeft s k o row me at) base rows at.count
       → enter_at s at.place o k ≡ HasEnded next → ended_of row at next ≡ r → Fills All base rows r
   unfolding ended_of
   members-ended {All} {base} h q e =
@@ -269,7 +267,7 @@ module _ (s : List ℕ) (k : ℕ) (o : Open) (row me : ℕ) (at : Cursor) {rows 
     on-onward s at.place at.count x w l b,
   )
 
-  module _ {after j : ℕ} {outer : Open} {g : Tag} {rows' : Rows} {v : Walked} {r : Turn}
+  module _ {after j : ℕ} {outer : Open} {g : Tag} {rows' : Rows} {v : Result (ℕ × ℕ) No} {r : Turn}
       (q : member_at s at.place o k row at.above at.before ≡ Contents after outer g j) (w : at.place < length s) (l : at.place < g.start)
       (f : ContentsFill s g.inner outer j row me at.above g.start at.count rows rows' v) (u : WalkedOnward g.start at.count v)
       (t : onward_of after at.above v ≡ r) where
@@ -280,17 +278,17 @@ module _ (s : List ℕ) (k : ℕ) (o : Open) (row me : ℕ) (at : Cursor) {rows 
       inside-onward s at.place g.start at.count after at.above v t w l u,
     )
       where
-        go : (v : Walked)
+        go : (v : Result (ℕ × ℕ) No)
             → ((es : Entries) (base : Rows) → length es ≡ at.count → rows ≡ overlay es base
             → FillsIn s outer j (MembersGive s (j - 1) g.inner (contents_of row) me at.above g.start 0 es) base rows' v)
             → WalkedOnward g.start at.count v → Turns (MembersLeft s k o row me) at rows rows' (onward_of after at.above v)
-        go (Read next n) f u es base e h =
+        go (Ok (next, n)) f u es base e h =
             held-contents s k o row me at.above at.place at.before (here (MembersLeft s k o row me) at es base e h) q w l (f es base e h) refl
             (omega (arith, u.0))
-        go (NotRead z) f u es base e h =
+        go (Err z) f u es base e h =
             held-contents-no s k o row me at.above at.place at.before (here (MembersLeft s k o row me) at es base e h) q w l (f es base e h) refl
 
-  module _ {after j which : ℕ} {outer : Open} {g : Tag} {rows' : Rows} {v : Walked} {r : Turn}
+  module _ {after j which : ℕ} {outer : Open} {g : Tag} {rows' : Rows} {v : Result (ℕ × ℕ) No} {r : Turn}
       (q : member_at s at.place o k row at.above at.before ≡ Items after which outer g j) (w : at.place < length s) (l : at.place < g.start)
       (f : ListFill s g.inner outer j which (me + 1) at.above g.start at.count rows rows' v) (u : WalkedOnward g.start at.count v)
       (t : onward_of after at.above v ≡ r) where
@@ -301,19 +299,19 @@ module _ (s : List ℕ) (k : ℕ) (o : Open) (row me : ℕ) (at : Cursor) {rows 
       inside-onward s at.place g.start at.count after at.above v t w l u,
     )
       where
-        go : (v : Walked)
+        go : (v : Result (ℕ × ℕ) No)
             → ((es : Entries) (base : Rows) → length es ≡ at.count → rows ≡ overlay es base
             → FillsIn s outer j (ItemsGive s (j - 1) g.inner which (me + 1) at.above g.start es) base rows' v)
             → WalkedOnward g.start at.count v → Turns (MembersLeft s k o row me) at rows rows' (onward_of after at.above v)
-        go (Read next n) f u es base e h =
+        go (Ok (next, n)) f u es base e h =
             held-list s k o row me at.above at.place at.before (here (MembersLeft s k o row me) at es base e h) q w l (f es base e h) refl
             (omega (arith, u.0))
-        go (NotRead z) f u es base e h =
+        go (Err z) f u es base e h =
             held-list-no s k o row me at.above at.place at.before (here (MembersLeft s k o row me) at es base e h) q w l (f es base e h) refl
 
-fewer : (p n : ℕ) (v : Walked) → WalkedOnward p (n + 1) v → WalkedOnward p n v
-fewer p n (Read next count) h = (h.0, (h.1.0, omega (arith, h.1.1)))
-fewer p n (NotRead e) h = tt
+fewer : (p n : ℕ) (v : Result (ℕ × ℕ) No) → WalkedOnward p (n + 1) v → WalkedOnward p n v
+fewer p n (Ok (next, count)) h = (h.0, (h.1.0, omega (arith, h.1.1)))
+fewer p n (Err e) h = tt
 
 module _ (s : List ℕ) (k : ℕ) (o : Open) (which parent : ℕ) (at : Cursor) {rows : Rows} where
   pub items-on : {All : Out → Type 0} {base rows' : Rows} {r : Turn} {c : Cursor} → Held All (ItemsLeft s k o which parent at) base rows at.count
@@ -322,13 +320,13 @@ module _ (s : List ℕ) (k : ℕ) (o : Open) (which parent : ℕ) (at : Cursor) 
       (subst (Turns (ItemsLeft s k o which parent) at rows rows') e t.turned)
 
   pub items-end : {All : Out → Type 0} {base rows' : Rows} {r : Turn} {next n : ℕ} → Held All (ItemsLeft s k o which parent at) base rows at.count
-      → ItemsTurn s k o which parent at rows rows' r → r ≡ Ended next n → Fills All base rows' (Read next n)
+      → ItemsTurn s k o which parent at rows rows' r → r ≡ Ended next n → Fills All base rows' (Ok (next, n))
   items-end {base = base} {rows' = rows'} h t e =
       then-end (ItemsLeft s k o which parent) at h
       (subst (Turns (ItemsLeft s k o which parent) at rows rows') e t.turned h.es base h.counts h.holds)
 
   pub items-stop : {All : Out → Type 0} {base rows' : Rows} {r : Turn} {e : No} → Held All (ItemsLeft s k o which parent at) base rows at.count
-      → ItemsTurn s k o which parent at rows rows' r → r ≡ NoTurn e → Fills All base rows' (NotRead e)
+      → ItemsTurn s k o which parent at rows rows' r → r ≡ NoTurn e → Fills All base rows' (Err e)
   items-stop {base = base} {rows' = rows'} h t e =
       then-end (ItemsLeft s k o which parent) at h
       (subst (Turns (ItemsLeft s k o which parent) at rows rows') e t.turned h.es base h.counts h.holds)
@@ -345,7 +343,7 @@ module _ (s : List ℕ) (k : ℕ) (o : Open) (which parent : ℕ) (at : Cursor) 
         (here (ItemsLeft s k o which parent) at es base e h) q;
   }
 
-  module _ {kind j : ℕ} {outer : Open} {g : Tag} {rows' : Rows} {v : Walked} {r : Turn}
+  module _ {kind j : ℕ} {outer : Open} {g : Tag} {rows' : Rows} {v : Result (ℕ × ℕ) No} {r : Turn}
       (q : item_at s at.place o k which ≡ Element kind outer g j) (w : at.place < length s) (l : at.place < g.start)
       (f : EntryFill s g.inner outer j kind parent at.above g.start at.count rows rows' v)
       (u : WalkedOnward g.start (at.count + 1) v) (t : onward_of 0 at.above v ≡ r) where
@@ -356,22 +354,22 @@ module _ (s : List ℕ) (k : ℕ) (o : Open) (which parent : ℕ) (at : Cursor) 
       inside-onward s at.place g.start at.count 0 at.above v t w l (fewer g.start at.count v u),
     )
       where
-        go : (v : Walked)
+        go : (v : Result (ℕ × ℕ) No)
             → ((es : Entries) (base : Rows) → length es ≡ at.count → rows ≡ overlay es base
             → FillsIn s outer j (MembersGive s (j - 1) g.inner kind (length es) at.above g.start 0 (es ++ (blank kind parent ∷ []))) base rows' v)
             → WalkedOnward g.start at.count v → Turns (ItemsLeft s k o which parent) at rows rows' (onward_of 0 at.above v)
-        go (Read next n) f u es base e h =
+        go (Ok (next, n)) f u es base e h =
             item-held-element s k o which parent at.above at.place (here (ItemsLeft s k o which parent) at es base e h) q w l (f es base e h) refl
             (omega (arith, u.0))
-        go (NotRead z) f u es base e h =
+        go (Err z) f u es base e h =
             item-held-element-no s k o which parent at.above at.place (here (ItemsLeft s k o which parent) at es base e h) q w l (f es base e h) refl
 
 -- what an outer tag holds, by what was read in it and closed
-fills-in : {s : List ℕ} {outer : Open} {j : ℕ} {Gives : Out → Type 0} {base rows : Rows} {x v : Walked} → Fills Gives base rows x
+fills-in : {s : List ℕ} {outer : Open} {j : ℕ} {Gives : Out → Type 0} {base rows : Rows} {x v : Result (ℕ × ℕ) No} → Fills Gives base rows x
     → Closes s outer j x v → FillsIn s outer j Gives base rows v
 fills-in f c = record { given = f.given; gives = f.gives; answers = c _ _ f.answers; holds = f.holds }
 
-module _ (s : List ℕ) (o outer : Open) {j k : ℕ} (above from n : ℕ) {rows rows' : Rows} {x v : Walked} (ek : k ≡ j - 1) where
+module _ (s : List ℕ) (o outer : Open) {j k : ℕ} (above from n : ℕ) {rows rows' : Rows} {x v : Result (ℕ × ℕ) No} (ek : k ≡ j - 1) where
   pub contents-fill : {row row' me : ℕ} → contents_of row ≡ row' → MembersFill s k o row' me above from n rows rows' x → Closes s outer j x v
       → ContentsFill s o outer j row me above from n rows rows' v
   contents-fill er f c = record { filled = λ es base e h. fills-in (rw (er, ← ek) (f.filled es base e h)) c }

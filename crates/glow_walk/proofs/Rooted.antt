@@ -1,4 +1,5 @@
 -- Laws of the whole message.
+use Rattle.std.specs.Prelude.{Result, Ok, Err}
 use Prim.Native.Nat.{ℕ, suc}
 use mathlib.Core.Path.{◌≡◌, refl, ◌∙◌}
 use mathlib.Core.List.{List, []}
@@ -8,40 +9,34 @@ use lib.ListN.{length}
 use Rattle.ber_containers.specs.declared.No.{No}
 use Rattle.ber_containers.specs.declared.Open.{Open}
 use Rattle.ber_containers.specs.declared.Tag.{Tag}
-use Rattle.ber_containers.specs.declared.Onto.{Onto}
 use Rattle.ber_containers.specs.Ends.{no}
 use Rattle.glow_rows.specs.Entry.{Rows, overlay}
-use Rattle.glow_steps.specs.declared.Top.TheVariants.{Root, Refused as NoRoot}
 use Rattle.glow_steps.specs.Root.{top_at}
-use Rattle.glow_walk.specs.declared.Walked.{Walked}
-use Rattle.glow_walk.specs.declared.Walked.TheVariants.{Read, Refused as NotRead}
-use Rattle.glow_walk.specs.declared.Whole.{Whole}
-use Rattle.glow_walk.specs.declared.Whole.TheVariants.{Read as ReadWhole, Refused as NotWhole}
 use Rattle.glow_walk.specs.Walk.{finished, walk}
 use Rattle.glow_walk.specs.Tree.{ItemsGive}
 use Rattle.glow_walk.specs.Progress.{counted, whole, Closes, Finishes, Fills, ItemsFill, MessageFill}
 use Rattle.glow_walk.proofs.Ways.{counted-no, counted-read}
 
-module _ (s : List ℕ) (which : ℕ) {w : Walked} (a : Onto) (n : ℕ) (h : counted a n ≡ w) where
-  pub finish-no : {e : No} → w ≡ NotRead e → whole which (finished s a) n ≡ NotWhole e
+module _ (s : List ℕ) (which : ℕ) {w : Result (ℕ × ℕ) No} (a : Result ℕ No) (n : ℕ) (h : counted a n ≡ w) where
+  pub finish-no : {e : No} → w ≡ Err e → whole which (finished s a) n ≡ Err e
   unfolding finished
   finish-no i = rw (counted-no a n (h ∙ i))
 
-  pub finish-read : {q m : ℕ} → w ≡ Read q m → q ≡ length s → whole which (finished s a) n ≡ ReadWhole which m
+  pub finish-read : {q m : ℕ} → w ≡ Ok (q, m) → q ≡ length s → whole which (finished s a) n ≡ Ok (which, m)
   unfolding finished
   finish-read i l = rw ((counted-read a n (h ∙ i)).0, (counted-read a n (h ∙ i)).1) (simp (eq-eqb _ _ l))
 
-  pub finish-left : {q m : ℕ} → w ≡ Read q m → (q ≡ length s → ⊥) → whole which (finished s a) n ≡ NotWhole (no 30 q)
+  pub finish-left : {q m : ℕ} → w ≡ Ok (q, m) → (q ≡ length s → ⊥) → whole which (finished s a) n ≡ Err (no 30 q)
   unfolding finished
   finish-left i l = rw (counted-read a n (h ∙ i)).0 (simp (ne_eqb _ _ l))
 
 -- a message as the code reads it
 module _ (s : List ℕ) (rows rows' : Rows) where
-  pub message-no : {e : No} → top_at s ≡ NoRoot e → rows' ≡ rows → MessageFill s rows rows' (NotWhole e)
+  pub message-no : {e : No} → top_at s ≡ Err e → rows' ≡ rows → MessageFill s rows rows' (Err e)
   unfolding walk overlay
   message-no h same = record { answers = rw h; holds = rw h same }
 
-  pub message-root : {which k : ℕ} {outer : Open} {g : Tag} {w v : Walked} {r : Whole} → top_at s ≡ Root which outer g
+  pub message-root : {which k : ℕ} {outer : Open} {g : Tag} {w v : Result (ℕ × ℕ) No} {r : Result (ℕ × ℕ) No} → top_at s ≡ Ok (which, outer, g)
       → ItemsFill s k g.inner which 0 0 g.start 0 rows rows' w → k ≡ 62
       → Closes s outer 63 w v → Finishes s which v r → MessageFill s rows rows' r
   unfolding walk overlay

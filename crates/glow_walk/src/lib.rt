@@ -9,11 +9,11 @@ ghost use Rattle.glow_walk.specs.Progress.{WalkedOnward, TurnOnward, Keeps, Clos
 ghost use Rattle.glow_walk.specs.Progress.{NestedRoom, MembersTurn, ItemsTurn, ContentsFill, ListFill, EntryFill, MembersFill, ItemsFill, MessageFill};
 
 use base_casts::{size, wide, word};
-use ber_containers::{No, Onto, Open};
+use ber_containers::{No, Open};
 use glow_grammar::{Leaf, collections, rules, tags};
 use glow_rows::Cell;
 use glow_rows::tags::TEXT;
-use glow_steps::{Item, Member, Top};
+use glow_steps::{Item, Member};
 
 // The place after what was read, and the count of entries so far.
 #[derive(Clone, Copy)]
@@ -92,20 +92,25 @@ fn worded(number: u64, first: u64, len: usize) -> Cell
 }
 
 // What was read in an outer tag is the one thing that it holds.
-fn close(s: &[u8], outer: Open, k: usize, w: Walked) -> Walked
+fn close(
+    s: &[u8],
+    outer: Open,
+    k: usize,
+    w: Result<(usize, usize), No>,
+) -> Result<(usize, usize), No>
     ensures closes { Closes s.now outer k w result }
     ensures keeps { Keeps w result }
 {
     match w {
-        Walked::Refused(e) => Walked::Refused(e),
-        Walked::Read(next, count) => {
+        Err(e) => Err(e),
+        Ok((next, count)) => {
             let z = ber_containers::shut(s, next, outer);
             if z != ber_containers::NOT_SHUT {
-                return Walked::Read(z, count);
+                return Ok((z, count));
             }
             match ber_containers::last(s, next, outer, k) {
-                Onto::Refused(e) => Walked::Refused(e),
-                Onto::Next(q) => Walked::Read(q, count),
+                Err(e) => Err(e),
+                Ok(q) => Ok((q, count)),
             }
         }
     }
@@ -123,23 +128,23 @@ fn on(place: usize, before: u64, above: usize, count: usize) -> Turn
 }
 
 // The cursor after a container that was gone into and closed.
-fn onward(before: u64, above: usize, w: Walked) -> Turn
+fn onward(before: u64, above: usize, w: Result<(usize, usize), No>) -> Turn
     ensures { onward_of before above w ≡ result }
 {
     match w {
-        Walked::Refused(e) => Turn::Refused(e),
-        Walked::Read(place, count) => on(place, before, above, count),
+        Err(e) => Turn::Refused(e),
+        Ok((place, count)) => on(place, before, above, count),
     }
 }
 
 // The end of a row's members, with the place after it: a required member may be missing.
-fn ended(row: u64, at: Cursor, next: usize) -> Walked
+fn ended(row: u64, at: Cursor, next: usize) -> Result<(usize, usize), No>
     ensures { ended_of row at next ≡ result }
 {
     if glow_steps::is_due(row, at.before, tags::PAST_ALL) {
-        return Walked::Refused(No(33, at.place));
+        return Err(No(33, at.place));
     }
-    Walked::Read(next, at.count)
+    Ok((next, at.count))
 }
 
 fn is_leaf(what: u64) -> bool
@@ -191,7 +196,7 @@ fn contents(
     me: usize,
     at: Cursor,
     table: &mut [[u64; 50]],
-) -> Walked
+) -> Result<(usize, usize), No>
     requires { (me < at.count) × (at.count ≤ from) }
     ensures contents_fill { ContentsFill s.now o outer left row me at.above from at.count table.old table.new result }
     ensures walked_onward { WalkedOnward from at.count result }
@@ -214,7 +219,7 @@ fn list(
     parent: usize,
     at: Cursor,
     table: &mut [[u64; 50]],
-) -> Walked
+) -> Result<(usize, usize), No>
     requires { at.count ≤ from }
     ensures list_fill { ListFill s.now o outer left which parent at.above from at.count table.old table.new result }
     ensures walked_onward { WalkedOnward from at.count result }
@@ -236,7 +241,7 @@ fn entry(
     parent: usize,
     at: Cursor,
     table: &mut [[u64; 50]],
-) -> Walked
+) -> Result<(usize, usize), No>
     requires { at.count < from }
     ensures entry_fill { EntryFill s.now o outer left kind parent at.above from at.count table.old table.new result }
     ensures walked_onward { WalkedOnward from (at.count + 1) result }
@@ -332,7 +337,7 @@ fn element(
     above: usize,
     n: usize,
     table: &mut [[u64; 50]],
-) -> Walked
+) -> Result<(usize, usize), No>
     requires { (me < n) × (n ≤ from) }
     ensures members_fill { MembersFill s.now k o row me above from n table.old table.new result }
     ensures walked_onward { WalkedOnward from n result }
@@ -350,10 +355,10 @@ fn element(
                     at = next;
                 }
                 Turn::Read(next, count) => {
-                    return Walked::Read(next, count);
+                    return Ok((next, count));
                 }
                 Turn::Refused(e) => {
-                    return Walked::Refused(e);
+                    return Err(e);
                 }
             }
         } else {
@@ -362,10 +367,10 @@ fn element(
                     at = next;
                 }
                 Turn::Read(next, count) => {
-                    return Walked::Read(next, count);
+                    return Ok((next, count));
                 }
                 Turn::Refused(e) => {
-                    return Walked::Refused(e);
+                    return Err(e);
                 }
             }
         }
@@ -421,7 +426,7 @@ fn items(
     above: usize,
     n: usize,
     table: &mut [[u64; 50]],
-) -> Walked
+) -> Result<(usize, usize), No>
     requires { n ≤ from }
     ensures items_fill { ItemsFill s.now k o which parent above from n table.old table.new result }
     ensures walked_onward { WalkedOnward from n result }
@@ -433,37 +438,37 @@ fn items(
                 at = next;
             }
             Turn::Read(next, count) => {
-                return Walked::Read(next, count);
+                return Ok((next, count));
             }
             Turn::Refused(e) => {
-                return Walked::Refused(e);
+                return Err(e);
             }
         }
     }
 }
 
 // Nothing is left after Root.
-fn finish(s: &[u8], which: u64, w: Walked) -> Whole
+fn finish(s: &[u8], which: u64, w: Result<(usize, usize), No>) -> Result<(u64, usize), No>
     ensures { Finishes s.now which w result }
 {
     match w {
-        Walked::Refused(e) => Whole::Refused(e),
-        Walked::Read(next, count) => {
+        Err(e) => Err(e),
+        Ok((next, count)) => {
             if next == s.len() {
-                return Whole::Read(which, count);
+                return Ok((which, count));
             }
-            Whole::Refused(No(30, next))
+            Err(No(30, next))
         }
     }
 }
 
 // A whole message into the rows that there are.
-pub fn message(s: &[u8], table: &mut [[u64; 50]]) -> Whole
+pub fn message(s: &[u8], table: &mut [[u64; 50]]) -> Result<(u64, usize), No>
     ensures { MessageFill s.now table.old table.new result }
 {
     match glow_steps::root_of(s) {
-        Top::Refused(e) => Whole::Refused(e),
-        Top::Root(which, outer, g) => {
+        Err(e) => Err(e),
+        Ok((which, outer, g)) => {
             let w = items(
                 s,
                 g.start,

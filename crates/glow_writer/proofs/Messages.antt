@@ -1,4 +1,5 @@
 -- A message written, or 46.
+use Rattle.std.specs.Prelude.{Some, None}
 use Prim.Native.Nat.{ℕ, suc, ◌+◌, ◌-◌, ◌*◌, ◌≤◌, ◌<◌}
 use mathlib.Core.Path.{◌≡◌, refl, sym, ap, subst, ◌∙◌}
 use mathlib.Core.Bool.{Bool, true, false, not}
@@ -7,7 +8,6 @@ use native.Mathlib.Omega.{arith}
 use borrow.Author.Tests.{leb-true}
 use lib.Dec.{T, leb}
 use lib.ListN.{length}
-use Rattle.ber_integers.specs.declared.Wrote.TheVariants.{Next, Out}
 use Rattle.base_choices.specs.Choices.{pick, both}
 use Rattle.base_choices.proofs.Laws.{both_left, both_right}
 use Rattle.ber_integers.specs.Digits.{put, unchanged, outcome}
@@ -94,11 +94,11 @@ module _ (root rows n : ℕ) (es : List Item) where
     unfolding fits
     write-few h = leb-true n 256 (both_left (leb n 256) _ (both_right (leb n rows) _ (fits-is h)))
 
-    pub write-long : (out : List ℕ) → 16384 < m → writes root rows n es out ≡ outcome Out out
+    pub write-long : (out : List ℕ) → 16384 < m → writes root rows n es out ≡ outcome None out
     unfolding length_of writes
     write-long out h = go (fits written_real root rows n es) refl e
       where
-        go : (b : Bool) → fits written_real root rows n es ≡ b → pick b (length bs) 65536 ≡ m → pick b (put out 0 bs) (unchanged out) ≡ outcome Out out
+        go : (b : Bool) → fits written_real root rows n es ≡ b → pick b (length bs) 65536 ≡ m → pick b (put out 0 bs) (unchanged out) ≡ outcome None out
         go true i j = let k = fits-octets i in absurd (omega arith)
         go false i j = refl
 
@@ -106,13 +106,13 @@ module _ (root rows n : ℕ) (es : List Item) where
     unfolding writes
     written_as out h = rw (fits-is h) refl
 
-    pub write-short : (out : List ℕ) → m ≤ 16384 → (w : ℕ) → w ≡ length out → w < m → writes root rows n es out ≡ outcome Out out
+    pub write-short : (out : List ℕ) → m ≤ 16384 → (w : ℕ) → w ≡ length out → w < m → writes root rows n es out ≡ outcome None out
     write-short out h w i k = let l = length-is h in written_as out h ∙ put-out out 0 bs (omega arith)
 
     pub write-put : (out : List ℕ) → m ≤ 16384 → (w : ℕ) → w ≡ length out → m ≤ w → (all : ℕ) → length (trees_octets written_real (trees_of root es).trees) ≡ all
         → (a : ℕ) → cap (tagged_size all) ≡ a → (q : ℕ) (o₁ : List ℕ) → (a ≤ 16384 → Puts out 0 (head 96 a) q o₁)
         → (tag : ℕ) → tag ≡ 96 + root_number root → (p : ℕ) (o₂ : List ℕ) → (all ≤ 16384 → Puts o₁ q (head tag all) p o₂)
-        → (r : Placed) (o₃ : List ℕ) → ItemsPut es root 0 62 0 0 o₂ p r o₃ → writes root rows n es out ≡ outcome (Next r.place) o₃
+        → (r : Placed) (o₃ : List ℕ) → ItemsPut es root 0 62 0 0 o₂ p r o₃ → writes root rows n es out ≡ outcome (Some r.place) o₃
     unfolding ItemsPut Puts octets_of message_octets trees_of
     write-put out h w i k all g a ea q o₁ ho tag t p o₂ hi r o₃ hp =
         let l = length-is h in

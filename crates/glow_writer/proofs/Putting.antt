@@ -1,4 +1,5 @@
 -- What is put one after another: tags, members, contents.
+use Rattle.std.specs.Prelude.{Option, Some}
 use Prim.Native.Nat.{ℕ, zero, suc, ◌+◌, ◌-◌, ◌*◌, ◌%◌, ◌≤◌, ◌<◌}
 use mathlib.Core.Path.{◌≡◌, refl, sym, ap, subst, ◌∙◌}
 use mathlib.Core.Bool.{Bool, true, false, not}
@@ -13,8 +14,6 @@ use lib.Seq.{length-take-le}
 use lib.IntN.{ℤ}
 use lib.Ieee as Ieee
 use lib.Ieee.{binary64}
-use Rattle.ber_integers.specs.declared.Wrote.{Wrote}
-use Rattle.ber_integers.specs.declared.Wrote.TheVariants.{Next}
 use Rattle.base_choices.specs.Choices.{pick, both}
 use Rattle.base_choices.proofs.Laws.{both_left, both_right}
 use Rattle.ber_integers.specs.Digits.{Put, put, outcome}
@@ -44,29 +43,29 @@ never : {P : Type 0} → false ≡ true → P
 never e = absurd (subst (λ (b : Bool). T (not b)) e tt)
 
 -- ---- puts
-pub puts-by : (out : List ℕ) (at : ℕ) (bs : List ℕ) (w : Wrote) (o : List ℕ) (r : ℕ) → put out at bs ≡ outcome w o → next_of w ≡ r → Puts out at bs r o
+pub puts-by : (out : List ℕ) (at : ℕ) (bs : List ℕ) (w : Option ℕ) (o : List ℕ) (r : ℕ) → put out at bs ≡ outcome w o → next_of w ≡ r → Puts out at bs r o
 unfolding Puts
 puts-by out at bs w o r d e h k =
-    let i : w ≡ Next (at + length bs) = ap (λ (p : Put). p.answer) (sym d ∙ put_in out at bs h) in
+    let i : w ≡ Some (at + length bs) = ap (λ (p : Put). p.answer) (sym d ∙ put_in out at bs h) in
     let j : at + length bs ≡ r = sym (ap next_of i) ∙ e in
-    d ∙ ap (λ (x : Wrote). outcome x o) (i ∙ ap Next j)
+    d ∙ ap (λ (x : Option ℕ). outcome x o) (i ∙ ap Some j)
 
 pub puts_then : (out : List ℕ) (at : ℕ) (xs : List ℕ) (q : ℕ) (o ys : List ℕ) (r : ℕ) (o' : List ℕ) → Puts out at xs q o → Puts o q ys r o'
     → Puts out at (xs ++ ys) r o'
 unfolding Puts
 puts_then out at xs q o ys r o' f g h k =
     let l = length-append xs ys in
-    let d : put out at xs ≡ outcome (Next q) o = f (omega arith) (omega arith) in
+    let d : put out at xs ≡ outcome (Some q) o = f (omega arith) (omega arith) in
     let n = put_next out at xs q o d in
     let m = put-length out at xs q o d in
-    let d' : put o q ys ≡ outcome (Next r) o' = g (omega arith) (omega arith) in
-    put_then out at xs ys (omega arith) (Next q) o d ∙ ap (λ (x : ℕ). put o x ys) (sym n) ∙ d'
+    let d' : put o q ys ≡ outcome (Some r) o' = g (omega arith) (omega arith) in
+    put_then out at xs ys (omega arith) (Some q) o d ∙ ap (λ (x : ℕ). put o x ys) (sym n) ∙ d'
 
 pub puts_none : (out : List ℕ) (at : ℕ) → Puts out at [] at out
 unfolding Puts
 puts_none out at h k =
     let e : at + 0 ≡ at = omega arith in
-    put_in out at [] h ∙ rw e (ap (outcome (Next at)) (take-append-drop at out))
+    put_in out at [] h ∙ rw e (ap (outcome (Some at)) (take-append-drop at out))
 
 -- only what has at most 16,384 octets matters
 pub puts-given : (out : List ℕ) (at : ℕ) (bs : List ℕ) (r : ℕ) (o : List ℕ) → (length bs ≤ 16384 → Puts out at bs r o) → Puts out at bs r o
@@ -77,7 +76,7 @@ pub puts-as : (out : List ℕ) (at : ℕ) (xs ys : List ℕ) (r : ℕ) (o : List
 puts-as out at xs ys r o e p = subst (λ (x : List ℕ). Puts out at x r o) e p
 
 -- ---- tags and lengths
-pub head-put : (out : List ℕ) (at tag n q : ℕ) (o : List ℕ) (w : Wrote) (o' : List ℕ) (r : ℕ) → Puts out at (tag ∷ []) q o → put_length o q n ≡ outcome w o'
+pub head-put : (out : List ℕ) (at tag n q : ℕ) (o : List ℕ) (w : Option ℕ) (o' : List ℕ) (r : ℕ) → Puts out at (tag ∷ []) q o → put_length o q n ≡ outcome w o'
     → next_of w ≡ r → n ≤ 16384 → Puts out at (head tag n) r o'
 head-put out at tag n q o w o' r p d e h =
     let k : n ≤ 4294967295 = omega arith in
@@ -155,14 +154,14 @@ module _ (kind w : ℕ) (out : List ℕ) (at r : ℕ) (o : List ℕ) where
       go true = refl
       go false = refl
 
-  pub int-put : (z : ℤ) (a : Wrote) → kind ≡ 2 → int_of w ≡ z → put out at (shortest z) ≡ outcome a o → next_of a ≡ r → Puts out at
+  pub int-put : (z : ℤ) (a : Option ℕ) → kind ≡ 2 → int_of w ≡ z → put out at (shortest z) ≡ outcome a o → next_of a ≡ r → Puts out at
       (spelled written_real kind w) r o
   int-put z a h e d n =
       let i : shortest z ≡ spelled written_real kind w =
       ap shortest (sym e) ∙ unfold spelled in simp (ap (λ (i : ℕ). eqb i 1) h, eq-eqb _ _ h) in
       puts-as out at (shortest z) (spelled written_real kind w) r o i (puts-by out at (shortest z) a o r d n)
 
-  pub real-put : (a : Wrote) → (kind ≡ 1 → ⊥) → (kind ≡ 2 → ⊥) → write_at out at (Ieee.of_bits binary64 w) ≡ outcome a o → next_of a ≡ r
+  pub real-put : (a : Option ℕ) → (kind ≡ 1 → ⊥) → (kind ≡ 2 → ⊥) → write_at out at (Ieee.of_bits binary64 w) ≡ outcome a o → next_of a ≡ r
       → pick (eqb kind 1) true (pick (eqb kind 2) true (is_real w)) ≡ true → Puts out at (spelled written_real kind w) r o
   unfolding spelled written_real write_at is_real
   real-put a h k d n t =
@@ -217,7 +216,7 @@ module _ (s : List ℕ) (v : Cell) where
     tag_is l = let h : v.kind < 256 = omega arith in let e : v.kind % 256 ≡ v.kind = mod-eq_of_lt h in let z : bit false ≡ 0 = refl in omega arith
 
     pub part-put : is_part v.kind ≡ true → (tagged_size v.second ≤ 16384 → Puts out at (heads number tag v.second) q o) → (start len : ℕ)
-        → start ≡ v.first → len ≡ v.second → (w : Wrote) → put_part s start len o q ≡ outcome w o' → next_of w ≡ r
+        → start ≡ v.first → len ≡ v.second → (w : Option ℕ) → put_part s start len o q ≡ outcome w o' → next_of w ≡ r
         → (what : ℕ) → suits what (content_of s v) ≡ true → Puts out at (member_octets written_real number (content_of s v)) r o'
     unfolding member_octets put_part
     part-put p f start len i l w d e what h =

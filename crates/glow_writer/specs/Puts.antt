@@ -1,6 +1,5 @@
 -- What the functions that write leave in a lent output, for the functions of this crate.
-use Rattle.std.specs.Prelude.{ℕ, suc, ◌+◌, ◌-◌, ◌*◌, ◌≤◌, ◌<◌, ◌≡◌, List, [], ◌∷◌, ◌++◌, true, eqb, length, get_or}
-use Rattle.ber_integers.specs.declared.Wrote.TheVariants.{Next}
+use Rattle.std.specs.Prelude.{ℕ, suc, ◌+◌, ◌-◌, ◌*◌, ◌≤◌, ◌<◌, ◌≡◌, List, [], ◌∷◌, ◌++◌, true, eqb, length, get_or, Some}
 use Rattle.base_choices.specs.Choices.{pick}
 use Rattle.ber_integers.specs.Digits.{put, outcome}
 use Rattle.ber_tags.specs.Write.{length_octets}
@@ -18,7 +17,7 @@ use Rattle.glow_writer.specs.declared.write.Placed.{Placed}
 
 -- Octets of at most 16,384, for which there is room, stand at `at`, and r is the place after them.
 unfoldable pub Puts : List ℕ → ℕ → List ℕ → ℕ → List ℕ → Type 0
-Puts out at bs r out' = at + length bs ≤ length out → length bs ≤ 16384 → put out at bs ≡ outcome (Next r) out'
+Puts out at bs r out' = at + length bs ≤ length out → length bs ≤ 16384 → put out at bs ≡ outcome (Some r) out'
 
 -- a tag of one octet and a length
 abbrev pub head : ℕ → ℕ → List ℕ

@@ -10,7 +10,6 @@ ghost use Rattle.glow_member_sizes.specs.Sizes.{tagged_size};
 ghost use Rattle.glow_writer.specs.Puts.{Puts, head, heads, row_cells, WordPuts, MemberPuts, MembersPut, EntryPuts, ItemsBy, ItemBy, InsideBy, AllKept};
 
 use base_casts::{index, word};
-use ber_integers::Wrote;
 use glow_grammar::{collections, tags};
 use glow_member_sizes::{MESSAGE_LIMIT, around, is_part, place, plus, word_size};
 use glow_rows::tags::{ABSENT, BOOLEAN, INTEGER};
@@ -312,7 +311,7 @@ fn root_tag(root: u64) -> u8
 }
 
 // The message of the first `count` rows, with their texts in s.
-pub fn write(rows: &[[u64; 50]], count: usize, root: u64, s: &[u8], out: &mut [u8]) -> Wrote
+pub fn write(rows: &[[u64; 50]], count: usize, root: u64, s: &[u8], out: &mut [u8]) -> Option<usize>
     ensures { writes root (length rows.now) count (items_in s.now rows.now count) out.old
         ≡ outcome result out.new }
 {
@@ -322,13 +321,13 @@ pub fn write(rows: &[[u64; 50]], count: usize, root: u64, s: &[u8], out: &mut [u
     let one = around(all);
     let m = around(one);
     if MESSAGE_LIMIT < m {
-        return Wrote::Out;
+        return None;
     }
     if word(out.len()) < m {
-        return Wrote::Out;
+        return None;
     }
     let a = put_head(tags::ROOT_OCTET, one, out, 0);
     let b = put_head(root_tag(root), all, out, a);
     let p = put_items(rows, s, count, root, 0, 0, kept, out, b);
-    Wrote::Next(p.place)
+    Some(p.place)
 }

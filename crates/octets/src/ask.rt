@@ -3,10 +3,7 @@ use crate::put::Asked;
 use crate::{put, value};
 use base_casts::{wide, word};
 use ber_identifiers::{Arc, Oid};
-use ber_integers::{Natural, Number};
-use ber_reals::Read;
 use ber_tags::{Head, Length};
-use ber_values::Flag;
 use program_lines::text::{Decimal, Hex};
 use program_lines::{print, text};
 use std::io;
@@ -26,11 +23,11 @@ const AT: usize = 3;
 
 fn read_int(rt: &impl Print, s: &[u8], n: usize) -> io::Result<()> {
     match ber_integers::read_int(s, AT, n) {
-        Number::Int(x) => {
+        Some(x) => {
             show_int(rt, x)?;
             print::end(rt)
         }
-        Number::Refused => print::say(rt, b"30\n"),
+        None => print::say(rt, b"30\n"),
     }
 }
 
@@ -47,11 +44,11 @@ pub(crate) fn show_real(rt: &impl Print, x: f64) -> io::Result<()> {
 
 fn read_real(rt: &impl Print, s: &[u8], n: usize) -> io::Result<()> {
     match ber_reals::read_real(s, AT, n) {
-        Read::Real(x) => {
+        Some(x) => {
             show_real(rt, x)?;
             print::end(rt)
         }
-        Read::Refused => print::say(rt, b"35\n"),
+        None => print::say(rt, b"35\n"),
     }
 }
 
@@ -65,11 +62,11 @@ pub(crate) fn show_bool(rt: &impl Print, b: bool) -> io::Result<()> {
 
 fn read_bool(rt: &impl Print, s: &[u8], n: usize) -> io::Result<()> {
     match ber_values::read_bool(s, AT, n) {
-        Flag::Is(b) => {
+        Some(b) => {
             show_bool(rt, b)?;
             print::end(rt)
         }
-        Flag::Refused => print::say(rt, b"30\n"),
+        None => print::say(rt, b"30\n"),
     }
 }
 
@@ -208,8 +205,8 @@ fn write_real(rt: &impl Print, n: usize, work: &[u8]) -> io::Result<()> {
         return print::bad_line(rt);
     }
     match ber_integers::read_unsigned(work, 0, 8) {
-        Natural::Nat(bits) => put::put_plain(rt, Asked::Bits(bits), work),
-        Natural::Refused => print::bad_line(rt),
+        Some(bits) => put::put_plain(rt, Asked::Bits(bits), work),
+        None => print::bad_line(rt),
     }
 }
 

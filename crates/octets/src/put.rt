@@ -1,6 +1,5 @@
 // What the writers write, as the program tries it: with room enough, in one octet less than that took, and in exactly
 // as many.
-use ber_integers::Wrote;
 use ber_values::Value;
 use program_lines::{print, room};
 use std::io;
@@ -45,21 +44,21 @@ fn write_to(asked: Asked, src: &[u8], numbers: &[u64], out: &mut [u8], n: usize)
     if n <= out.len() {
         return write(asked, src, numbers, &mut out[..n]);
     }
-    Wrote::Out
+    None
 }
 
 // Whether n octets are too short: 46, and the output is as it was.
 fn is_short(asked: Asked, src: &[u8], numbers: &[u64], out: &mut [u8], n: usize) -> bool {
     match write_to(asked, src, numbers, out, n) {
-        Wrote::Next(_) => false,
-        Wrote::Out => room::is_clear(out),
+        Some(_) => false,
+        None => room::is_clear(out),
     }
 }
 
 // The octets from AT to an end.
-fn show(rt: &impl Print, w: Wrote, out: &[u8]) -> io::Result<()> {
+fn show(rt: &impl Print, w: Option<usize>, out: &[u8]) -> io::Result<()> {
     match w {
-        Wrote::Next(end) => {
+        Some(end) => {
             if AT <= end {
                 if end <= out.len() {
                     print::octets(rt, &out[AT..end])?;
@@ -67,7 +66,7 @@ fn show(rt: &impl Print, w: Wrote, out: &[u8]) -> io::Result<()> {
             }
             Ok(())
         }
-        Wrote::Out => print::out(rt),
+        None => print::out(rt),
     }
 }
 
@@ -96,8 +95,8 @@ pub(crate) fn put(rt: &impl Print, asked: Asked, src: &[u8], numbers: &[u64]) ->
     let mut space = [0u8; 8200];
     let out: &mut [u8] = &mut space;
     match write(asked, src, numbers, out) {
-        Wrote::Next(end) => exactly(rt, asked, src, numbers, end),
-        Wrote::Out => print::out(rt),
+        Some(end) => exactly(rt, asked, src, numbers, end),
+        None => print::out(rt),
     }
 }
 

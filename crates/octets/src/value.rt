@@ -3,7 +3,6 @@ use crate::ask::Whole;
 use crate::put::Asked;
 use crate::{ask, put};
 use base_casts::{index, word};
-use ber_integers::Natural;
 use ber_values::{Answer, Value};
 use program_lines::text::{Decimal, Hex};
 use program_lines::{print, text};
@@ -153,8 +152,8 @@ fn write_real(rt: &impl Print, line: &[u8], from: usize, work: &mut [u8]) -> io:
         return print::bad_line(rt);
     }
     match ber_integers::read_unsigned(work, 0, 8) {
-        Natural::Nat(bits) => put_bits(rt, bits, line),
-        Natural::Refused => print::bad_line(rt),
+        Some(bits) => put_bits(rt, bits, line),
+        None => print::bad_line(rt),
     }
 }
 

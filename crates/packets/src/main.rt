@@ -12,7 +12,6 @@
 // printed), and in exactly as many: that is printed.
 #![tactic(auto)]
 
-use framing_writer::Written;
 use program_lines::input::Input;
 use program_lines::text::Hex;
 use program_lines::{input, print, room, text};
@@ -36,26 +35,26 @@ fn write(asked: Asked, bytes: &[u8], out: &mut [u8]) -> Written {
     }
 }
 
-// Written to the first n bytes of an output.
+// Option<usize> to the first n bytes of an output.
 fn write_to(asked: Asked, bytes: &[u8], out: &mut [u8], n: usize) -> Written {
     if n <= out.len() {
         return write(asked, bytes, &mut out[..n]);
     }
-    Written::Out
+    None
 }
 
 // Whether n bytes are too short: 46, and the output is as it was.
 fn is_short(asked: Asked, bytes: &[u8], out: &mut [u8], n: usize) -> bool {
     match write_to(asked, bytes, out, n) {
-        Written::Done { length: _ } => false,
-        Written::Out => room::is_clear(out),
+        Some(_) => false,
+        None => room::is_clear(out),
     }
 }
 
-fn show(rt: &impl Print, w: Written, out: &[u8]) -> io::Result<()> {
+fn show(rt: &impl Print, w: Option<usize>, out: &[u8]) -> io::Result<()> {
     match w {
-        Written::Done { length } => print::written(rt, out, length),
-        Written::Out => print::out(rt),
+        Some(length) => print::written(rt, out, length),
+        None => print::out(rt),
     }
 }
 
@@ -77,8 +76,8 @@ fn put(rt: &impl Print, asked: Asked, bytes: &[u8]) -> io::Result<()> {
     let mut space = [0u8; 34850];
     let out: &mut [u8] = &mut space;
     match write(asked, bytes, out) {
-        Written::Done { length } => exactly(rt, asked, bytes, length),
-        Written::Out => print::out(rt),
+        Some(length) => exactly(rt, asked, bytes, length),
+        None => print::out(rt),
     }
 }
 

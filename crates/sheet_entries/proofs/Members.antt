@@ -1,4 +1,5 @@
 -- What the rows say: limits, figures, and which entries they are.
+use Rattle.std.specs.Prelude.{Option, Some, None}
 use Prim.Native.Nat.{ℕ, suc, ◌+◌, ◌≤◌, ◌<◌, ◌^◌}
 use mathlib.Core.Path.{◌≡◌, refl, sym, ap, subst, ◌∙◌}
 use mathlib.Core.List.{List, [], ◌∷◌}
@@ -15,11 +16,7 @@ use Rattle.glow_rows.specs.declared.Cell.{Cell}
 use Rattle.glow_rows.specs.Cell.{int_of, number_in}
 use Rattle.glow_trees.specs.Content.{Content, Item, content_of, contents_of, item_of, items_of}
 use Rattle.glow_trees.specs.Rows.{cells_from, entry_of, entries_of, items_in}
-use Rattle.desk_crosspoints.specs.declared.Limit.{Limit}
-use Rattle.desk_crosspoints.specs.declared.Limit.TheVariants.{Absent, Most}
 use Rattle.glow_rows.specs.Row.{cell_in}
-use Rattle.glow_entries.specs.declared.Number.{Number}
-use Rattle.glow_entries.specs.declared.Number.TheVariants.{Absent as NoNumber, Is as IsNumber}
 use Rattle.glow_entries.specs.declared.Matrix.{Matrix}
 use Rattle.glow_entries.specs.Member as members
 use Rattle.glow_entries.specs.Member.{number_cell}
@@ -34,22 +31,22 @@ use Rattle.sheet_entries.specs.Entries.{limit_from, is_sheet}
 
 module _ (s : List ℕ) (v : Cell) where
   limit-by : (b z : Bool) → eqb v.kind 2 ≡ b → eqb v.second 0 ≡ z → pick b (pick z v.first 0) 0 < 18446744073709551616
-      → limit_in (content_of s v) ≡ pick b (pick z (Most v.first) Absent) Absent
+      → limit_in (content_of s v) ≡ pick b (pick z (Some v.first) None) None
   unfolding content_of
   limit-by true true e d l = rw (eqb-true v.kind 2 e, d, lt-ltb v.first 18446744073709551616 l)
   limit-by true false e d l = rw (eqb-true v.kind 2 e, d)
   limit-by false z e d l =
-      content-by s v (λ (x : Content). limit_in x ≡ Absent) refl refl (λ n. ap (λ (b : Bool). pick b (Most n) Absent) e) (λ bs. refl)
+      content-by s v (λ (x : Content). limit_in x ≡ None) refl refl (λ n. ap (λ (b : Bool). pick b (Some n) None) e) (λ bs. refl)
 
-  limit-from : (b z : Bool) (n : Number) → n ≡ pick b (pick z (IsNumber (int_of v.first)) NoNumber) NoNumber
-      → number_in (number_cell n) ≡ pick b (pick z v.first 0) 0 → limit_from n ≡ pick b (pick z (Most v.first) Absent) Absent
+  limit-from : (b z : Bool) (n : Option ℤ) → n ≡ pick b (pick z (Some (int_of v.first)) None) None
+      → number_in (number_cell n) ≡ pick b (pick z v.first 0) 0 → limit_from n ≡ pick b (pick z (Some v.first) None) None
   unfolding number_in
-  limit-from true true n e q = ap limit_from e ∙ ap Most (sym (ap (λ (m : Number). number_in (number_cell m)) e) ∙ q)
+  limit-from true true n e q = ap limit_from e ∙ ap Some (sym (ap (λ (m : Option ℤ). number_in (number_cell m)) e) ∙ q)
   limit-from true false n e q = ap limit_from e
   limit-from false z n e q = ap limit_from e
 
   -- the limit of a cell, by the number that it stands for
-  pub limit_is : (n : Number) (l : Limit) → n ≡ members.number_of v → number_in (number_cell n) ≡ number_in v → number_in (number_cell n) < 18446744073709551616
+  pub limit_is : (n : Option ℤ) (l : Option ℕ) → n ≡ members.number_of v → number_in (number_cell n) ≡ number_in v → number_in (number_cell n) < 18446744073709551616
       → limit_from n ≡ l → limit_in (content_of s v) ≡ l
   unfolding members.number_of number_in
   limit_is n l e q h k =
@@ -58,17 +55,17 @@ module _ (s : List ℕ) (v : Cell) where
       limit-by b z refl refl (subst (λ (m : ℕ). m < 18446744073709551616) q h) ∙ sym (limit-from b z n e q) ∙ k
 
 -- a limit that is given, as it is answered
-pub limit-some : (n : Number) (z : ℤ) (w : ℕ) → n ≡ IsNumber z → number_in (number_cell n) ≡ w → w < 2 ^ 64
-    → (limit_from n ≡ Most w) × (number_in (number_cell n) < 18446744073709551616)
+pub limit-some : (n : Option ℤ) (z : ℤ) (w : ℕ) → n ≡ Some z → number_in (number_cell n) ≡ w → w < 2 ^ 64
+    → (limit_from n ≡ Some w) × (number_in (number_cell n) < 18446744073709551616)
 unfolding number_in
 limit-some n z w e q h =
-    (ap limit_from e ∙ ap Most (sym (ap (λ (m : Number). number_in (number_cell m)) e) ∙ q), subst (λ (m : ℕ). m < 18446744073709551616) (sym q) h)
+    (ap limit_from e ∙ ap Some (sym (ap (λ (m : Option ℤ). number_in (number_cell m)) e) ∙ q), subst (λ (m : ℕ). m < 18446744073709551616) (sym q) h)
 
 -- ---- the figures
 
 module _ (row : List ℕ) where
   pub figures-is : (x : Matrix) → x ≡ matrix_of row → MatrixWords row x
-      → (kind targets sources : ℕ) (total each : Limit)
+      → (kind targets sources : ℕ) (total each : Option ℕ)
       → number_in (number_cell x.matrix_type) ≡ kind → kind < 2 ^ 64
       → number_in (number_cell x.targets) ≡ targets → targets < 2 ^ 64
       → number_in (number_cell x.sources) ≡ sources → sources < 2 ^ 64

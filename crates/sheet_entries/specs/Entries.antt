@@ -1,19 +1,15 @@
 -- What the functions of this crate answer.
-use Rattle.std.specs.Prelude.{ℕ, ◌≤◌, ◌<◌, ◌≡◌, List, [], ◌∷◌, Bool, false, length, take, eqb}
+use Rattle.std.specs.Prelude.{ℕ, ◌≤◌, ◌<◌, ◌≡◌, List, [], ◌∷◌, Bool, false, length, take, eqb, ℤ, Option, Some, None}
 use Rattle.base_choices.specs.Choices.{both}
 use Rattle.glow_grammar.specs.Grammar.{qualified_matrix}
 use Rattle.glow_trees.specs.Content.{Item}
 use Rattle.glow_rows.specs.Cell.{word_of}
-use Rattle.glow_entries.specs.declared.Number.{Number}
-use Rattle.glow_entries.specs.declared.Number.TheVariants.{Absent as NoNumber, Is as IsNumber}
-use Rattle.desk_crosspoints.specs.declared.Limit.{Limit}
-use Rattle.desk_crosspoints.specs.declared.Limit.TheVariants.{Absent, Most}
 use Rattle.sheet_rules.specs.Reading.{all_links}
 
 -- the limit that a number gives
-abbrev pub limit_from : Number → Limit
-limit_from NoNumber = Absent
-limit_from (IsNumber z) = Most (word_of z)
+abbrev pub limit_from : Option ℤ → Option ℕ
+limit_from None = None
+limit_from (Some z) = Some (word_of z)
 
 -- one qualified matrix, and connections alone
 abbrev pub is_sheet : List Item → Bool

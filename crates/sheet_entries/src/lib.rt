@@ -12,19 +12,18 @@ ghost use Rattle.sheet_rules.specs.Reading.{first_refused, figures_in};
 ghost use Rattle.sheet_entries.specs.Entries.{limit_from, is_sheet, Taken};
 
 use base_casts::wide;
-use desk_crosspoints::{Figures, Limit};
-use glow_entries::Number;
+use desk_crosspoints::Figures;
 use glow_rows::{Cell, KIND, kinds};
 
 // The limit that a number gives.
-fn limit_of(n: Number) -> Limit
+fn limit_of(n: Option<i64>) -> Option<u64>
     ensures n_value { limit_from n ≡ result }
     ensures n_bound { number_in (number_cell n) < 18446744073709551616 }
 {
     let w = glow_entries::number_word(n);
     match n {
-        Number::Absent => Limit::Absent,
-        Number::Is(_) => Limit::Most(w),
+        None => None,
+        Some(_) => Some(w),
     }
 }
 

@@ -1,4 +1,6 @@
 -- From a message to its entries, as they stand in the table's first rows.
+use Rattle.std.specs.Prelude.{Ok, Err}
+use Rattle.ber_containers.specs.declared.No.{No}
 use Prim.Native.Nat.{ℕ, suc, ◌≤◌, ◌<◌}
 use mathlib.Core.Path.{◌≡◌, refl, sym, ap, subst, ◌∙◌}
 use mathlib.Core.List.{List, [], ◌∷◌}
@@ -9,8 +11,6 @@ use lib.Dec.{ltb}
 use lib.ListN.{length, get_or}
 use Rattle.base_choices.specs.Choices.{pick}
 use Rattle.ber_integers.proofs.Radix.{Below}
-use Rattle.ber_containers.specs.declared.Onto.{Onto}
-use Rattle.ber_containers.specs.declared.Onto.TheVariants.{Next, Refused as Stopped}
 use Rattle.glow_rows.specs.Entry.{Entries, Rows, overlay}
 use Rattle.glow_reader.specs.declared.Answer.{Answer}
 use Rattle.glow_reader.specs.declared.Answer.TheVariants as glow
@@ -45,14 +45,14 @@ module _ (m : List ℕ) (table : Rows) (few : length m ≤ 16384) (sized : lengt
   sheet_for (glow.Room count) es = refused 38
   sheet_for (glow.Read root count) es = of_entries (items_of m es)
 
-  for-answer : (which : ℕ) (es : Entries) (a : Onto) → of_answer m es a ≡ sheet_for (read_of table which es a).answer es
-  for-answer which es (Next next) = rw sized (go (ltb 256 (length es)))
+  for-answer : (which : ℕ) (es : Entries) (a : Result ℕ No) → of_answer m es a ≡ sheet_for (read_of table which es a).answer es
+  for-answer which es (Ok next) = rw sized (go (ltb 256 (length es)))
     where
       go : (u : Bool) → pick u (refused 38) (of_entries (items_of m es))
           ≡ sheet_for (pick u (read_result (glow.Room (length es)) table) (read_result (glow.Read which (length es)) (overlay es table))).answer es
       go true = refl
       go false = refl
-  for-answer which es (Stopped e) = refl
+  for-answer which es (Err e) = refl
 
   not-setup : setup (length m) (length table) ≡ false
   unfolding setup
@@ -75,14 +75,14 @@ module _ (m : List ℕ) (table : Rows) (few : length m ≤ 16384) (sized : lengt
   is_setup (glow.Room count) = 0
   is_setup (glow.Read root count) = 0
 
-  read-ready : (which : ℕ) (es : Entries) (a : Onto) → is_setup (read_of table which es a).answer ≡ 0
+  read-ready : (which : ℕ) (es : Entries) (a : Result ℕ No) → is_setup (read_of table which es a).answer ≡ 0
   unfolding is_setup
-  read-ready which es (Next next) = go (ltb (length table) (length es))
+  read-ready which es (Ok next) = go (ltb (length table) (length es))
     where
       go : (u : Bool) → is_setup (pick u (read_result (glow.Room (length es)) table) (read_result (glow.Read which (length es)) (overlay es table))).answer ≡ 0
       go true = refl
       go false = refl
-  read-ready which es (Stopped e) = refl
+  read-ready which es (Err e) = refl
 
   pub never-setup : (a : Answer) (after : Rows) → read_at m table ≡ read_result a after → a ≡ glow.Setup → ⊥
   unfolding is_setup

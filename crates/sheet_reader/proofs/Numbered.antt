@@ -1,4 +1,6 @@
 -- With which numbers a sheet is read: 0, 1, the events' from 10 up, 30 to 38, and 41 to 45. 40 cannot come (Alone.antt).
+use Rattle.std.specs.Prelude.{Result, Ok, Err}
+use Rattle.ber_containers.specs.declared.No.{No}
 use Prim.Native.Nat.{ℕ, ◌≤◌}
 use mathlib.Core.Path.{◌≡◌, refl, sym, ap, subst, ◌∙◌}
 use mathlib.Core.List.{List, [], ◌∷◌}
@@ -12,8 +14,6 @@ use Rattle.base_choices.specs.Choices.{pick, both}
 use Rattle.base_choices.proofs.Laws.{pick-by, both_left, both_right}
 use Rattle.ber_integers.proofs.Radix.{Below}
 use Rattle.ber_integers.proofs.Numbers.{widen}
-use Rattle.ber_containers.specs.declared.Onto.{Onto}
-use Rattle.ber_containers.specs.declared.Onto.TheVariants.{Next, Refused as Stopped}
 use Rattle.glow_walk.specs.Walk.{walk}
 use Rattle.glow_reader.specs.Message.{refusals}
 use Rattle.glow_reader.proofs.Places.{OntoIn}
@@ -116,15 +116,15 @@ entries-numbers root t l (e ∷ es) q o =
     (λ h. hit refused_numbers 33 tt)
 
 -- "Type and operation are 0 to 2": so are those of a message that is read
-answer-numbers : (m : List ℕ) → Below 256 m → length m ≤ 16384 → (a : Onto) → (walk m).out.answer ≡ a → OntoIn m 0 a
+answer-numbers : (m : List ℕ) → Below 256 m → length m ≤ 16384 → (a : Result ℕ No) → (walk m).out.answer ≡ a → OntoIn m 0 a
     → Numbered (of_answer m (walk m).out.entries a)
-answer-numbers m octets short (Next next) e w =
+answer-numbers m octets short (Ok next) e w =
     let l = is-legal m octets short e in
     let k : asks_of (items_of m (walk m).out.entries) ≡ _ = ap asks_of l.1.1 ∙ asks-down (walk m).which l.0 l.1.0 in
     let o = subst Operations (sym k) (legal-operations (walk m).which l.0 l.1.0) in
     pick-by Numbered (ltb 256 (length (walk m).out.entries)) (λ h. hit refused_numbers 38 tt)
     (λ h. entries-numbers (walk m).which l.0 l.1.0 (items_of m (walk m).out.entries) (sym l.1.1) o)
-answer-numbers m octets short (Stopped x) e w = widen refusals refused_numbers _ refl w.1
+answer-numbers m octets short (Err x) e w = widen refusals refused_numbers _ refl w.1
 
 read-numbers : (text : List ℕ) → Numbered (read_sheet text)
 unfolding read_sheet of_message

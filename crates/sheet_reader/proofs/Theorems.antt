@@ -1,5 +1,7 @@
 -- The theorems of the route sheet reader, over the equation of its contract (`sheet_read text store path cells ≡ outcome_of r ..`): the sheet of every legal desk
 -- is read back as that desk, a desk that was read is legal, a refusal leaves path and crosspoints as they were, and SETUP and a bad line the store too.
+use Rattle.std.specs.Prelude.{Result, Ok, Err}
+use Rattle.ber_containers.specs.declared.No.{No}
 use Prim.Native.Nat.{ℕ}
 use mathlib.Core.Path.{◌≡◌, refl, sym, ap, ◌∙◌}
 use mathlib.Core.List.{List, [], ◌∷◌, ◌++◌}
@@ -9,8 +11,6 @@ use borrow.Author.Tests.{eq-eqb, eqb-true}
 use lib.Dec.{ltb, eqb}
 use lib.ListN.{length, take, drop}
 use lib.Seq.{take_at, drop_at}
-use Rattle.ber_containers.specs.declared.Onto.{Onto}
-use Rattle.ber_containers.specs.declared.Onto.TheVariants.{Next, Refused as Stopped}
 use Rattle.base_choices.specs.Choices.{both}
 use Rattle.base_choices.proofs.Laws.{pick-by}
 use Rattle.glow_rows.specs.Entry.{Entries}
@@ -130,9 +130,9 @@ entries-legal [] = tt
 entries-legal (e ∷ es) =
     pick-by Legal (both (eqb e.kind 7) (all_links es)) (λ h. opens-legal (figures_in e) (path_in e) (mode_in e) (e ∷ es)) (λ h. tt)
 
-answer-legal : (m : List ℕ) (es : Entries) (a : Onto) → Legal (of_answer m es a)
-answer-legal m es (Next next) = pick-by Legal (ltb 256 (length es)) (λ h. tt) (λ h. entries-legal (items_of m es))
-answer-legal m es (Stopped e) = tt
+answer-legal : (m : List ℕ) (es : Entries) (a : Result ℕ No) → Legal (of_answer m es a)
+answer-legal m es (Ok next) = pick-by Legal (ltb 256 (length es)) (λ h. tt) (λ h. entries-legal (items_of m es))
+answer-legal m es (Err e) = tt
 
 held-legal : (h : Held) → Legal (of_held h)
 unfolding of_message

@@ -1,4 +1,5 @@
 -- The entries of a sheet are read as its desk.
+use Rattle.std.specs.Prelude.{Option, Some, None}
 use Prim.Native.Nat.{ℕ, zero, suc, ◌+◌, ◌*◌, ◌≤◌}
 use mathlib.Core.Path.{◌≡◌, refl, sym, ap, subst, ◌∙◌}
 use mathlib.Core.List.{List, [], ◌∷◌, append-nil}
@@ -14,8 +15,6 @@ use Rattle.ber_identifiers.proofs.RoundTrip.{arcs-read}
 use Rattle.glow_grammar.specs.Grammar.{qualified_matrix}
 use Rattle.glow_trees.specs.Content.{Item, item}
 use Rattle.glow_trees.specs.Trees.{none, flat, count}
-use Rattle.desk_crosspoints.specs.declared.Limit.{Limit}
-use Rattle.desk_crosspoints.specs.declared.Limit.TheVariants.{Absent, Most}
 use Rattle.desk_crosspoints.specs.declared.Figures.{Figures}
 use Rattle.desk_crosspoints.specs.Figures.{side, figures_fit, cells_of}
 use Rattle.desk_crosspoints.specs.Crosspoints.{Cells, row_at, clear, with_row, legal}
@@ -124,9 +123,9 @@ unfolding all_links flat links
 links-all d zero t i = refl
 links-all d (suc n) t i = links-all d n (suc t) (suc i + (count none + count none))
 
-limit-back : (l : Limit) → limit_in (limit l) ≡ l
-limit-back Absent = refl
-limit-back (Most n) = refl
+limit-back : (l : Option ℕ) → limit_in (limit l) ≡ l
+limit-back None = refl
+limit-back (Some n) = refl
 
 -- The entries of a legal desk's sheet are read as the desk.
 module _ (d : Desk) (ok : desk_legal d ≡ true) where
@@ -180,9 +179,9 @@ module _ (d : Desk) (ok : desk_legal d ≡ true) where
 
   figures-back : figures_in top ≡ f
   figures-back =
-      ap (λ (l : Limit). record { kind = f.kind; targets = f.targets; sources = f.sources; total = l; each = limit_in (limit f.each) })
+      ap (λ (l : Option ℕ). record { kind = f.kind; targets = f.targets; sources = f.sources; total = l; each = limit_in (limit f.each) })
       (limit-back f.total)
-      ∙ ap (λ (l : Limit). record { kind = f.kind; targets = f.targets; sources = f.sources; total = f.total; each = l }) (limit-back f.each)
+      ∙ ap (λ (l : Option ℕ). record { kind = f.kind; targets = f.targets; sources = f.sources; total = f.total; each = l }) (limit-back f.each)
 
   opened-empty : desk_opened (empty_desk f path) 0 ≡ answer 0 (clear (cells_of f))
   unfolding desk_opened

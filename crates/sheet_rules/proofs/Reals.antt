@@ -1,4 +1,5 @@
 -- A sheet has no reals: its message is the same in every spelling of them, and so of octets.
+use Rattle.std.specs.Prelude.{Option, Some, None}
 use Prim.Native.Nat.{ℕ, zero, suc, ◌≤◌}
 use mathlib.Core.Path.{◌≡◌, refl, sym, ap, subst, ◌∙◌}
 use mathlib.Core.List.{List, [], ◌∷◌, ◌++◌}
@@ -10,8 +11,6 @@ use Rattle.glow_trees.specs.Trees.{flat}
 use Rattle.glow_trees.specs.Legal.{inner, legal_root}
 use Rattle.glow_trees.specs.Written.{tagged, spelled, member_octets, members_octets, wrapped, own, trees_octets, root_number, message_octets, written_real}
 use Rattle.trees_round_trip.proofs.Octets.{Octets, message-below}
-use Rattle.desk_crosspoints.specs.declared.Limit.{Limit}
-use Rattle.desk_crosspoints.specs.declared.Limit.TheVariants.{Absent, Most}
 use Rattle.desk_crosspoints.specs.declared.Figures.{Figures}
 use Rattle.desk_crosspoints.specs.Desk.{Desk}
 use Rattle.sheet_rules.specs.Sheet.{number, identifier, sources_at, list, limit, left_out, link_members, matrix_members, links, sheet_tree, sheet_message}
@@ -25,10 +24,10 @@ module _ (r : ℕ → List ℕ) where
   list_any n [] = refl
   list_any n (s ∷ ss) = refl
 
-  limit-any : (n : ℕ) (l : Limit) → member_octets r n (limit l) ≡ member_octets no_real n (limit l)
+  limit-any : (n : ℕ) (l : Option ℕ) → member_octets r n (limit l) ≡ member_octets no_real n (limit l)
   unfolding member_octets spelled
-  limit-any n Absent = refl
-  limit-any n (Most m) = refl
+  limit-any n None = refl
+  limit-any n (Some m) = refl
 
   link-any : (t : ℕ) (ns : List ℕ) → members_octets r 0 (link_members t ns) ≡ members_octets no_real 0 (link_members t ns)
   unfolding members_octets member_octets spelled left_out

@@ -1,4 +1,5 @@
 -- The message of a legal desk's sheet is of octets, and far shorter than 16,384.
+use Rattle.std.specs.Prelude.{Option, Some, None}
 use Prim.Native.Nat.{ℕ, zero, suc, ◌+◌, ◌*◌, ◌/◌, ◌%◌, ◌≤◌, ◌<◌}
 use mathlib.Core.Path.{◌≡◌, refl, sym, subst}
 use mathlib.Core.List.{List, [], ◌∷◌, ◌++◌}
@@ -25,8 +26,6 @@ use Rattle.glow_trees.specs.Legal.{inner}
 use Rattle.glow_trees.specs.Written.{tagged, spelled, member_octets, members_octets, wrapped, own, trees_octets, root_number, message_octets, written_real}
 use Rattle.trees_accepted.proofs.Sizes.{length-few, around, tagged-size}
 use Rattle.trees_round_trip.proofs.Octets.{PartOctets, PartsOctets, Octets}
-use Rattle.desk_crosspoints.specs.declared.Limit.{Limit}
-use Rattle.desk_crosspoints.specs.declared.Limit.TheVariants.{Absent, Most}
 use Rattle.desk_crosspoints.specs.declared.Figures.{Figures}
 use Rattle.desk_crosspoints.specs.Figures.{side, is_limit, figures_fit}
 use Rattle.desk_crosspoints.specs.Crosspoints.{Cells, row_at}
@@ -125,9 +124,9 @@ none-size : (real : ℕ → List ℕ) (m : ℕ) → length (member_octets real m
 unfolding member_octets
 none-size real m = omega arith
 
-limit-size : (real : ℕ → List ℕ) (m : ℕ) (l : Limit) → m < 31 → is_limit l ≡ true → length (member_octets real m (limit l)) ≤ 12
-limit-size real m Absent h e = none-size real m
-limit-size real m (Most n) h e = number_size real m n h (leb-true n 2147483647 (right (leb 1 n) (leb n 2147483647) e))
+limit-size : (real : ℕ → List ℕ) (m : ℕ) (l : Option ℕ) → m < 31 → is_limit l ≡ true → length (member_octets real m (limit l)) ≤ 12
+limit-size real m None h e = none-size real m
+limit-size real m (Some n) h e = number_size real m n h (leb-true n 2147483647 (right (leb 1 n) (leb n 2147483647) e))
   where
     right : (a b : Bool) → both a b ≡ true → b ≡ true
     right true b q = q
@@ -240,9 +239,9 @@ list-octets : (ns : List ℕ) → PartOctets (list ns)
 list-octets [] = tt
 list-octets (n ∷ ns) = oid-below (n ∷ ns)
 
-limit-octets : (l : Limit) → PartOctets (limit l)
-limit-octets Absent = tt
-limit-octets (Most n) = tt
+limit-octets : (l : Option ℕ) → PartOctets (limit l)
+limit-octets None = tt
+limit-octets (Some n) = tt
 
 left-octets : (n : ℕ) → PartsOctets (left_out n)
 unfolding left_out

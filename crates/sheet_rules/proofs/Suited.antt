@@ -1,4 +1,5 @@
 -- The tree of a legal desk's sheet is one that the reader accepts.
+use Rattle.std.specs.Prelude.{Option, Some, None}
 use Prim.Native.Nat.{ℕ, zero, suc, ◌+◌, ◌≤◌, ◌<◌}
 use mathlib.Core.Path.{◌≡◌, refl, ap, ◌∙◌}
 use mathlib.Core.List.{List, [], ◌∷◌}
@@ -19,8 +20,6 @@ use Rattle.glow_trees.specs.Legal.{legal, legal_root}
 use Rattle.glow_trees.specs.Trees.{Trees, none, tree, among, count}
 use Rattle.glow_grammar.specs.Grammar.{rule_of, members, contents_of, contents_rows, holds, required, requirements}
 use Rattle.trees_accepted.proofs.Bools.{never}
-use Rattle.desk_crosspoints.specs.declared.Limit.{Limit}
-use Rattle.desk_crosspoints.specs.declared.Limit.TheVariants.{Absent, Most}
 use Rattle.desk_crosspoints.specs.declared.Figures.{Figures}
 use Rattle.desk_crosspoints.specs.Figures.{side, is_count, is_limit, figures_fit}
 use Rattle.desk_crosspoints.specs.Desk.{Desk, all_numbers, path_fits, desk_legal}
@@ -57,10 +56,10 @@ pub path-suits : (ns : List ℕ) → oid.in_range ns ≡ true → is_path ns ≡
 unfolding suits expects part_suits
 path-suits ns r p = ap path_suits (arcs-back ns r) ∙ p
 
-limit-suits : (l : Limit) → is_limit l ≡ true → suits 8 (limit l) ≡ true
+limit-suits : (l : Option ℕ) → is_limit l ≡ true → suits 8 (limit l) ≡ true
 unfolding suits
-limit-suits Absent e = refl
-limit-suits (Most n) e = from0-suits n (leb-true n 2147483647 (both_right (leb 1 n) (leb n 2147483647) e))
+limit-suits None e = refl
+limit-suits (Some n) e = from0-suits n (leb-true n 2147483647 (both_right (leb 1 n) (leb n 2147483647) e))
 
 positive : (ns : List ℕ) → all_numbers ns ≡ true → all_positive ns ≡ true
 unfolding all_numbers all_positive

@@ -1,4 +1,5 @@
 -- "the tree's": what a sheet's message gives is what the tree reader answers with a table of 256 entries, whatever the table held.
+use Rattle.std.specs.Prelude.{Result, Ok, Err}
 use Prim.Native.Nat.{ℕ, ◌≤◌}
 use mathlib.Core.Path.{◌≡◌, refl, ap}
 use mathlib.Core.List.{List}
@@ -9,8 +10,6 @@ use lib.ListN.{length}
 use lib.Dec.{ltb}
 use Rattle.base_choices.specs.Choices.{pick}
 use Rattle.ber_integers.proofs.Radix.{Below}
-use Rattle.ber_containers.specs.declared.Onto.{Onto}
-use Rattle.ber_containers.specs.declared.Onto.TheVariants.{Next, Refused as Stopped}
 use Rattle.glow_rows.specs.Entry.{Entries, Rows, overlay}
 use Rattle.glow_reader.specs.declared.Answer.{Answer}
 use Rattle.glow_reader.specs.declared.Answer.TheVariants.{Setup, Refused as No, Room, Read}
@@ -39,10 +38,10 @@ module _ (m : List ℕ) (octets : Below 256 m) (few : length m ≤ 16384) (table
   unfolding setup
   not-setup = let l : length table ≤ 256 = omega arith in rw (le-ltb _ _ l, le-ltb _ _ few) refl
 
-  by-walk : (a : Onto) → (walk m).out.answer ≡ a
+  by-walk : (a : Result ℕ No) → (walk m).out.answer ≡ a
       → of_table m (read_of table (walk m).which es a).rows (read_of table (walk m).which es a).answer ≡ of_answer m es a
-  by-walk (Stopped e) q = refl
-  by-walk (Next n) q = rw long (go (ltb 256 (length es)) refl)
+  by-walk (Err e) q = refl
+  by-walk (Ok n) q = rw long (go (ltb 256 (length es)) refl)
     where
       go : (u : Bool) → ltb 256 (length es) ≡ u
           → of_table m (pick u (read_result (Room (length es)) table) (read_result (Read (walk m).which (length es)) (overlay es table))).rows

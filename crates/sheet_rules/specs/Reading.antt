@@ -2,17 +2,14 @@
 -- "The first refusal in this order ends it, with no desk: 12 for any bad line, the first event from 10 up, 33 unless exactly one message is finished and
 -- nothing is open at the end, the tree's, 33 unless it is one qualified matrix and its connections alone, the desk's."
 -- From the last to the first, since a name stands before its use.
-use Rattle.std.specs.Prelude.{ℕ, List, [], ◌∷◌, Bool, true, false, length, leb, ltb, eqb}
+use Rattle.ber_containers.specs.declared.No.{No}
+use Rattle.std.specs.Prelude.{ℕ, List, [], ◌∷◌, Bool, true, false, length, leb, ltb, eqb, Option, Some, None, Result, Ok, Err}
 use Rattle.base_choices.specs.Choices.{pick, unless, both}
-use Rattle.ber_containers.specs.declared.Onto.{Onto}
-use Rattle.ber_containers.specs.declared.Onto.TheVariants.{Next, Refused as Stopped}
 use Rattle.glow_rows.specs.Entry.{Entries}
 use Rattle.glow_grammar.specs.Grammar.{qualified_matrix, connection}
 use Rattle.glow_trees.specs.Content.{Content, nothing, word, bytes, wrong, Item, items_of}
 use Rattle.glow_walk.specs.Walk.{Walk, walk}
 use Rattle.framing_session.specs.Rules.{Place, outside, stray, inside, escaped, bad_byte, too_long, is_open, State, Happening, begin, happens, after}
-use Rattle.desk_crosspoints.specs.declared.Limit.{Limit}
-use Rattle.desk_crosspoints.specs.declared.Limit.TheVariants.{Absent, Most}
 use Rattle.desk_crosspoints.specs.declared.Figures.{Figures}
 use Rattle.desk_crosspoints.specs.Figures.{cells_of}
 use Rattle.desk_crosspoints.specs.Crosspoints.{clear}
@@ -53,11 +50,11 @@ unfoldable pub opens : Figures → List ℕ → ℕ → List Item → Sheet
 opens f path mode es = begun (empty_desk f path) es (desk_opened (empty_desk f path) mode)
 
 -- Limits "kept as given"; "(a missing count: 45)", since 0 is no count; no type is 1:N, 0 (001).
-abbrev pub limit_in : Content → Limit
-limit_in nothing = Absent
-limit_in (word kind n) = pick (eqb kind integer) (Most n) Absent
-limit_in (bytes kind bs) = Absent
-limit_in wrong = Absent
+abbrev pub limit_in : Content → Option ℕ
+limit_in nothing = None
+limit_in (word kind n) = pick (eqb kind integer) (Some n) None
+limit_in (bytes kind bs) = None
+limit_in wrong = None
 
 -- the matrix's members, each in its cell
 abbrev pub figures_in : Item → Figures
@@ -91,9 +88,9 @@ of_entries (e ∷ es) =
 
 -- ---- "the tree's", with a table of 256 entries: 38 ROOM where it has more
 
-abbrev pub of_answer : List ℕ → Entries → Onto → Sheet
-of_answer m es (Next next) = pick (ltb 256 (length es)) (refused 38) (of_entries (items_of m es))
-of_answer m es (Stopped e) = refused e.0
+abbrev pub of_answer : List ℕ → Entries → Result ℕ No → Sheet
+of_answer m es (Ok next) = pick (ltb 256 (length es)) (refused 38) (of_entries (items_of m es))
+of_answer m es (Err e) = refused e.0
 
 unfoldable pub of_message : List ℕ → Sheet
 of_message m =

@@ -1,6 +1,6 @@
 -- The route sheet of a desk (document 01, "Desk"): "one message holding the qualified matrix with type, counts and limits, every target and its sources
 -- ascending, operation and empty lists left out, written as upper-case hexadecimal lines, one frame and 0A a line."
-use Rattle.std.specs.Prelude.{ℕ, zero, suc, ◌/◌, ◌%◌, List, [], ◌∷◌, ◌++◌, Bool, true, false, length, take, drop, eqb}
+use Rattle.std.specs.Prelude.{ℕ, zero, suc, ◌/◌, ◌%◌, List, [], ◌∷◌, ◌++◌, Bool, true, false, length, take, drop, eqb, Option, Some, None}
 use Rattle.base_choices.specs.Choices.{pick}
 use Rattle.base_hex.specs.Digits.{glyph_of, hex_text}
 use Rattle.ber_identifiers.specs.Identifier.{oid_octets}
@@ -10,8 +10,6 @@ use Rattle.glow_trees.specs.Content.{Content, nothing, word, bytes}
 use Rattle.glow_trees.specs.Trees.{Trees, none, tree}
 use Rattle.glow_trees.specs.Written.{message_octets, written_real}
 use Rattle.framing_packets.specs.Written.{packet, payload_limit, earlier, Outcome, limited}
-use Rattle.desk_crosspoints.specs.declared.Limit.{Limit}
-use Rattle.desk_crosspoints.specs.declared.Limit.TheVariants.{Absent, Most}
 use Rattle.desk_crosspoints.specs.declared.Figures.{Figures}
 use Rattle.desk_crosspoints.specs.Desk.{Desk}
 use Rattle.desk_rows.specs.Sources.{sources_in}
@@ -34,9 +32,9 @@ list [] = nothing
 list (s ∷ ss) = identifier (s ∷ ss)
 
 -- "limits, where given"
-abbrev pub limit : Limit → Content
-limit Absent = nothing
-limit (Most n) = number n
+abbrev pub limit : Option ℕ → Content
+limit None = nothing
+limit (Some n) = number n
 
 unfoldable pub left_out : ℕ → List Content
 left_out zero = []

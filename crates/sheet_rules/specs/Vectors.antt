@@ -1,5 +1,5 @@
 -- Small desks' sheets, by computation; the decoder of reference/ writes and reads the same.
-use Rattle.std.specs.Prelude.{ℕ, ◌≡◌, refl, List, [], ◌∷◌, true, false}
+use Rattle.std.specs.Prelude.{ℕ, ◌≡◌, refl, List, [], ◌∷◌, true, false, Option, Some, None}
 use Rattle.ber_integers.specs.Digits.{digits, count_by}
 use Rattle.ber_integers.specs.Integer.{shortest, size_by}
 use Rattle.ber_integers.specs.Integer as int
@@ -16,8 +16,6 @@ use Rattle.framing_checksum.specs.Checksum.{table, crc_step, crc_from, checksum}
 use Rattle.framing_session.specs.Rules.{begin, inside, part, none, outside, Happening, happens, after}
 use Rattle.framing_packets.specs.Written.{escape, escapes, frame, packet}
 use Rattle.framing_packets.specs.Read.{happening}
-use Rattle.desk_crosspoints.specs.declared.Limit.{Limit}
-use Rattle.desk_crosspoints.specs.declared.Limit.TheVariants.{Absent, Most}
 use Rattle.desk_crosspoints.specs.declared.Figures.{Figures}
 use Rattle.desk_crosspoints.specs.Figures.{is_count, figures_fit, most_each, most_total}
 use Rattle.desk_crosspoints.specs.Crosspoints as crosspoints
@@ -34,16 +32,16 @@ use Rattle.sheet_rules.specs.Lines.{bad, stream, lines_from, lines_in}
 use Rattle.sheet_rules.specs.Reading.{refused, read, first_refused, applied, begun, opens, all_links, of_entries, finished, something_open}
 use Rattle.sheet_rules.specs.Reading.{refusal, first_fault, of_events, read_sheet}
 
-abbrev figures : ℕ → ℕ → ℕ → Limit → Limit → Figures
+abbrev figures : ℕ → ℕ → ℕ → Option ℕ → Option ℕ → Figures
 figures kind targets sources total each = record { kind = kind; targets = targets; sources = sources; total = total; each = each }
 
 -- one target, one source, nothing connected, 1:N, path 1
 abbrev small : Desk
-small = desk_at (figures 0 1 1 Absent Absent) (1 ∷ []) (0 ∷ [])
+small = desk_at (figures 0 1 1 None None) (1 ∷ []) (0 ∷ [])
 
 -- two targets, three sources, N:N with the limits 128 and 2, path 1.5; sources 0 and 2 on target 0
 abbrev larger : Desk
-larger = desk_at (figures 2 2 3 (Most 128) (Most 2)) (1 ∷ 5 ∷ []) (1 ∷ 0 ∷ 1 ∷ 0 ∷ 0 ∷ 0 ∷ [])
+larger = desk_at (figures 2 2 3 (Some 128) (Some 2)) (1 ∷ 5 ∷ []) (1 ∷ 0 ∷ 1 ∷ 0 ∷ 0 ∷ 0 ∷ [])
 
 abbrev small_message : List ℕ
 small_message =
@@ -138,7 +136,7 @@ pub v-read-entries :
     (of_entries (flat 0 0 (sheet_tree larger)) ≡ read larger) ×
     -- missing and repeated targets, sources not ascending: "applies its connections"
     (of_entries (matrix (1 ∷ []) ∷ link 1 (2 ∷ 0 ∷ []) ∷ link 1 (1 ∷ 0 ∷ 1 ∷ []) ∷ [])
-    ≡ read (desk_at (figures 2 2 3 Absent (Most 2)) (1 ∷ []) (0 ∷ 0 ∷ 0 ∷ 1 ∷ 1 ∷ 0 ∷ []))) ×
+    ≡ read (desk_at (figures 2 2 3 None (Some 2)) (1 ∷ []) (0 ∷ 0 ∷ 0 ∷ 1 ∷ 1 ∷ 0 ∷ []))) ×
     -- the first refused connection
     (of_entries (matrix (1 ∷ []) ∷ link 1 (2 ∷ 0 ∷ []) ∷ link 1 (3 ∷ []) ∷ link 2 [] ∷ []) ≡ refused 42) ×
     (of_entries (matrix (1 ∷ []) ∷ link 0 (0 ∷ 1 ∷ 2 ∷ []) ∷ []) ≡ refused 43) ×
@@ -155,7 +153,7 @@ pub v-read-entries :
     (of_entries (matrix [] ∷ link 9 [] ∷ []) ≡ refused 45) ×
     -- no type is 1:N; mode 0 may stand there
     (of_entries (matrix_with (1 ∷ []) (nothing ∷ number 0 ∷ number 1 ∷ number 1 ∷ []) ∷ link 0 (0 ∷ []) ∷ [])
-    ≡ read (desk_at (figures 0 1 1 Absent Absent) (1 ∷ []) (1 ∷ [])))
+    ≡ read (desk_at (figures 0 1 1 None None) (1 ∷ []) (1 ∷ [])))
 unfolding sheet_tree links left_out sources_from oid_octets septets digits count_by flat count
     first_refused applied begun opens all_links of_entries
     is_count figures_fit most_each most_total crosspoints.count

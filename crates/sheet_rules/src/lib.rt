@@ -11,7 +11,6 @@ ghost use Rattle.sheet_rules.specs.Steps.{room, step_line};
 
 use base_hex::NO_DIGIT;
 use base_output::put;
-use framing_writer::Written;
 
 // A byte in two digits, and 0A after the one that ends a frame. Over an output of no bytes it counts (`put`).
 fn emit_byte(out: &mut [u8], at: usize, b: u8) -> usize
@@ -42,18 +41,18 @@ fn emit_lines(out: &mut [u8], at: usize, s: &[u8]) -> usize
 }
 
 // Frames as lines: upper-case hexadecimal, one frame and 0A a line. 46 where the output is too short, or the frames have more than 65,536 bytes.
-pub fn write_lines(frames: &[u8], out: &mut [u8]) -> Written
+pub fn write_lines(frames: &[u8], out: &mut [u8]) -> Option<usize>
     ensures { breaks_into frames.now out.old ≡ outcome result out.new }
 {
     if 65536 < frames.len() {
-        return Written::Out;
+        return None;
     }
     let length = emit_lines(&mut out[..0], 0, frames);
     if out.len() < length {
-        return Written::Out;
+        return None;
     }
     emit_lines(out, 0, frames);
-    Written::Done { length }
+    Some(length)
 }
 
 // What has come of a line: nothing, whole pairs of digits, a first digit too; or something bad.

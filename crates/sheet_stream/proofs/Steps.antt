@@ -1,4 +1,5 @@
 -- Laws for the functions: one byte offered to the session is one step of the rules, and leaves what the bytes give.
+use Rattle.std.specs.Prelude.{Option, Some, None}
 use Prim.Native.Nat.{ℕ, ◌≤◌, ◌<◌}
 use mathlib.Core.Path.{◌≡◌, refl, sym, ap, subst, ◌∙◌}
 use mathlib.Core.List.{List, [], ◌∷◌}
@@ -13,8 +14,6 @@ use Rattle.framing_session.specs.declared.Event.TheVariants as ev
 use Rattle.framing_session.specs.declared.Fed.{Fed}
 use Rattle.framing_session.specs.declared.Frame.{Frame}
 use Rattle.framing_session.specs.declared.Frame.TheVariants.{Outside, Stray, Inside, Escaped, BadByte, TooLong}
-use Rattle.framing_session.specs.declared.Pending.{Pending}
-use Rattle.framing_session.specs.declared.Pending.TheVariants.{Nothing, Part}
 use Rattle.framing_session.specs.declared.Session.{Session}
 use Rattle.base_choices.specs.Choices.{pick}
 use Rattle.framing_content.specs.Numbers.{store_length, message_limit, content_start}
@@ -219,9 +218,9 @@ open-frame (Escaped n) t = refl
 open-frame (BadByte n) t = refl
 open-frame (TooLong n) t = refl
 
-open-part : (m : Pending) (t : List ℕ) → is_open (message_of m t) ≡ part_open m
-open-part Nothing t = refl
-open-part (Part n) t = refl
+open-part : (m : Option ℕ) (t : List ℕ) → is_open (message_of m t) ≡ part_open m
+open-part None t = refl
+open-part (Some n) t = refl
 
 open_is : (s : Session) (t : List ℕ) → something_open (state_of s t) ≡ open_in s
 unfolding something_open

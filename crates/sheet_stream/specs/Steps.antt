@@ -1,10 +1,8 @@
 -- For the functions of this crate.
-use Rattle.std.specs.Prelude.{ℕ, ◌+◌, ◌*◌, ◌≤◌, ◌≡◌, Bool, true, false, List, [], ◌∷◌, length, take, leb, eqb}
+use Rattle.std.specs.Prelude.{ℕ, ◌+◌, ◌*◌, ◌≤◌, ◌≡◌, Bool, true, false, List, [], ◌∷◌, length, take, leb, eqb, Option, Some, None}
 use Rattle.base_choices.specs.Choices.{pick}
 use Rattle.framing_session.specs.declared.Frame.{Frame}
 use Rattle.framing_session.specs.declared.Frame.TheVariants.{Outside, Stray, Inside, Escaped, BadByte, TooLong}
-use Rattle.framing_session.specs.declared.Pending.{Pending}
-use Rattle.framing_session.specs.declared.Pending.TheVariants.{Nothing, Part}
 use Rattle.framing_session.specs.declared.Session.{Session}
 use Rattle.framing_content.specs.Numbers.{message_limit}
 use Rattle.framing_session.specs.Rules.{State, Step, step}
@@ -32,9 +30,9 @@ frame_open (Escaped n) = true
 frame_open (BadByte n) = true
 frame_open (TooLong n) = true
 
-abbrev pub part_open : Pending → Bool
-part_open Nothing = false
-part_open (Part n) = true
+abbrev pub part_open : Option ℕ → Bool
+part_open None = false
+part_open (Some n) = true
 
 abbrev pub open_in : Session → Bool
 open_in s = pick (frame_open s.frame) true (part_open s.message)

@@ -9,7 +9,7 @@ ghost use Rattle.sheet_stream.specs.Finding.{store_from, finds, found_by, holds}
 ghost use Rattle.sheet_stream.specs.Steps.{frame_open, part_open, open_in, another as another_of, bytes_from, left, Sound, Taken};
 
 use base_hex::NO_DIGIT;
-use framing::{Event, Frame, Pending, Session};
+use framing::{Event, Frame, Session};
 
 // What the text of a sheet holds. Of a message the bytes are the store's first `length`.
 #[derive(Clone, Copy)]
@@ -42,12 +42,12 @@ fn in_frame(frame: Frame) -> bool
     }
 }
 
-fn in_message(message: Pending) -> bool
+fn in_message(message: Option<usize>) -> bool
     ensures { result ≡ part_open message }
 {
     match message {
-        Pending::Nothing => false,
-        Pending::Part { length: _ } => true,
+        None => false,
+        Some(_) => true,
     }
 }
 

@@ -1,12 +1,11 @@
 -- What the sheet writer answers.
+use Rattle.std.specs.Prelude.{Option, Some, None}
 use Prim.Native.Nat.{ℕ, ◌≤◌}
 use mathlib.Core.Path.{◌≡◌, refl, sym, ap, ◌∙◌}
 use mathlib.Core.List.{List}
 use mathlib.Core.Bool.{true, false}
 use native.Mathlib.Omega.{arith}
 use lib.ListN.{length}
-use Rattle.framing_packets.specs.declared.Written.{Written}
-use Rattle.framing_packets.specs.declared.Written.TheVariants as written
 use Rattle.framing_packets.specs.Written.{outcome, into, in_packets}
 use Rattle.framing_packets.proofs.Laws.{limited-fits}
 use Rattle.desk_crosspoints.specs.Desk.{Desk, desk_legal}
@@ -22,9 +21,9 @@ use Rattle.sheet_writer.specs.Calls.{outcome_of, writes_sheet}
 use Rattle.sheet_writer.specs.Steps.{said}
 use Rattle.sheet_writer.proofs.Packets.{frames-length, text-length}
 
-said-told : (r : Written) (o : List ℕ) → outcome r o ≡ outcome_of (said r) o
-said-told (written.Done n) o = refl
-said-told written.Out o = refl
+said-told : (r : Option ℕ) (o : List ℕ) → outcome r o ≡ outcome_of (said r) o
+said-told (Some n) o = refl
+said-told None o = refl
 
 module _ (d : Desk) (o : List ℕ) where
   pub sheet-setup : desk_legal d ≡ false → writes_sheet d o ≡ outcome_of Setup o
@@ -47,7 +46,7 @@ module _ (d : Desk) (o : List ℕ) where
 
   -- as the code goes: the message, its frames, and what the lines' writer answers
   pub sheet-put : desk_legal d ≡ true → {m : List ℕ} → m ≡ sheet_message d → {frames : List ℕ} → frames ≡ in_packets m
-      → (r : Written) (o' : List ℕ) → breaks_into frames o ≡ outcome r o' → {a : Answer} → said r ≡ a → writes_sheet d o ≡ outcome_of a o'
+      → (r : Option ℕ) (o' : List ℕ) → breaks_into frames o ≡ outcome r o' → {a : Answer} → said r ≡ a → writes_sheet d o ≡ outcome_of a o'
   sheet-put ok {m} p {frames} q r o' e {a} g =
       sheet-into ok
       ∙ sym (sheet-lines ok)

@@ -1,4 +1,5 @@
 -- The rows that are filled hold the entries of the sheet's tree.
+use Rattle.std.specs.Prelude.{Option, Some, None}
 use Prim.Native.Nat.{ℕ, zero, suc, ◌+◌, ◌*◌, ◌≤◌, ◌<◌}
 use mathlib.Core.Path.{◌≡◌, refl, sym, ap, ◌∙◌}
 use mathlib.Core.List.{List, [], ◌∷◌, ◌++◌, append_assoc, append-nil}
@@ -10,8 +11,6 @@ use lib.Seq.{sets, sets-eq, take_at, drop_at}
 use lib.Dec.{leb}
 use Rattle.base_choices.proofs.Laws.{both_right}
 use Rattle.ber_integers.specs.Digits.{Put, put, outcome}
-use Rattle.ber_integers.specs.declared.Wrote.{Wrote}
-use Rattle.ber_integers.specs.declared.Wrote.TheVariants.{Next}
 use Rattle.ber_tags.specs.Write.{septets}
 use Rattle.ber_tags.proofs.Septets.{length-septets}
 use Rattle.ber_identifiers.specs.Identifier.{oid_octets, put_oid}
@@ -29,8 +28,6 @@ use Rattle.glow_grammar.specs.Grammar.{qualified_matrix, connection}
 use Rattle.trees_accepted.proofs.Lists.{items-length, flat-length}
 use Rattle.trees_round_trip.proofs.Rows.{rows-items, tree-sixteen}
 use Rattle.trees_round_trip.proofs.Writing.{whole-tree, octets-tree, fits_by, writes-yes}
-use Rattle.desk_crosspoints.specs.declared.Limit.{Limit}
-use Rattle.desk_crosspoints.specs.declared.Limit.TheVariants.{Absent, Most}
 use Rattle.desk_crosspoints.specs.declared.Figures.{Figures}
 use Rattle.desk_crosspoints.specs.Figures.{side, is_limit}
 use Rattle.desk_crosspoints.specs.Desk.{Desk, desk_legal}
@@ -53,9 +50,9 @@ content-absent : (s : List ℕ) → content_of s absent ≡ Content.nothing
 unfolding content_of
 content-absent s = refl
 
-content-limit : (s : List ℕ) (l : Limit) → is_limit l ≡ true → content_of s (limit_cell l) ≡ limit l
-content-limit s Absent e = content-absent s
-content-limit s (Most n) e = content-number s n (leb-true n 2147483647 (both_right (leb 1 n) (leb n 2147483647) e))
+content-limit : (s : List ℕ) (l : Option ℕ) → is_limit l ≡ true → content_of s (limit_cell l) ≡ limit l
+content-limit s None e = content-absent s
+content-limit s (Some n) e = content-number s n (leb-true n 2147483647 (both_right (leb 1 n) (leb n 2147483647) e))
 
 -- a part of the octets
 module _ (front part back : List ℕ) (at : ℕ) (e : length front ≡ at) where
@@ -213,7 +210,7 @@ module _ (d : Desk) (ok : desk_legal d ≡ true) where
       omega (arith, a, b)
 
   -- the path's octets
-  oid-put : (o : List ℕ) → most_path ≤ length o → put_oid o 0 path ≡ outcome (Next (length ps)) (ps ++ drop (length ps) o)
+  oid-put : (o : List ℕ) → most_path ≤ length o → put_oid o 0 path ≡ outcome (Some (length ps)) (ps ++ drop (length ps) o)
   unfolding put_oid put
   oid-put o h =
       let z : 0 + length ps ≡ length ps = omega arith in
@@ -271,12 +268,12 @@ module _ (d : Desk) (ok : desk_legal d ≡ true) where
 
   -- as the code goes: r is what `write_oid` answers, m the matrix's row
   pub entries-put : (rows : Rows) → most_rows ≤ length rows → (o : List ℕ) → most_octets ≤ length o
-      → {r : Wrote} {o1 : List ℕ} → put_oid o 0 path ≡ outcome r o1 → {end : ℕ} → next_of r ≡ end → {len : ℕ} → len ≡ end
+      → {r : Option ℕ} {o1 : List ℕ} → put_oid o 0 path ≡ outcome r o1 → {end : ℕ} → next_of r ≡ end → {len : ℕ} → len ≡ end
       → {m : List ℕ} → m ≡ row (matrix_entry f len) → {targets w : ℕ} → targets ≡ f.targets → w ≡ f.sources
       → {x : Filled} → with_links w d.crosspoints 0 targets (filled (set rows 0 m) o1 end) ≡ x
       → (items_in x.octets x.rows (targets + 1) ≡ flat 0 0 (sheet_tree d)) × (targets + 1 ≤ most_rows)
   entries-put rows h o k {r} {o1} e {end} q {len} j {m} p {targets} {w} c y {x} g =
-      let z : outcome (Next (length ps)) (ps ++ drop (length ps) o) ≡ outcome r o1 = sym (oid-put o (omega (arith, k))) ∙ e in
+      let z : outcome (Some (length ps)) (ps ++ drop (length ps) o) ≡ outcome r o1 = sym (oid-put o (omega (arith, k))) ∙ e in
       let l : length ps ≡ end = ap (λ (v : Put). next_of v.answer) z ∙ q in
       let n : targets + 1 ≡ suc f.targets = omega (arith, c) in
       let t = targets-few d ok in (
@@ -293,7 +290,7 @@ module _ (d : Desk) (ok : desk_legal d ≡ true) where
       )
 
   -- .. where the path ends
-  pub path-end : (o : List ℕ) → most_path ≤ length o → {r : Wrote} {o1 : List ℕ} → put_oid o 0 path ≡ outcome r o1 → next_of r ≤ most_path
+  pub path-end : (o : List ℕ) → most_path ≤ length o → {r : Option ℕ} {o1 : List ℕ} → put_oid o 0 path ≡ outcome r o1 → next_of r ≤ most_path
   path-end o k {r} {o1} e =
       let l : length ps ≡ next_of r = ap (λ (y : Put). next_of y.answer) (sym (oid-put o k) ∙ e) in
       omega (arith, l, path-size)
@@ -309,7 +306,7 @@ module _ (d : Desk) (ok : desk_legal d ≡ true) where
   -- ---- the message
 
   pub message-put : (es : List Item) → es ≡ flat 0 0 (sheet_tree d) → (rows n : ℕ) → n ≤ most_rows → most_rows ≤ rows
-      → (o : List ℕ) → length o ≡ 6144 → {r : Wrote} {o1 : List ℕ} → writes 0 rows n es o ≡ outcome r o1 → {end : ℕ} → next_of r ≡ end
+      → (o : List ℕ) → length o ≡ 6144 → {r : Option ℕ} {o1 : List ℕ} → writes 0 rows n es o ≡ outcome r o1 → {end : ℕ} → next_of r ≡ end
       → (take end o1 ≡ sheet_message d) × (end ≤ 6144)
   unfolding sheet_message
   message-put es e rows n h k o l {r} {o1} g {end} p =
@@ -324,7 +321,7 @@ module _ (d : Desk) (ok : desk_legal d ≡ true) where
         whole = whole-tree 0 t (sheet-legal d ok) es e;
         few = omega (arith, b, c);
       }) in
-      let z : outcome (Next (length ms)) (ms ++ drop (length ms) o) ≡ outcome r o1 = sym (writes-yes 0 rows n es o i (omega (arith, b, c, l))) ∙ g in
+      let z : outcome (Some (length ms)) (ms ++ drop (length ms) o) ≡ outcome r o1 = sym (writes-yes 0 rows n es o i (omega (arith, b, c, l))) ∙ g in
       let j : length ms ≡ end = ap (λ (y : Put). next_of y.answer) z ∙ p in (
         ap (λ (i : ℕ). take i o1) (sym p) ∙ ap (λ (y : Put). take (next_of y.answer) y.out) (sym z) ∙ take_at ms (drop (length ms) o) (length ms) refl ∙ q,
         omega (arith, b, c, j),

@@ -1,4 +1,5 @@
 -- Laws for the functions of this crate, at plain variables.
+use Rattle.std.specs.Prelude.{Option, Some}
 use Prim.Native.Nat.{ℕ, suc, ◌+◌, ◌-◌, ◌*◌, ◌≤◌, ◌<◌}
 use mathlib.Core.Path.{◌≡◌, refl, sym, ap, ◌∙◌}
 use mathlib.Core.List.{List, ◌++◌, append_assoc}
@@ -8,8 +9,6 @@ use borrow.Author.Tests.{eq-eqb, ne_eqb, le-leb}
 use lib.ListN.{length, take, drop, set}
 use lib.Seq.{sets, sets-eq}
 use Rattle.ber_integers.specs.Digits.{Put, put, outcome}
-use Rattle.ber_integers.specs.declared.Wrote.{Wrote}
-use Rattle.ber_integers.specs.declared.Wrote.TheVariants.{Next}
 use Rattle.ber_identifiers.specs.Identifier.{oid_octets, put_oid}
 use Rattle.glow_rows.specs.declared.Cell.{Cell}
 use Rattle.glow_rows.specs.Cell.{absent, numbers_cell}
@@ -56,17 +55,17 @@ module _ (w : ℕ) (cells : Cells) (t : ℕ) where
     os-few = omega (arith, part-short, sources-size 0 part (omega (arith, part-short, h)), h)
 
     -- there is room for them
-    sources-put : put_sources o at part ≡ outcome (Next (at + length os)) (sets o at os)
+    sources-put : put_sources o at part ≡ outcome (Some (at + length os)) (sets o at os)
     unfolding put_sources put_oid put
     sources-put =
         let a : length part ≤ side = omega (arith, part-short, h) in
         let b : at + length os ≤ length o = omega (arith, os-few, k) in
         let c : sets o at os ≡ take at o ++ (os ++ drop (at + length os) o) =
         sets-eq os o at b ∙ append_assoc (take at o) os (drop (at + length os) o) in
-        rw (le-leb _ _ a, sources-range 0 part (omega (arith, a)), le-leb _ _ b) (ap (outcome (Next (at + length os))) (sym c))
+        rw (le-leb _ _ a, sources-range 0 part (omega (arith, a)), le-leb _ _ b) (ap (outcome (Some (at + length os))) (sym c))
 
-    module _ {r : Wrote} {o' : List ℕ} (e : put_sources o at part ≡ outcome r o') {next : ℕ} (q : next_of r ≡ next) where
-      put_is : outcome (Next (at + length os)) (sets o at os) ≡ outcome r o'
+    module _ {r : Option ℕ} {o' : List ℕ} (e : put_sources o at part ≡ outcome r o') {next : ℕ} (q : next_of r ≡ next) where
+      put_is : outcome (Some (at + length os)) (sets o at os) ≡ outcome r o'
       put_is = sym sources-put ∙ e
 
       next-is : at + length os ≡ next

@@ -1,4 +1,5 @@
 -- How long the frames and the lines of a message are, and the answers of those who write them.
+use Rattle.std.specs.Prelude.{Option, Some, None}
 use Prim.Native.Nat.{ℕ, zero, suc, ◌+◌, ◌*◌, ◌≤◌}
 use mathlib.Core.Path.{◌≡◌, refl, sym, ap, ◌∙◌}
 use mathlib.Core.List.{List, [], ◌∷◌, ◌++◌}
@@ -6,8 +7,6 @@ use mathlib.Core.Bool.{Bool, true, false}
 use native.Mathlib.Omega.{arith}
 use lib.ListN.{length, take, drop, length-append, take-append-drop}
 use lib.Seq.{take_at}
-use Rattle.framing_packets.specs.declared.Written.{Written}
-use Rattle.framing_packets.specs.declared.Written.TheVariants.{Done, Out}
 use Rattle.framing_packets.specs.Written.{packet, payload_limit, earlier, in_packets}
 use Rattle.framing_packets.specs.Written.{Outcome, outcome, message_into}
 use Rattle.framing_packets.proofs.Laws.{limited-fits}
@@ -24,25 +23,25 @@ frames-length m h =
 -- ---- the frames of a message
 
 module _ (m o : List ℕ) (short : length m ≤ 6144) (room : length o ≡ 16384) where
-  message-fits : message_into m o ≡ outcome (Done (length (in_packets m))) (in_packets m ++ drop (length (in_packets m)) o)
+  message-fits : message_into m o ≡ outcome (Some (length (in_packets m))) (in_packets m ++ drop (length (in_packets m)) o)
   message-fits =
       let a = frames-length m short in
       limited-fits _ _ _ _ (omega (arith, short)) ∙ into-fits (in_packets m) o (omega (arith, a, room))
 
-  pub frames-put : (r : Written) (o' : List ℕ) → message_into m o ≡ outcome r o' → (n : ℕ) → r ≡ Done n → (take n o' ≡ in_packets m) × (n ≤ 16384)
+  pub frames-put : (r : Option ℕ) (o' : List ℕ) → message_into m o ≡ outcome r o' → (n : ℕ) → r ≡ Some n → (take n o' ≡ in_packets m) × (n ≤ 16384)
   frames-put r o' g n q =
-      let e : message_into m o ≡ outcome (Done n) o' = g ∙ ap (λ (x : Written). outcome x o') q in
+      let e : message_into m o ≡ outcome (Some n) o' = g ∙ ap (λ (x : Option ℕ). outcome x o') q in
       let bs = in_packets m in
-      let z : outcome (Done (length bs)) (bs ++ drop (length bs) o) ≡ outcome (Done n) o' = sym message-fits ∙ e in
+      let z : outcome (Some (length bs)) (bs ++ drop (length bs) o) ≡ outcome (Some n) o' = sym message-fits ∙ e in
       let c : length bs ≡ n = ap (λ (x : Outcome). x.count) z in
       let a = frames-length m short in (
         ap (λ (x : Outcome). take x.count x.output) (sym z) ∙ take_at bs (drop (length bs) o) (length bs) refl,
         omega (arith, a, c),
       )
 
-  pub frames-out : (r : Written) (o' : List ℕ) → message_into m o ≡ outcome r o' → r ≡ Out → ⊥
+  pub frames-out : (r : Option ℕ) (o' : List ℕ) → message_into m o ≡ outcome r o' → r ≡ None → ⊥
   frames-out r o' g q =
-      let e : message_into m o ≡ outcome Out o' = g ∙ ap (λ (x : Written). outcome x o') q in
+      let e : message_into m o ≡ outcome None o' = g ∙ ap (λ (x : Option ℕ). outcome x o') q in
       let z : ◌≡◌ {A = ℕ} 0 46 = ap (λ (x : Outcome). x.number) (sym message-fits ∙ e) in omega arith
 
 -- ---- its lines: two digits a byte, and 0A

@@ -1,12 +1,10 @@
 -- For the functions of this crate: the rows of a sheet, and beside them the octets of its path and sources.
-use Rattle.std.specs.Prelude.{ℕ, zero, suc, ◌+◌, ◌*◌, List, length, set}
+use Rattle.std.specs.Prelude.{ℕ, zero, suc, ◌+◌, ◌*◌, List, length, set, Option, Some, None}
 use Rattle.std.proofs.lemmas.List.Edits.{sets}
 use Rattle.ber_identifiers.specs.Identifier.{oid_octets}
 use Rattle.glow_rows.specs.Entry.{row, Rows}
 pub use Rattle.desk_rows.specs.Rows.{number_cell, limit_cell, matrix_entry, link_entry}
 unfoldable pub use Rattle.desk_rows.specs.Rows.{list_cell}
-use Rattle.framing_packets.specs.declared.Written.{Written}
-use Rattle.framing_packets.specs.declared.Written.TheVariants as written
 use Rattle.desk_crosspoints.specs.Figures.{side}
 use Rattle.desk_crosspoints.specs.Crosspoints.{Cells}
 use Rattle.desk_rows.specs.Sources.{sources_in}
@@ -48,6 +46,6 @@ with_links w cells t zero x = x
 with_links w cells t (suc n) x = with_links w cells (suc t) n (with_link w cells t x)
 
 -- the answer of the lines' writer is the sheet writer's
-abbrev pub said : Written → Answer
-said (written.Done n) = answers.Done n
-said written.Out = answers.Out
+abbrev pub said : Option ℕ → Answer
+said (Some n) = answers.Done n
+said None = answers.Out

@@ -14,9 +14,7 @@ ghost use Rattle.sheet_writer.specs.Steps.{most_rows, most_path, most_octets};
 ghost use Rattle.sheet_writer.specs.Steps.{filled, with_link, with_links, said};
 
 use base_casts::{index, word};
-use ber_integers::Wrote;
 use desk_crosspoints::{Figures, SIDE};
-use framing_writer::Written;
 
 // The matrix, and a connection for each target.
 const ROWS: usize = SIDE + 1;
@@ -32,12 +30,12 @@ pub enum Answer {
     Done { length: usize },
 }
 
-fn end_of(w: Wrote) -> usize
+fn end_of(w: Option<usize>) -> usize
     ensures { next_of w ≡ result }
 {
     match w {
-        Wrote::Next(n) => n,
-        Wrote::Out => 0,
+        Some(n) => n,
+        None => 0,
     }
 }
 
@@ -128,17 +126,17 @@ fn put_frames(message: &[u8], frames: &mut [u8]) -> usize
     ensures upper_bound { result ≤ 16384 }
 {
     match framing_writer::write_message(message, frames) {
-        Written::Done { length } => length,
-        Written::Out => 0,
+        Some(length) => length,
+        None => 0,
     }
 }
 
-fn tell(w: Written) -> Answer
+fn tell(w: Option<usize>) -> Answer
     ensures { said w ≡ result }
 {
     match w {
-        Written::Done { length } => Answer::Done { length },
-        Written::Out => Answer::Out,
+        Some(length) => Answer::Done { length },
+        None => Answer::Out,
     }
 }
 

@@ -1,6 +1,7 @@
 -- What is proved, on one page: each final theorem, stated in full over the definitions of specs/ and proved by naming the original. These definitions are what
 -- the functions' contracts equate their answers with: `feeds` of framing::feed, `read_at` of glow_reader::read, `writes` of glow_writer::write, `called` of
 -- desk_calls::call, `calls` and `turns` of the C functions, and so on. Octets, words and cells are numbers; `Below 256` says that they are octets.
+use Rattle.std.specs.Prelude.{Some, None}
 use Prim.Native.Nat.{ℕ, ◌+◌, ◌*◌, ◌≤◌, ◌<◌}
 use mathlib.Core.Path.{◌≡◌}
 use mathlib.Core.List.{List, [], ◌∷◌}
@@ -14,8 +15,6 @@ use lib.Ieee.{Float, binary64}
 use lib.ListN.{length, take, get_or}
 use Rattle.ber_integers.specs.Digits.{Below, digits, put, outcome, unchanged}
 use Rattle.ber_integers.specs.Integer.{integer, unsigned_at, signed_at, integer_at, shortest}
-use Rattle.ber_integers.specs.declared.Number.TheVariants.{Int}
-use Rattle.ber_integers.specs.declared.Wrote.TheVariants.{Next}
 use Rattle.ber_integers.specs.Readings.{number_of, integer_says, natural_says}
 use Rattle.ber_integers.specs.Numbers.{octet_numbers, put_numbers}
 use Rattle.ber_integers.proofs.RoundTrip as integers
@@ -26,7 +25,6 @@ use Rattle.ber_tags.proofs.Numbers as tag-calls
 use Rattle.ber_reals.specs.Real.{real, real_at, real_says, real_numbers}
 use Rattle.ber_reals.specs.Write.{write_at}
 use Rattle.ber_reals.specs.Means.{Means}
-use Rattle.ber_reals.specs.declared.Read.TheVariants.{Real, Refused as NoReal}
 use Rattle.ber_reals.proofs.Exactly as reals
 use Rattle.ber_reals.proofs.Numbers as real-calls
 use Rattle.ber_identifiers.specs.Identifier.{arc_at, oid_at, put_oid, arc_says, oid_says, identifier_numbers}
@@ -159,22 +157,22 @@ framing-read-back = framing-writer.message-written-read
 -- ---- Values
 
 -- Content octets are read as the double x exactly if x is what they mean in the account of IEEE 754; at most one; and refused where there is none.
-pub reals-exactly : (bs : List ℕ) → Below 256 bs → (x : Float) → (real bs ≡ Real x → Means bs x) × (Means bs x → real bs ≡ Real x)
+pub reals-exactly : (bs : List ℕ) → Below 256 bs → (x : Float) → (real bs ≡ Some x → Means bs x) × (Means bs x → real bs ≡ Some x)
 reals-exactly = reals.exactly
 
 pub reals-once : (bs : List ℕ) → Below 256 bs → (x y : Float) → Means bs x → Means bs y → x ≡ y
 reals-once = reals.unique
 
-pub reals-refused : (bs : List ℕ) → Below 256 bs → ((x : Float) → Means bs x → ⊥) → real bs ≡ NoReal
+pub reals-refused : (bs : List ℕ) → Below 256 bs → ((x : Float) → Means bs x → ⊥) → real bs ≡ None
 reals-refused = reals.otherwise
 
 -- Octets that are read as an integer are its one written form.
-pub integers-one-form : (bs : List ℕ) (z : ℤ) → Below 256 bs → integer bs ≡ Int z → shortest z ≡ bs
+pub integers-one-form : (bs : List ℕ) (z : ℤ) → Below 256 bs → integer bs ≡ Some z → shortest z ≡ bs
 integers-one-form = integers.read-written
 
 -- Every value that is written is read back as the same value with nothing left, texts and octets by content.
 pub values-read-back : (source out : List ℕ) (at next : ℕ) (out' : List ℕ) (bound : ℕ) → next ≤ bound → (v : Value) → Held v
-    → put_value source out at v ≡ outcome (Next next) out'
+    → put_value source out at v ≡ outcome (Some next) out'
     → (value_at out' at bound ≡ Found (moved next v) next) × (octets_of out' (moved next v) ≡ octets_of source v)
 values-read-back = values.written-read-value
 
@@ -206,7 +204,7 @@ tree-rows s octets table root count h = records.rows_told s octets table h
 
 -- What is written is read back, into any table that has room, as the same tree.
 pub tree-read-back : (s : List ℕ) (rows : Rows) (count root : ℕ) (out : List ℕ) (n : ℕ) (out' : List ℕ)
-    → written s rows count root out ≡ outcome (Next n) out' → ReadBack (take n out') root count (items_in s rows count)
+    → written s rows count root out ≡ outcome (Some n) out' → ReadBack (take n out') root count (items_in s rows count)
 tree-read-back = trees.written_read
 
 -- What is read can be written, unless that message passes 16,384 bytes or the output, and is then read back as the same tree.
@@ -216,7 +214,7 @@ pub tree-written-again : (s : List ℕ) → Below 256 s → (table : Rows) (root
     ⊎ (length out < length (message_of written_real root (items_in s (read_at s table).rows count)))))
     ⊎ ((n : ℕ)
     × ((out' : List ℕ)
-    × ((written s (read_at s table).rows count root out ≡ outcome (Next n) out')
+    × ((written s (read_at s table).rows count root out ≡ outcome (Some n) out')
     × ReadBack (take n out') root count (items_in s (read_at s table).rows count))))
 tree-written-again = trees.read-written
 

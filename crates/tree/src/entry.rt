@@ -1,9 +1,6 @@
 // Entries by their structs: each member that is present, in the order of its number.
 use crate::members;
-use glow_entries::{
-    Command, Connection, Matrix, Node, Parameter, ReadCommand, ReadConnection, ReadMatrix,
-    ReadNode, ReadParameter, ReadStream, Stream,
-};
+use glow_entries::{Command, Connection, Matrix, Node, Parameter, Stream};
 use program_lines::print;
 use std::io;
 
@@ -39,8 +36,8 @@ fn parameter_members(rt: &impl Print, s: &[u8], e: Parameter) -> io::Result<()> 
 
 pub(crate) fn parameter(rt: &impl Print, s: &[u8], row: &[u64; 50]) -> io::Result<()> {
     match glow_entries::parameter_of(row) {
-        ReadParameter::Entry(e) => parameter_members(rt, s, e),
-        ReadParameter::Other => other(rt),
+        Some(e) => parameter_members(rt, s, e),
+        None => other(rt),
     }
 }
 
@@ -59,8 +56,8 @@ fn node_members(rt: &impl Print, s: &[u8], e: Node) -> io::Result<()> {
 
 pub(crate) fn node(rt: &impl Print, s: &[u8], row: &[u64; 50]) -> io::Result<()> {
     match glow_entries::node_of(row) {
-        ReadNode::Entry(e) => node_members(rt, s, e),
-        ReadNode::Other => other(rt),
+        Some(e) => node_members(rt, s, e),
+        None => other(rt),
     }
 }
 
@@ -87,8 +84,8 @@ fn matrix_members(rt: &impl Print, s: &[u8], e: Matrix) -> io::Result<()> {
 
 pub(crate) fn matrix(rt: &impl Print, s: &[u8], row: &[u64; 50]) -> io::Result<()> {
     match glow_entries::matrix_of(row) {
-        ReadMatrix::Entry(e) => matrix_members(rt, s, e),
-        ReadMatrix::Other => other(rt),
+        Some(e) => matrix_members(rt, s, e),
+        None => other(rt),
     }
 }
 
@@ -101,8 +98,8 @@ fn command_members(rt: &impl Print, e: Command) -> io::Result<()> {
 
 pub(crate) fn command(rt: &impl Print, row: &[u64; 50]) -> io::Result<()> {
     match glow_entries::command_of(row) {
-        ReadCommand::Entry(e) => command_members(rt, e),
-        ReadCommand::Other => other(rt),
+        Some(e) => command_members(rt, e),
+        None => other(rt),
     }
 }
 
@@ -117,8 +114,8 @@ fn connection_members(rt: &impl Print, s: &[u8], e: Connection) -> io::Result<()
 
 pub(crate) fn connection(rt: &impl Print, s: &[u8], row: &[u64; 50]) -> io::Result<()> {
     match glow_entries::connection_of(row) {
-        ReadConnection::Entry(e) => connection_members(rt, s, e),
-        ReadConnection::Other => other(rt),
+        Some(e) => connection_members(rt, s, e),
+        None => other(rt),
     }
 }
 
@@ -131,7 +128,7 @@ fn stream_members(rt: &impl Print, s: &[u8], e: Stream) -> io::Result<()> {
 
 pub(crate) fn stream(rt: &impl Print, s: &[u8], row: &[u64; 50]) -> io::Result<()> {
     match glow_entries::stream_of(row) {
-        ReadStream::Entry(e) => stream_members(rt, s, e),
-        ReadStream::Other => other(rt),
+        Some(e) => stream_members(rt, s, e),
+        None => other(rt),
     }
 }

@@ -22,7 +22,6 @@ mod show;
 mod value;
 
 use base_casts::index;
-use ber_integers::Wrote;
 use glow_reader::Answer;
 use program_lines::input::Input;
 use program_lines::text::{Decimal, Hex};
@@ -35,15 +34,15 @@ fn read(rt: &impl Print, s: &[u8], table: &mut [[u64; 50]]) -> io::Result<()> {
 }
 
 // What was written, or 46.
-fn written(rt: &impl Print, w: Wrote, out: &[u8]) -> io::Result<()> {
+fn written(rt: &impl Print, w: Option<usize>, out: &[u8]) -> io::Result<()> {
     match w {
-        Wrote::Next(n) => {
+        Some(n) => {
             print::say(rt, b"0 ")?;
             if n <= out.len() {
                 print::hex(rt, &out[..n])?;
             }
         }
-        Wrote::Out => {
+        None => {
             print::say(rt, b"46")?;
         }
     }

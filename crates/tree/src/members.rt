@@ -1,7 +1,7 @@
 // Members by name, those that are present: ` NAME=VALUE`.
 use crate::value;
 use ber_values::Value;
-use glow_entries::{Flag, Key, Number, Part};
+use glow_entries::{Key, Part};
 use program_lines::print;
 use std::io;
 
@@ -10,17 +10,17 @@ pub(crate) fn integer(rt: &impl Print, name: &[u8], z: i64) -> io::Result<()> {
     value::integer(rt, z)
 }
 
-pub(crate) fn number(rt: &impl Print, name: &[u8], n: Number) -> io::Result<()> {
+pub(crate) fn number(rt: &impl Print, name: &[u8], n: Option<i64>) -> io::Result<()> {
     match n {
-        Number::Absent => Ok(()),
-        Number::Is(z) => integer(rt, name, z),
+        None => Ok(()),
+        Some(z) => integer(rt, name, z),
     }
 }
 
-pub(crate) fn flag(rt: &impl Print, name: &[u8], f: Flag) -> io::Result<()> {
+pub(crate) fn flag(rt: &impl Print, name: &[u8], f: Option<bool>) -> io::Result<()> {
     match f {
-        Flag::Absent => Ok(()),
-        Flag::Is(b) => {
+        None => Ok(()),
+        Some(b) => {
             print::say(rt, name)?;
             value::flag(rt, b)
         }

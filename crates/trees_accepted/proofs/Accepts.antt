@@ -1,4 +1,6 @@
 -- The items of a collection that are read are the entries of legal trees, whose least message has no more octets.
+use Rattle.std.specs.Prelude.{Result, Ok, Err}
+use Rattle.ber_containers.specs.declared.No.{No}
 use Prim.Native.Nat.{ℕ, zero, suc, ◌+◌, ◌-◌, ◌<◌, ◌≤◌}
 use mathlib.Core.Path.{◌≡◌, refl, sym, ap, ◌∙◌}
 use mathlib.Core.List.{List, [], ◌∷◌, ◌++◌, append_assoc}
@@ -13,8 +15,6 @@ use Rattle.base_choices.proofs.Laws.{pick-by, pick_true}
 use Rattle.ber_integers.proofs.Radix.{Below}
 use Rattle.ber_containers.specs.declared.Open.{Open}
 use Rattle.ber_containers.specs.declared.Tag.{Tag}
-use Rattle.ber_containers.specs.declared.Onto.{Onto}
-use Rattle.ber_containers.specs.declared.Onto.TheVariants.{Next, Refused as Stopped}
 use Rattle.glow_rows.specs.Entry.{Entries, blank, put_cell}
 use Rattle.glow_grammar.specs.Grammar.{rule_of, children, connections, applications}
 use Rattle.glow_grammar.specs.Grammar as grammar
@@ -39,9 +39,9 @@ use Rattle.trees_accepted.proofs.Elements.{done-reading, begin-reading}
 pub tell-map : (C D : ℕ → Entries → Type 0) → ((q : ℕ) (es : Entries) → C q es → D q es) → (x : Out) → OutTell C x → OutTell D x
 tell-map C D f x = go x.answer x.entries
   where
-    go : (a : Onto) (es : Entries) → AnswerTell C a es → AnswerTell D a es
-    go (Next q) es c = f q es c
-    go (Stopped e) es c = tt
+    go : (a : Result ℕ No) (es : Entries) → AnswerTell C a es → AnswerTell D a es
+    go (Ok q) es c = f q es c
+    go (Err e) es c = tt
 
 module _ (s : List ℕ) (octets : Below 256 s) (short : length s ≤ 16384) (least : ℕ → List ℕ) (reals : RealsLeast least) where
   -- the octets of an element and of what comes after it

@@ -1,4 +1,5 @@
 -- One value that is kept: its content suits the member's rule, is there, and has no more octets at the least than it was read from.
+use Rattle.std.specs.Prelude.{Option, Some, None}
 use Prim.Native.Nat.{ℕ, suc, ◌+◌, ◌-◌, ◌<◌, ◌≤◌}
 use mathlib.Core.Path.{◌≡◌, refl, sym, ap, subst, ◌∙◌}
 use mathlib.Core.List.{List, [], ◌∷◌, ◌++◌}
@@ -14,20 +15,14 @@ use lib.Ieee.{Float, nan, inf, fin, binary64}
 use lib.Ieee.Bits.{of_bits-to_bits, to_bits-lt, nan_bits_is}
 use mir.Syntax.{w64}
 use mir.Val.{SFits}
-use Rattle.ber_integers.specs.declared.Number.{Number}
-use Rattle.ber_integers.specs.declared.Number.TheVariants.{Int as Whole, Refused as NoInt}
 use Rattle.ber_integers.specs.Integer.{integer, integer_at, shortest}
 use Rattle.ber_integers.proofs.Radix.{Below}
 use Rattle.ber_integers.proofs.Signs.{below-take, below-drop}
 use Rattle.ber_integers.proofs.Laws.{length_part}
 use Rattle.ber_integers.proofs.RoundTrip.{written-least, read_fits}
-use Rattle.ber_reals.specs.declared.Read.{Read}
-use Rattle.ber_reals.specs.declared.Read.TheVariants.{Real as Double, Refused as NoReal}
 use Rattle.ber_reals.specs.Real.{real, real_at}
 use Rattle.ber_reals.specs.Write.{octets, form}
 use Rattle.ber_reals.proofs.RoundTrip.{read-written}
-use Rattle.ber_values.specs.declared.Flag.{Flag}
-use Rattle.ber_values.specs.declared.Flag.TheVariants.{Is, Refused as NoFlag}
 use Rattle.ber_values.specs.declared.Value.TheVariants.{Real}
 use Rattle.ber_values.specs.declared.Answer.{Answer}
 use Rattle.ber_values.specs.Value.{boolean, bool_at, on_flag, on_number, on_real, is_listed, kind_at, content_at}
@@ -49,7 +44,7 @@ use Rattle.trees_accepted.proofs.Sizes.{inside, kindly}
 
 -- "no accepted real is shorter"
 abbrev pub RealsLeast : (ℕ → List ℕ) → Type 0
-RealsLeast least = (bs : List ℕ) (x : Float) → Below 256 bs → real bs ≡ Double x → length (least (Ieee.to_bits binary64 x)) ≤ length bs
+RealsLeast least = (bs : List ℕ) (x : Float) → Below 256 bs → real bs ≡ Some x → length (least (Ieee.to_bits binary64 x)) ≤ length bs
 
 -- an integer by its word
 module _ where
@@ -147,7 +142,7 @@ module _ (s : List ℕ) (least : ℕ → List ℕ) (reals : RealsLeast least) (o
     no_name number x n e = let a : what ≤ 2 = omega arith in n (eqb-true number 12 (sym (expects-text number what a) ∙ x))
 
     -- a boolean
-    one-octet : (bs : List ℕ) (b : Bool) → boolean bs ≡ Is b → length bs ≡ 1
+    one-octet : (bs : List ℕ) (b : Bool) → boolean bs ≡ Some b → length bs ≡ 1
     unfolding boolean
     one-octet [] b e = let z : ◌≡◌ {A = ℕ} 0 1 = cc in absurd (omega arith)
     one-octet (x ∷ []) b e = refl
@@ -172,7 +167,7 @@ module _ (s : List ℕ) (least : ℕ → List ℕ) (reals : RealsLeast least) (o
     flag-size true = refl
     flag-size false = refl
 
-    flag-right : expects what 1 ≡ true → (b : Bool) → boolean part ≡ Is b → Right (cell 1 (bit_of b) 0) above
+    flag-right : expects what 1 ≡ true → (b : Bool) → boolean part ≡ Some b → Right (cell 1 (bit_of b) 0) above
     flag-right x b e =
         let n : what ≡ 5 → ⊥ = no_step 1 x (λ q. omega arith) in
         let l : length (spelled least 1 (bit_of b)) ≤ len = omega (arith, flag-size b, one-octet part b e, part_length) in
@@ -192,14 +187,14 @@ module _ (s : List ℕ) (least : ℕ → List ℕ) (reals : RealsLeast least) (o
     int-suits z f (inl e) = simp (eq-eqb _ _ e)
     int-suits z f (inr e) = pick-by (λ (b : Bool). b ≡ true) (eqb what 4) (λ q. refl) (λ q. ap (in_range what) (word_back z f) ∙ e)
 
-    int-right : expects what 2 ≡ true → (z : ℤ) → integer part ≡ Whole z → (what ≡ 4) ⊎ (in_range what z ≡ true) → (n : ℕ)
+    int-right : expects what 2 ≡ true → (z : ℤ) → integer part ≡ Some z → (what ≡ 4) ⊎ (in_range what z ≡ true) → (n : ℕ)
         → n ≡ path_of what above (word 2 (word_of z) ∷ []) → Right (cell 2 (word_of z) 0) n
     int-right x z e r n p =
         let f = read_fits part z part-octets e in
         let l : length (spelled least 2 (word_of z)) ≤ len = omega (arith, int-size z f, written-least part z part-octets e, part_length) in
         word-right 2 (word_of z) n refl (word_low z f) (int_word z f) x (int-suits z f r) p l (omega arith)
 
-    number-right : (at : ℕ) → expects what 2 ≡ true → (z : ℤ) → integer part ≡ Whole z → LeafRight (number_leaf at what above z)
+    number-right : (at : ℕ) → expects what 2 ≡ true → (z : ℤ) → integer part ≡ Some z → LeafRight (number_leaf at what above z)
     unfolding number_leaf
     number-right at x z e =
         pick-by LeafRight (eqb what 4)
@@ -213,7 +208,7 @@ module _ (s : List ℕ) (least : ℕ → List ℕ) (reals : RealsLeast least) (o
         (λ r. tt))
 
     -- a real
-    real-right : expects what 9 ≡ true → (x : Float) → real part ≡ Double x → Right (cell_of (Real x)) above
+    real-right : expects what 9 ≡ true → (x : Float) → real part ≡ Some x → Right (cell_of (Real x)) above
     unfolding spelled content_of word_suits is_real
     real-right ex x e =
         let r = read-written part x part-octets e in
@@ -304,20 +299,20 @@ module _ (s : List ℕ) (least : ℕ → List ℕ) (reals : RealsLeast least) (o
     abbrev AnswerRight : ℕ → Answer → Type 0
     AnswerRight at a = LeafRight (judged s at what above a)
 
-    flags-right : (at next : ℕ) → expects what 1 ≡ true → (f : Flag) → bool_at s start len ≡ f → AnswerRight at (on_flag at next f)
+    flags-right : (at next : ℕ) → expects what 1 ≡ true → (f : Option Bool) → bool_at s start len ≡ f → AnswerRight at (on_flag at next f)
     unfolding bool_at
-    flags-right at next x (Is b) e = flag-right x b (simp (le-leb _ _ h) at e)
-    flags-right at next x NoFlag e = tt
+    flags-right at next x (Some b) e = flag-right x b (simp (le-leb _ _ h) at e)
+    flags-right at next x None e = tt
 
-    ints-right : (at next : ℕ) → expects what 2 ≡ true → (n : Number) → integer_at s start len ≡ n → AnswerRight at (on_number at next n)
+    ints-right : (at next : ℕ) → expects what 2 ≡ true → (n : Option ℤ) → integer_at s start len ≡ n → AnswerRight at (on_number at next n)
     unfolding integer_at
-    ints-right at next x (Whole z) e = number-right at x z (simp (le-leb _ _ h) at e)
-    ints-right at next x NoInt e = tt
+    ints-right at next x (Some z) e = number-right at x z (simp (le-leb _ _ h) at e)
+    ints-right at next x None e = tt
 
-    doubles-right : (at next : ℕ) → expects what 9 ≡ true → (n : Read) → real_at s start len ≡ n → AnswerRight at (on_real at next n)
+    doubles-right : (at next : ℕ) → expects what 9 ≡ true → (n : Option Float) → real_at s start len ≡ n → AnswerRight at (on_real at next n)
     unfolding real_at
-    doubles-right at next x (Double y) e = real-right x y (simp (le-leb _ _ h) at e)
-    doubles-right at next x NoReal e = tt
+    doubles-right at next x (Some y) e = real-right x y (simp (le-leb _ _ h) at e)
+    doubles-right at next x None e = tt
 
     abbrev by_kind : {m n : ℕ} → m ≡ n → expects what m ≡ true → expects what n ≡ true
     by_kind e x = ap (expects what) (sym e) ∙ x

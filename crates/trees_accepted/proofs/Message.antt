@@ -1,5 +1,7 @@
 -- Whatever message the reader accepts, its entries are those of a legal tree (`is-legal`) and make it (`makes-tree`), and it is no shorter than the least
 -- message of that tree (`is-least`, `no-shorter`).
+use Rattle.std.specs.Prelude.{Result, Ok, Err}
+use Rattle.ber_containers.specs.declared.No.{No}
 use Prim.Native.Nat.{ℕ, suc, ◌+◌, ◌≤◌}
 use mathlib.Core.Path.{◌≡◌, refl, sym, ap, subst, ◌∙◌}
 use mathlib.Core.List.{List, []}
@@ -15,16 +17,10 @@ use Rattle.ber_containers.specs.declared.Open.{Open}
 use Rattle.ber_containers.specs.declared.Tag.{Tag}
 use Rattle.ber_containers.specs.declared.Stands.{Stands}
 use Rattle.ber_containers.specs.declared.Stands.TheVariants.{Ended, Here, Refused}
-use Rattle.ber_containers.specs.declared.Found.{Found}
-use Rattle.ber_containers.specs.declared.Found.TheVariants.{Value, Refused as NotFound}
-use Rattle.ber_containers.specs.declared.Onto.{Onto}
-use Rattle.ber_containers.specs.declared.Onto.TheVariants.{Next, Refused as Stopped}
 use Rattle.ber_containers.specs.Ends.{enter_at, first_at, last_at, is_tag}
 use Rattle.glow_rows.specs.Entry.{Entries}
 use Rattle.glow_grammar.specs.Grammar.{root_of}
 use Rattle.glow_grammar.proofs.Tables.{root_by, root-short}
-use Rattle.glow_steps.specs.declared.Top.{Top}
-use Rattle.glow_steps.specs.declared.Top.TheVariants.{Root, Refused as NoRoot}
 use Rattle.glow_walk.specs.Tree.{Out, closed, items_by}
 use Rattle.glow_steps.specs.Root.{unbounded, root_kind, root_in, top_of, top_at}
 use Rattle.glow_walk.specs.Walk.{finished, walk_of, walk}
@@ -49,9 +45,9 @@ pub record Tree (s : List ℕ) (least : ℕ → List ℕ) (which : ℕ) (es : En
   pub size : length (message_octets least which tree) ≤ length s
 
 module _ (s : List ℕ) (octets : Below 256 s) (short : length s ≤ 16384) (least : ℕ → List ℕ) (reals : RealsLeast least) where
-  abbrev TopTell : Top → Type 0
-  TopTell (Root which outer g) = (is_root which ≡ true) × Inside s octets short least reals 0 64 outer g 63
-  TopTell (NoRoot e) = Unit {0}
+  abbrev TopTell : Result (ℕ × Open × Tag) No → Type 0
+  TopTell (Ok (which, outer, g)) = (is_root which ≡ true) × Inside s octets short least reals 0 64 outer g 63
+  TopTell (Err e) = Unit {0}
 
   root_is : (number : ℕ) → (root_of number ≡ 4 → ⊥) → is_root (root_of number) ≡ true
   root_is number = root_by (λ (which : ℕ). (which ≡ 4 → ⊥) → is_root which ≡ true) number (λ e n. refl) (λ e n. refl) (λ n. absurd (n refl))
@@ -65,11 +61,11 @@ module _ (s : List ℕ) (octets : Below 256 s) (short : length s ≤ 16384) (lea
       go true e n = (root_is g.number n, tag-form g 1 1 g.number e)
       go false e n = absurd (n refl)
 
-  root_in_lem : (t : Tag) (b : Begins s 0 t) (x : Found) → FirstTell s octets t.start b.within t.inner 63 x → TopTell (root_in t x)
-  root_in_lem t b (Value g) w =
+  root_in_lem : (t : Tag) (b : Begins s 0 t) (x : Result Tag No) → FirstTell s octets t.start b.within t.inner 63 x → TopTell (root_in t x)
+  root_in_lem t b (Ok g) w =
       pick-by TopTell (eqb (root_kind g) 4) (λ e. tt)
       (λ e. let r = root-kind g (eqb-false (root_kind g) 4 e) in (r.0, inside_of s octets short least reals 0 64 t g b w.0 (omega arith) (omega arith)))
-  root_in_lem t b (NotFound e) w = tt
+  root_in_lem t b (Err e) w = tt
 
   begins : 0 ≤ length s
   begins = omega arith
@@ -109,32 +105,32 @@ module _ (s : List ℕ) (octets : Below 256 s) (short : length s ≤ 16384) (lea
         }
 
     finish-tells : (q : ℕ) (es : Entries) → ItemsRead s octets short least reals 62 g.inner which 0 0 g.start [] q es
-        → (h : q ≤ length s) (a : Onto) → LastTell s octets q h outer a → AnswerTell Claim (finished s a) es
+        → (h : q ≤ length s) (a : Result ℕ No) → LastTell s octets q h outer a → AnswerTell Claim (finished s a) es
     unfolding finished
-    finish-tells q es r h (Next n) w =
-        pick-by (λ (a : Onto). AnswerTell Claim a es) (eqb n (length s)) (λ e. whole r w.0 (eqb-true n (length s) e)) (λ e. tt)
-    finish-tells q es r h (Stopped e) w = tt
+    finish-tells q es r h (Ok n) w =
+        pick-by (λ (a : Result ℕ No). AnswerTell Claim a es) (eqb n (length s)) (λ e. whole r w.0 (eqb-true n (length s) e)) (λ e. tt)
+    finish-tells q es r h (Err e) w = tt
 
-    closed-tells : (a : Onto) (es : Entries) → AnswerTell (ItemsRead s octets short least reals 62 g.inner which 0 0 g.start []) a es
+    closed-tells : (a : Result ℕ No) (es : Entries) → AnswerTell (ItemsRead s octets short least reals 62 g.inner which 0 0 g.start []) a es
         → AnswerTell Claim (finished s (closed s outer 63 a)) es
     unfolding closed finished
-    closed-tells (Next q) es r = finish-tells q es r r.ends (last_at s q outer 63) (last-tells s octets q r.ends outer 63)
-    closed-tells (Stopped e) es r = tt
+    closed-tells (Ok q) es r = finish-tells q es r r.ends (last_at s q outer 63) (last-tells s octets q r.ends outer 63)
+    closed-tells (Err e) es r = tt
 
-  walk-of : (x : Top) → TopTell x → AnswerTell (λ n es. Tree s least (walk_of s x).which es) (walk_of s x).out.answer (walk_of s x).out.entries
-  walk-of (Root which outer g) w =
+  walk-of : (x : Result (ℕ × Open × Tag) No) → TopTell x → AnswerTell (λ n es. Tree s least (walk_of s x).which es) (walk_of s x).out.answer (walk_of s x).out.entries
+  walk-of (Ok (which, outer, g)) w =
       let x : Out = items_by (suc (length s)) s 62 g.inner which 0 0 g.start [] in
       closed-tells which outer g w.0 w.1 x.answer x.entries
       (items-walk s octets short least reals (suc (length s)) 62 g.inner which 0 0 g.start [] w.1.starts (omega arith))
-  walk-of (NoRoot e) w = tt
+  walk-of (Err e) w = tt
 
   -- Whatever message the reader accepts: its entries are those of a legal tree, and the tree's least message is no longer.
-  pub is-least : {n : ℕ} → (walk s).out.answer ≡ Next n → Tree s least (walk s).which (walk s).out.entries
+  pub is-least : {n : ℕ} → (walk s).out.answer ≡ Ok n → Tree s least (walk s).which (walk s).out.entries
   unfolding walk
-  is-least e = subst (λ (a : Onto). AnswerTell (λ n es. Tree s least (walk s).which es) a (walk s).out.entries) e (walk-of (top_at s) top-tells)
+  is-least e = subst (λ (a : Result ℕ No). AnswerTell (λ n es. Tree s least (walk s).which es) a (walk s).out.entries) e (walk-of (top_at s) top-tells)
 
   -- Of all messages with the entries of a legal tree that the reader accepts, none is shorter than the tree's least.
-  pub no-shorter : {n : ℕ} → (walk s).out.answer ≡ Next n → (t : Trees) → legal_root (walk s).which t ≡ true
+  pub no-shorter : {n : ℕ} → (walk s).out.answer ≡ Ok n → (t : Trees) → legal_root (walk s).which t ≡ true
       → items_of s (walk s).out.entries ≡ flat 0 0 t → length (message_octets least (walk s).which t) ≤ length s
   no-shorter e t l q =
       let r = is-least e in
@@ -142,14 +138,14 @@ module _ (s : List ℕ) (octets : Below 256 s) (short : length s ≤ 16384) (lea
       r.size
 
 -- Whatever message the reader accepts, its entries are those of a legal tree.
-pub is-legal : (s : List ℕ) → Below 256 s → length s ≤ 16384 → {n : ℕ} → (walk s).out.answer ≡ Next n
+pub is-legal : (s : List ℕ) → Below 256 s → length s ≤ 16384 → {n : ℕ} → (walk s).out.answer ≡ Ok n
     → (t : Trees) × ((legal_root (walk s).which t ≡ true) × (items_of s (walk s).out.entries ≡ flat 0 0 t))
 is-legal s octets short e =
     let r = is-least s octets short (λ w. []) (λ bs x b q. omega arith) e in
     (r.tree, (r.legals, r.entries))
 
 -- .. and they make that tree.
-pub makes-tree : (s : List ℕ) → Below 256 s → length s ≤ 16384 → {n : ℕ} → (walk s).out.answer ≡ Next n
+pub makes-tree : (s : List ℕ) → Below 256 s → length s ≤ 16384 → {n : ℕ} → (walk s).out.answer ≡ Ok n
     → (t : Trees) × ((legal_root (walk s).which t ≡ true) × (trees_of (walk s).which (items_of s (walk s).out.entries) ≡ taken t []))
 makes-tree s octets short e =
     let r = is-legal s octets short e in

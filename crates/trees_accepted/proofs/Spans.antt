@@ -1,4 +1,6 @@
 -- Where a container begins and where it ends, and that it is no shorter than the shortest tag around what it holds.
+use Rattle.std.specs.Prelude.{Result, Ok, Err}
+use Rattle.ber_containers.specs.declared.No.{No}
 use Prim.Native.Nat.{ℕ, zero, suc, ◌+◌, ◌-◌, ◌<◌, ◌≤◌}
 use mathlib.Core.Path.{◌≡◌, refl}
 use mathlib.Core.List.{List}
@@ -21,10 +23,6 @@ use Rattle.ber_containers.specs.declared.Open.{Open}
 use Rattle.ber_containers.specs.declared.Tag.{Tag}
 use Rattle.ber_containers.specs.declared.Stands.{Stands}
 use Rattle.ber_containers.specs.declared.Stands.TheVariants.{Ended, Here, Refused}
-use Rattle.ber_containers.specs.declared.Found.{Found}
-use Rattle.ber_containers.specs.declared.Found.TheVariants.{Value, Refused as NotFound}
-use Rattle.ber_containers.specs.declared.Onto.{Onto}
-use Rattle.ber_containers.specs.declared.Onto.TheVariants.{Next, Refused as Stopped}
 use Rattle.ber_containers.specs.declared.Crossing.{Crossing}
 use Rattle.ber_containers.specs.declared.Crossing.TheVariants.{Over as Ends, Past, Into, Refused as Stuck}
 use Rattle.ber_containers.specs.Ends.{bit, of_head, zero_at, closing_at, standing_at, deep, counted, enter_at, first_of, first_at, last_of, last_at}
@@ -120,13 +118,13 @@ module _ (s : List ℕ) (octets : Below 256 s) where
     EnterTell o k (Here t) = Begins s p t × Allowed k t
     EnterTell o k (Refused e) = Unit {0}
 
-    abbrev pub FirstTell : Open → ℕ → Found → Type 0
-    FirstTell o k (Value t) = Begins s p t × Allowed k t
-    FirstTell o k (NotFound e) = Unit {0}
+    abbrev pub FirstTell : Open → ℕ → Result Tag No → Type 0
+    FirstTell o k (Ok t) = Begins s p t × Allowed k t
+    FirstTell o k (Err e) = Unit {0}
 
-    abbrev pub LastTell : Open → Onto → Type 0
-    LastTell o (Next n) = Closes o p n × (n ≤ length s)
-    LastTell o (Stopped e) = Unit {0}
+    abbrev pub LastTell : Open → Result ℕ No → Type 0
+    LastTell o (Ok n) = Closes o p n × (n ≤ length s)
+    LastTell o (Err e) = Unit {0}
 
     shallow : (k : ℕ) (t : Tag) → deep t.constructed k ≡ false → Allowed k t
     unfolding deep
@@ -170,9 +168,9 @@ module _ (s : List ℕ) (octets : Below 256 s) where
     last-tells o k = last-of o k (standing_at s p o) (standing-tells o)
 
   -- what is passed over ends later, and in the message
-  abbrev pub OnTell : ℕ → Onto → Type 0
-  OnTell p (Next n) = (p ≤ n) × (n ≤ length s)
-  OnTell p (Stopped e) = Unit {0}
+  abbrev pub OnTell : ℕ → Result ℕ No → Type 0
+  OnTell p (Ok n) = (p ≤ n) × (n ≤ length s)
+  OnTell p (Err e) = Unit {0}
 
   abbrev CrossTell : ℕ → Crossing → Type 0
   CrossTell p (Ends n) = (p ≤ n) × (n ≤ length s)
@@ -193,9 +191,9 @@ module _ (s : List ℕ) (octets : Below 256 s) where
       pick-by (OnTell p) (leb t.inner.end (length s))
       (λ e. let u = ends-later p t b c in let v = b.later in (omega arith, leb-true t.inner.end (length s) e)) (λ e. tt)
 
-  past-of : (p : ℕ) (x : Onto) → OnTell p x → CrossTell p (past_of x)
-  past-of p (Next n) w = w
-  past-of p (Stopped e) w = tt
+  past-of : (p : ℕ) (x : Result ℕ No) → OnTell p x → CrossTell p (past_of x)
+  past-of p (Ok n) w = w
+  past-of p (Err e) w = tt
 
   cross-of : (p : ℕ) (o : Open) (k : ℕ) (x : Stands) → StandsTell p o x → CrossTell p (cross_of s p k x)
   cross-of p o k (Ended n) w = (closes-later o p n w.0, w.1)
@@ -209,7 +207,7 @@ module _ (s : List ℕ) (octets : Below 256 s) where
   unfolding cross_at
   cross-tells p h o k = cross-of p o k (standing_at s p o) (standing-tells p h o)
 
-  on-crossing : (p : ℕ) (x : Crossing) (past : ℕ → Onto) (into : Tag → Onto) → CrossTell p x
+  on-crossing : (p : ℕ) (x : Crossing) (past : ℕ → Result ℕ No) (into : Tag → Result ℕ No) → CrossTell p x
       → ((n : ℕ) → p ≤ n → n ≤ length s → OnTell p (past n))
       → ((t : Tag) → p ≤ t.start → t.start ≤ length s → OnTell p (into t)) → OnTell p (on_crossing x past into)
   on-crossing p (Ends n) past into w f g = w
@@ -217,17 +215,17 @@ module _ (s : List ℕ) (octets : Below 256 s) where
   on-crossing p (Into t) past into w f g = g t w.0 w.1
   on-crossing p (Stuck e) past into w f g = tt
 
-  on-wards : (p : ℕ) (x : Onto) (go : ℕ → Onto) → OnTell p x → ((n : ℕ) → p ≤ n → n ≤ length s → OnTell n (go n)) → OnTell p (onwards x go)
-  on-wards p (Next n) go w f = later p n (go n) w.0 (f n w.0 w.1)
+  on-wards : (p : ℕ) (x : Result ℕ No) (go : ℕ → Result ℕ No) → OnTell p x → ((n : ℕ) → p ≤ n → n ≤ length s → OnTell n (go n)) → OnTell p (onwards x go)
+  on-wards p (Ok n) go w f = later p n (go n) w.0 (f n w.0 w.1)
     where
-      later : (p n : ℕ) (x : Onto) → p ≤ n → OnTell n x → OnTell p x
-      later p n (Next m) h w = (omega (arith, w.0), w.1)
-      later p n (Stopped e) h w = tt
-  on-wards p (Stopped e) go w f = tt
+      later : (p n : ℕ) (x : Result ℕ No) → p ≤ n → OnTell n x → OnTell p x
+      later p n (Ok m) h w = (omega (arith, w.0), w.1)
+      later p n (Err e) h w = tt
+  on-wards p (Err e) go w f = tt
 
-  on-later : (p n : ℕ) (x : Onto) → p ≤ n → OnTell n x → OnTell p x
-  on-later p n (Next m) h w = (omega (arith, w.0), w.1)
-  on-later p n (Stopped e) h w = tt
+  on-later : (p n : ℕ) (x : Result ℕ No) → p ≤ n → OnTell n x → OnTell p x
+  on-later p n (Ok m) h w = (omega (arith, w.0), w.1)
+  on-later p n (Err e) h w = tt
 
   through-tells : (f k : ℕ) (o : Open) (p : ℕ) → p ≤ length s → OnTell p (through_by f s k o p)
   unfolding through_by

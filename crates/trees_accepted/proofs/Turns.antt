@@ -1,4 +1,6 @@
 -- One turn of the walk: what is known of each answer.
+use Rattle.std.specs.Prelude.{Result, Ok, Err}
+use Rattle.ber_containers.specs.declared.No.{No}
 use Prim.Native.Nat.{ℕ, ◌+◌, ◌-◌, ◌<◌, ◌≤◌}
 use mathlib.Core.Path.{◌≡◌, refl, subst}
 use mathlib.Core.List.{List, [], ◌∷◌}
@@ -15,10 +17,6 @@ use Rattle.ber_containers.specs.declared.Open.{Open}
 use Rattle.ber_containers.specs.declared.Tag.{Tag}
 use Rattle.ber_containers.specs.declared.Stands.{Stands}
 use Rattle.ber_containers.specs.declared.Stands.TheVariants.{Ended, Here, Refused}
-use Rattle.ber_containers.specs.declared.Found.{Found}
-use Rattle.ber_containers.specs.declared.Found.TheVariants.{Value, Refused as NotFound}
-use Rattle.ber_containers.specs.declared.Onto.{Onto}
-use Rattle.ber_containers.specs.declared.Onto.TheVariants.{Next, Refused as Stopped}
 use Rattle.ber_containers.specs.Ends.{enter_at, first_at, last_at, is_tag}
 use Rattle.ber_containers.specs.Passing.{passed_at}
 use Rattle.glow_rows.specs.declared.Cell.{Cell}
@@ -118,9 +116,9 @@ module _ (s : List ℕ) (octets : Below 256 s) (short : length s ≤ 16384) (lea
       abbrev what : ℕ
       what = rule_of row t.number
 
-      over-tells : rule_of row t.number ≡ 0 → (x : Onto) → OnTell s octets p x → MemberTell o (over_of (after_other row before t.number) x)
-      over-tells e (Next n) w = record { n = t.number; rule = e; order = order; afters = refl; later = w.0; ends = w.1 }
-      over-tells e (Stopped x) w = tt
+      over-tells : rule_of row t.number ≡ 0 → (x : Result ℕ No) → OnTell s octets p x → MemberTell o (over_of (after_other row before t.number) x)
+      over-tells e (Ok n) w = record { n = t.number; rule = e; order = order; afters = refl; later = w.0; ends = w.1 }
+      over-tells e (Err x) w = tt
 
       module _ (some : rule_of row t.number ≡ 0 → ⊥) (held : t.constructed ≡ 1) (fresh : again row before t.number ≡ false)
           (g : Tag) (gb : Begins s t.start g) (ga : g.constructed ≡ 1 → 0 < k - 1) where
@@ -159,10 +157,10 @@ module _ (s : List ℕ) (octets : Below 256 s) (short : length s ≤ 16384) (lea
           where
             go : Right s least reals octets what above g.start (g.inner.end - g.start) v n → (n ≤ 16) ⊎ (n ≡ above)
                 → (g.inner.definite ≡ 1) × (g.start + (g.inner.end - g.start) ≡ g.inner.end) → (w : g.inner.end ≤ length s)
-                → (x : Onto) → LastTell s octets g.inner.end w t.inner x
+                → (x : Result ℕ No) → LastTell s octets g.inner.end w t.inner x
                 → MemberTell o (kept_of after (column row t.number) v n x)
-            go r f d w (Stopped x) l = tt
-            go r f d w (Next next) l =
+            go r f d w (Err x) l = tt
+            go r f d w (Ok next) l =
                 let m = inside least (content_of s v) in
                 let u : g.start + m ≤ g.inner.end = omega (arith, r.size, d.1) in
                 let y = tag-holds t.start g g.inner.end g.inner.end m gb.tells (inl (d.0, (refl, refl))) u (omega arith) in
@@ -191,13 +189,13 @@ module _ (s : List ℕ) (octets : Below 256 s) (short : length s ≤ 16384) (lea
             (λ e. leaf-tells h (tag-form g 0 0 g.number e) (leaf_at s t.start g.number g.start (g.inner.end - g.start) what above) refl)
             (λ e. tt)
 
-      value_tells : (rule_of row t.number ≡ 0 → ⊥) → (held : t.constructed ≡ 1) → again row before t.number ≡ false → (x : Found)
+      value_tells : (rule_of row t.number ≡ 0 → ⊥) → (held : t.constructed ≡ 1) → again row before t.number ≡ false → (x : Result Tag No)
           → FirstTell s octets t.start b.within t.inner (k - 1) x
           → MemberTell o (value_of s t (k - 1) what above (after_listed row before t.number) (column row t.number) x)
-      value_tells some held fresh (Value g) w =
+      value_tells some held fresh (Ok g) w =
           pick-by (MemberTell o) (leb 13 what) (λ e. inner-tells some held fresh g w.0 w.1 (leb-true 13 what e))
           (λ e. plain-tells some held fresh g w.0 w.1 (leb-false 13 what e))
-      value_tells some held fresh (NotFound e) w = tt
+      value_tells some held fresh (Err e) w = tt
 
       ruled-tells : MemberTell o (ruled_at s p t (k - 1) row above before what)
       unfolding ruled_at listed_at
@@ -238,12 +236,12 @@ module _ (s : List ℕ) (octets : Below 256 s) (short : length s ≤ 16384) (lea
         go true e n = (kind-stands which g.number n, tag-form g 1 1 g.number e)
         go false e n = absurd (n refl)
 
-    element-of : (o : Open) (t : Tag) (b : Begins s p t) → 0 < k → (x : Found) → FirstTell s octets t.start b.within t.inner (k - 1) x
+    element-of : (o : Open) (t : Tag) (b : Begins s p t) → 0 < k → (x : Result Tag No) → FirstTell s octets t.start b.within t.inner (k - 1) x
         → ItemTell o (element_of which t (k - 1) x)
-    element-of o t b l (Value g) w =
+    element-of o t b l (Ok g) w =
         pick-by (ItemTell o) (eqb (kind_of which g) 0) (λ e. tt)
         (λ e. let i = kind-in g (eqb-false (kind_of which g) 0 e) in (i.0, inside_of p k t g b w.0 l (w.1 i.1)))
-    element-of o t b l (NotFound e) w = tt
+    element-of o t b l (Err e) w = tt
 
     item-of : (h : p ≤ length s) (o : Open) (x : Stands) → EnterTell s octets p h o k x → ItemTell o (item_of s p k which x)
     item-of h o (Ended n) w = w

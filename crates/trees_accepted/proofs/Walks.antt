@@ -1,4 +1,6 @@
 -- The walk by its answers: a fact about what it gives, from a fact for each way on.
+use Rattle.std.specs.Prelude.{Result, Ok, Err}
+use Rattle.ber_containers.specs.declared.No.{No}
 use Prim.Native.Nat.{ℕ, ◌≤◌}
 use mathlib.Core.Path.{◌≡◌}
 use mathlib.Core.List.{List}
@@ -7,8 +9,6 @@ use lib.ListN.{length}
 use Rattle.ber_integers.proofs.Radix.{Below}
 use Rattle.ber_containers.specs.declared.Open.{Open}
 use Rattle.ber_containers.specs.declared.Tag.{Tag}
-use Rattle.ber_containers.specs.declared.Onto.{Onto}
-use Rattle.ber_containers.specs.declared.Onto.TheVariants.{Next, Refused as Stopped}
 use Rattle.ber_containers.specs.Ends.{last_at}
 use Rattle.glow_rows.specs.declared.Cell.{Cell}
 use Rattle.glow_rows.specs.Entry.{Entries}
@@ -25,9 +25,9 @@ use Rattle.trees_accepted.proofs.Leaves.{RealsLeast}
 use Rattle.trees_accepted.proofs.Turns.{Inside, LeafRead, OverRead, InnerRead, MemberTell, ItemTell}
 
 -- what is claimed of the place and the entries where the walk goes on, and nothing where it stops
-abbrev pub AnswerTell : (ℕ → Entries → Type 0) → Onto → Entries → Type 0
-AnswerTell C (Next q) es = C q es
-AnswerTell C (Stopped e) es = Unit {0}
+abbrev pub AnswerTell : (ℕ → Entries → Type 0) → Result ℕ No → Entries → Type 0
+AnswerTell C (Ok q) es = C q es
+AnswerTell C (Err e) es = Unit {0}
 
 abbrev pub OutTell : (ℕ → Entries → Type 0) → Out → Type 0
 OutTell C x = AnswerTell C x.answer x.entries
@@ -37,9 +37,9 @@ module _ (s : List ℕ) (octets : Below 256 s) where
       → ((n : ℕ) → Closes outer q n → n ≤ length s → OutTell D (go n es)) → OutTell D (on_next (last_at s q outer j) es go)
   closed-tells outer j q h D go es f = by (last_at s q outer j) (last-tells s octets q h outer j)
     where
-      by : (a : Onto) → LastTell s octets q h outer a → OutTell D (on_next a es go)
-      by (Next n) w = f n w.0 w.1
-      by (Stopped e) w = tt
+      by : (a : Result ℕ No) → LastTell s octets q h outer a → OutTell D (on_next a es go)
+      by (Ok n) w = f n w.0 w.1
+      by (Err e) w = tt
 
   -- what was read inside an outer tag, and what comes after it
   pub then-tells : (outer : Open) (j : ℕ) (C D : ℕ → Entries → Type 0) (x : Out) (go : ℕ → Entries → Out) → OutTell C x
@@ -48,9 +48,9 @@ module _ (s : List ℕ) (octets : Below 256 s) where
   unfolding closed
   then-tells outer j C D x go w h f = by x.answer x.entries w
     where
-      by : (a : Onto) (es : Entries) → AnswerTell C a es → OutTell D (on_next (closed s outer j a) es go)
-      by (Next q) es c = closed-tells outer j q (h q es c) D go es (λ n d l. f q n es c d l)
-      by (Stopped e) es c = tt
+      by : (a : Result ℕ No) (es : Entries) → AnswerTell C a es → OutTell D (on_next (closed s outer j a) es go)
+      by (Ok q) es c = closed-tells outer j q (h q es c) D go es (λ n d l. f q n es c d l)
+      by (Err e) es c = tt
 
   module _ (short : length s ≤ 16384) (least : ℕ → List ℕ) (reals : RealsLeast least) (p k : ℕ) (o : Open) (D : ℕ → Entries → Type 0) (es : Entries) where
     module _ (row above before : ℕ) where

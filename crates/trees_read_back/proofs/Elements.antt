@@ -1,4 +1,5 @@
 -- What stands in an element: a command's, a connection's or a stream entry's members; number or path, contents, children and connections.
+use Rattle.std.specs.Prelude.{Ok}
 use Prim.Native.Nat.{ℕ, suc, ◌+◌, ◌-◌, ◌≤◌, ◌<◌}
 use mathlib.Core.Path.{◌≡◌, refl, sym, ap, subst, ◌∙◌}
 use mathlib.Core.List.{List, [], ◌∷◌, ◌++◌, append_assoc, append-nil}
@@ -10,7 +11,6 @@ use lib.ListN.{length, drop, length-append}
 use lib.Dec.{leb, eqb}
 use Rattle.base_choices.specs.Choices.{pick}
 use Rattle.base_choices.proofs.Laws.{both_left, both_right}
-use Rattle.ber_containers.specs.declared.Onto.TheVariants.{Next}
 use Rattle.glow_rows.specs.declared.Cell.{Cell}
 use Rattle.glow_rows.specs.Cell.{absent}
 use Rattle.glow_rows.specs.Entry.{Entries, blank, blanks, put_cell}
@@ -98,7 +98,7 @@ pub record Body (s : List ℕ) (k q kind above p parent : ℕ) (es : Entries) (m
   pub says : items_of s more
       ≡ item kind parent members ∷ (flat (suc (length es)) (suc (length es)) kids ++ flat (suc (length es)) (suc (length es) + count kids) links)
   pub sized : length more ≡ suc (count kids + count links)
-  pub gives : MembersGive s k (till q) kind (length es) above p 0 (with es (blank kind parent)) (out (Next q) (es ++ more))
+  pub gives : MembersGive s k (till q) kind (length es) above p 0 (with es (blank kind parent)) (out (Ok q) (es ++ more))
 
 module _ (real : ℕ → List ℕ) (spells : Spells real) (s : List ℕ) (few : length s ≤ 16384) (q k kind : ℕ) (some : 0 < k) (pre : Entries) (parent above p : ℕ)
     (rest : List ℕ) (sequence : is_set kind ≡ false) where
@@ -118,11 +118,11 @@ module _ (real : ℕ → List ℕ) (spells : Spells real) (s : List ℕ) (few : 
     abbrev made : Entries
     made = with pre (entry kind parent (inside.us ++ []))
 
-    done : MembersGive s k (till q) kind (length pre) above p 0 (with pre (entry kind parent (blanks (length xs) ++ []))) (out (Next inside.next) made)
+    done : MembersGive s k (till q) kind (length pre) above p 0 (with pre (entry kind parent (blanks (length xs) ++ []))) (out (Ok inside.next) made)
     done =
         let g = inside.goes in
         let w = f.few in
-        inside.gives (out (Next inside.next) made)
+        inside.gives (out (Ok inside.next) made)
         (members-done s k (till q) kind (length pre) above inside.next inside.after made
         (member-done s inside.next q k kind above inside.after (omega arith)
         (ready-done kind inside.after (0 + length xs) inside.ready (omega arith))))
@@ -136,9 +136,9 @@ module _ (real : ℕ → List ℕ) (spells : Spells real) (s : List ℕ) (few : 
           more = entry kind parent (inside.us ++ []) ∷ [];
           says = rw (append-nil inside.us, inside.says) refl;
           sized = refl;
-          gives = subst (λ (i : ℕ). MembersGive s k (till q) kind (length pre) above p 0 (with pre (blank kind parent)) (out (Next i) made)) e
+          gives = subst (λ (i : ℕ). MembersGive s k (till q) kind (length pre) above p 0 (with pre (blank kind parent)) (out (Ok i) made)) e
               (subst (λ (cs : List Cell). MembersGive s k (till q) kind (length pre) above p 0 (with pre (entry kind parent cs))
-              (out (Next inside.next) made))
+              (out (Ok inside.next) made))
               (append-nil (blanks (length xs)) ∙ ap blanks size) done);
         }
 
@@ -171,7 +171,7 @@ module _ (real : ℕ → List ℕ) (spells : Spells real) (s : List ℕ) (few : 
         abbrev whole : Entries
         whole = (own ++ a.more) ++ b.more
 
-        last : MembersGive s k (till q) kind (length pre) path b.next b.after whole (out (Next b.next) whole)
+        last : MembersGive s k (till q) kind (length pre) path b.next b.after whole (out (Ok b.next) whole)
         last =
             let g0 = one.goes in
             let g1 = c.goes in
@@ -189,12 +189,12 @@ module _ (real : ℕ → List ℕ) (spells : Spells real) (s : List ℕ) (few : 
             ∙ put-here pre kind parent [] absent one.value (blanks 15) (omega arith)
             ∙ ap (λ (n : ℕ). with pre (entry kind parent (one.value ∷ blanks n))) (sym size)
 
-        walked : MembersGive s k (till q) kind (length pre) above p 0 (with pre (blank kind parent)) (out (Next b.next) whole)
+        walked : MembersGive s k (till q) kind (length pre) above p 0 (with pre (blank kind parent)) (out (Ok b.next) whole)
         walked =
-            one.gives (with pre (blank kind parent)) (out (Next b.next) whole)
+            one.gives (with pre (blank kind parent)) (out (Ok b.next) whole)
             (subst (λ (es : Entries). MembersGive s k (till q) kind (length pre) path one.next (after_listed kind 0 0) es
-            (out (Next b.next) whole)) (sym start)
-            (c.gives (out (Next b.next) whole) (a.gives (out (Next b.next) whole) (b.gives (out (Next b.next) whole) last))))
+            (out (Ok b.next) whole)) (sym start)
+            (c.gives (out (Ok b.next) whole) (a.gives (out (Ok b.next) whole) (b.gives (out (Ok b.next) whole) last))))
 
         joined : whole ≡ pre ++ (entry kind parent (one.value ∷ c.us) ∷ (a.more ++ b.more))
         joined =
@@ -232,8 +232,8 @@ module _ (real : ℕ → List ℕ) (spells : Spells real) (s : List ℕ) (few : 
               more = entry kind parent (one.value ∷ c.us) ∷ (a.more ++ b.more);
               says = rw (one.says, c.says, items-append s a.more b.more, kids-say, links-say) refl;
               sized = omega arith;
-              gives = subst (λ (es : Entries). MembersGive s k (till q) kind (length pre) above p 0 (with pre (blank kind parent)) (out (Next q) es)) joined
-                  (subst (λ (i : ℕ). MembersGive s k (till q) kind (length pre) above p 0 (with pre (blank kind parent)) (out (Next i) whole)) e walked);
+              gives = subst (λ (es : Entries). MembersGive s k (till q) kind (length pre) above p 0 (with pre (blank kind parent)) (out (Ok q) es)) joined
+                  (subst (λ (i : ℕ). MembersGive s k (till q) kind (length pre) above p 0 (with pre (blank kind parent)) (out (Ok i) whole)) e walked);
             }
 
     links-none : (lk : Trees) (p' before : ℕ) (es : Entries) → is_none lk ≡ true → Ready kind before 3

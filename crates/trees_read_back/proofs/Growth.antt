@@ -1,4 +1,5 @@
 -- The trees of a collection are read as the same trees, by induction on them.
+use Rattle.std.specs.Prelude.{Ok}
 use Prim.Native.Nat.{ℕ, suc, ◌+◌, ◌-◌, ◌≤◌}
 use mathlib.Core.Path.{◌≡◌, refl, sym, ap, subst, ◌∙◌}
 use mathlib.Core.List.{List, [], ◌∷◌, ◌++◌, append_assoc, append-nil}
@@ -10,7 +11,6 @@ use lib.ListN.{length, drop, get_or, length-append}
 use lib.Dec.{leb, eqb}
 use Rattle.base_choices.specs.Choices.{pick}
 use Rattle.base_choices.proofs.Laws.{both_left, both_right}
-use Rattle.ber_containers.specs.declared.Onto.TheVariants.{Next}
 use Rattle.glow_rows.specs.Entry.{Entries}
 use Rattle.glow_grammar.specs.Grammar.{rule_of, required, is_set, contents_of, applications}
 use Rattle.glow_walk.specs.Tree.{out, ItemsGive}
@@ -174,7 +174,7 @@ module _ (real : ℕ → List ℕ) (s : List ℕ) (k end which parent above p ki
     (rest : List ℕ) (known : Known which kind) (deep : 3 ≤ k)
     (y : Outered s p end 0 1 true (get_or applications kind 0) (body_octets real kind members kids links) (trees_octets real others ++ rest))
     (b : Body s (k - 1 - 1) y.q kind above y.b parent es members kids links) (r : Grown s k end which parent above y.q (es ++ b.more) others) where
-  item-gives : ItemsGive s k (till end) which parent above p es (out (Next end) ((es ++ b.more) ++ r.more))
+  item-gives : ItemsGive s k (till end) which parent above p es (out (Ok end) ((es ++ b.more) ++ r.more))
   item-gives =
       let later = y.later in
       let later' = y.later' in
@@ -207,7 +207,7 @@ module _ (real : ℕ → List ℕ) (s : List ℕ) (k end which parent above p ki
         more = b.more ++ r.more;
         says = items-say;
         sized = omega arith;
-        gives = subst (λ (l : Entries). ItemsGive s k (till end) which parent above p es (out (Next end) l)) (append_assoc es b.more r.more) item-gives;
+        gives = subst (λ (l : Entries). ItemsGive s k (till end) which parent above p es (out (Ok end) l)) (append_assoc es b.more r.more) item-gives;
       }
 
 module _ (real : ℕ → List ℕ) (spells : Spells real) (s : List ℕ) (few : length s ≤ 16384) where
@@ -219,8 +219,8 @@ module _ (real : ℕ → List ℕ) (spells : Spells real) (s : List ℕ) (few : 
         more = [];
         says = refl;
         sized = refl;
-        gives = subst (λ (l : Entries). ItemsGive s k (till end) which parent above p es (out (Next end) l)) (sym (append-nil es))
-            (subst (λ (i : ℕ). ItemsGive s k (till end) which parent above p es (out (Next i) es)) e
+        gives = subst (λ (l : Entries). ItemsGive s k (till end) which parent above p es (out (Ok end) l)) (sym (append-nil es))
+            (subst (λ (i : ℕ). ItemsGive s k (till end) which parent above p es (out (Ok i) es)) e
             (items-done s k (till end) which parent above p es (item-done s p end k which e)));
       }
 

@@ -1,4 +1,5 @@
 -- One value that was written is kept, and its cell says it again.
+use Rattle.std.specs.Prelude.{Some}
 use Prim.Native.Nat.{ℕ, zero, suc, ◌+◌, ◌≤◌, ◌<◌}
 use mathlib.Core.Path.{◌≡◌, refl, sym, ap, subst, ◌∙◌}
 use mathlib.Core.List.{List, [], ◌∷◌, ◌++◌}
@@ -17,15 +18,12 @@ use mir.Syntax.{w64}
 use mir.Val.{SFits}
 use Rattle.base_choices.specs.Choices.{pick}
 use Rattle.base_choices.proofs.Laws.{both_left, both_right}
-use Rattle.ber_integers.specs.declared.Number.TheVariants.{Int as Whole}
 use Rattle.ber_integers.specs.Integer.{integer, integer_at, shortest}
 use Rattle.ber_integers.proofs.Laws.{at_part}
 use Rattle.ber_integers.proofs.Radix.{lt-or-le}
 use Rattle.ber_integers.proofs.RoundTrip.{written_read}
-use Rattle.ber_reals.specs.declared.Read.TheVariants.{Real as Double}
 use Rattle.ber_reals.specs.Real as reals
 use Rattle.ber_reals.specs.Real.{real_at}
-use Rattle.ber_values.specs.declared.Flag.TheVariants.{Is}
 use Rattle.ber_values.specs.declared.Value.TheVariants.{Int, Real, Text}
 use Rattle.ber_values.specs.declared.Answer.TheVariants.{Found}
 use Rattle.ber_values.specs.Value.{boolean, bool_at, content_at}
@@ -46,7 +44,7 @@ use Rattle.glow_trees.proofs.Shift.{arcs-there}
 
 -- a spelling of reals: what it writes is read as the double of these bits
 abbrev pub Spells : (ℕ → List ℕ) → Type 0
-Spells real = (w : ℕ) → w < 18446744073709551616 → is_real w ≡ true → reals.real (real w) ≡ Double (Ieee.of_bits binary64 w)
+Spells real = (w : ℕ) → w < 18446744073709551616 → is_real w ≡ true → reals.real (real w) ≡ Some (Ieee.of_bits binary64 w)
 
 -- the tag number of a member that is there, and its octets
 abbrev pub kind_of : Content → ℕ
@@ -131,7 +129,7 @@ module _ (s : List ℕ) (at start what above : ℕ) (rest : List ℕ) where
   there-part : (bs : List ℕ) → drop start s ≡ bs ++ rest → take (length bs) (drop start s) ≡ bs
   there-part bs t = ap (take (length bs)) t ∙ take-append_seam bs rest
 
-  flag-octet : (b : ℕ) → drop start s ≡ b ∷ rest → start + 1 ≤ length s → bool_at s start 1 ≡ Is (not (eqb b 0))
+  flag-octet : (b : ℕ) → drop start s ≡ b ∷ rest → start + 1 ≤ length s → bool_at s start 1 ≡ Some (not (eqb b 0))
   unfolding bool_at boolean
   flag-octet b t h = rw (le-leb _ _ h, t)
 
@@ -195,7 +193,7 @@ module _ (s : List ℕ) (at start what above : ℕ) (rest : List ℕ) where
         → Leafed s at 2 start (length (shortest (int_of w))) what above (word 2 w)
     leaf-int w k e i deep t h =
         let bs = shortest (int_of w) in
-        let n : integer_at s start (length bs) ≡ Whole (int_of w) =
+        let n : integer_at s start (length bs) ≡ Some (int_of w) =
         sym (at_part s start (length bs) h) ∙ ap integer (there-part bs t) ∙ written_read (int_of w) (int-fits w k) in
         let a : content_at s at 2 start (length bs) ≡ Found (Int (int_of w)) (start + length bs) =
         sym (content-int s at 2 start (length bs) refl (le-leb _ _ h)) ∙ rw n in
@@ -214,7 +212,7 @@ module _ (s : List ℕ) (at start what above : ℕ) (rest : List ℕ) where
     leaf-real w k e i t h =
         let bs = real w in
         let x = Ieee.of_bits binary64 w in
-        let n : real_at s start (length bs) ≡ Double x = real-part (length bs) h ∙ ap reals.real (there-part bs t) ∙ spells w k i in
+        let n : real_at s start (length bs) ≡ Some x = real-part (length bs) h ∙ ap reals.real (there-part bs t) ∙ spells w k i in
         let a : content_at s at 9 start (length bs) ≡ Found (Real x) (start + length bs) =
         sym (content-real s at 9 start (length bs) refl (le-leb _ _ h)) ∙ rw n in
         record {

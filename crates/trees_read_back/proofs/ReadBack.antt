@@ -1,6 +1,7 @@
 -- The message of a legal tree is read, and as the same tree: `reads-back` for the walk, `read_back` and `read-room` for the reader's answer. The entries that
 -- were read make the tree again (`same-tree`), and so no two legal trees have one message (`one-tree`).
 -- They hold for every spelling of reals (`Spells`); `written_real`, which the writer uses, is one (`written-spells`).
+use Rattle.std.specs.Prelude.{Some, Ok}
 use Prim.Native.Nat.{ℕ, suc, ◌+◌, ◌≤◌, ◌<◌}
 use mathlib.Core.Path.{◌≡◌, refl, sym, ap, subst, ◌∙◌}
 use mathlib.Core.List.{List, [], ◌∷◌, append-nil}
@@ -15,17 +16,13 @@ use lib.Ieee.{binary64}
 use lib.Ieee.Bits.{of_bits-fits}
 use Rattle.base_choices.specs.Choices.{pick}
 use Rattle.base_choices.proofs.Laws.{both_left, both_right}
-use Rattle.ber_reals.specs.declared.Read.TheVariants.{Real as Double}
 use Rattle.ber_reals.specs.Real as reals
 use Rattle.ber_reals.specs.Write.{Form, unwritten, octets, form}
 use Rattle.ber_reals.proofs.RoundTrip.{written_read}
 use Rattle.ber_containers.specs.declared.Stands.TheVariants.{Here}
-use Rattle.ber_containers.specs.declared.Found.TheVariants.{Value}
-use Rattle.ber_containers.specs.declared.Onto.TheVariants.{Next}
 use Rattle.ber_containers.specs.Ends.{enter_at, first_at, is_tag}
 use Rattle.glow_rows.specs.Entry.{Entries, Rows, overlay}
 use Rattle.glow_grammar.specs.Grammar.{root_of}
-use Rattle.glow_steps.specs.declared.Top.TheVariants.{Root}
 use Rattle.glow_reader.specs.declared.Answer.TheVariants.{Room, Read}
 use Rattle.glow_walk.specs.Tree.{out, items_by}
 use Rattle.glow_steps.specs.Root.{unbounded, root_kind, top_at}
@@ -75,16 +72,16 @@ rooted root e =
 
 -- the two tags around Root's collection
 module _ (s : List ℕ) (a b q number root : ℕ) where
-  top-here : enter_at s 0 unbounded 64 ≡ Here (tag_of 1 1 0 a q) → first_at s a (till q) 63 ≡ Value (tag_of 1 1 number b q) → root_of number ≡ root
+  top-here : enter_at s 0 unbounded 64 ≡ Here (tag_of 1 1 0 a q) → first_at s a (till q) 63 ≡ Ok (tag_of 1 1 number b q) → root_of number ≡ root
       → eqb root 4 ≡ false
-      → top_at s ≡ Root root (till q) (tag_of 1 1 number b q)
+      → top_at s ≡ Ok (root, till q, tag_of 1 1 number b q)
   unfolding top_at root_kind is_tag
   top-here h f r z = rw (h, f, eq-eqb number number refl, r, z) refl
 
-  walk_here : (es : Entries) → top_at s ≡ Root root (till q) (tag_of 1 1 number b q) → items_by (suc (length s)) s 62 (till q) root 0 0 b [] ≡ out (Next q) es
-      → q ≡ length s → walk s ≡ record { which = root; out = out (Next (length s)) es }
+  walk_here : (es : Entries) → top_at s ≡ Ok (root, till q, tag_of 1 1 number b q) → items_by (suc (length s)) s 62 (till q) root 0 0 b [] ≡ out (Ok q) es
+      → q ≡ length s → walk s ≡ record { which = root; out = out (Ok (length s)) es }
   unfolding walk finished
-  walk_here es t i e = rw (t, i, closes s q 63, eq-eqb q (length s) e) (ap (λ (n : ℕ). record { which = root; out = out (Next n) es }) e)
+  walk_here es t i e = rw (t, i, closes s q 63, eq-eqb q (length s) e) (ap (λ (n : ℕ). record { which = root; out = out (Ok n) es }) e)
 
 module _ (real : ℕ → List ℕ) (spells : Spells real) (root : ℕ) (t : Trees) (right : legal_root root t ≡ true)
     (few : length (message_octets real root t) ≤ 16384) where
@@ -124,7 +121,7 @@ module _ (real : ℕ → List ℕ) (spells : Spells real) (root : ℕ) (t : Tree
       enter-here m 0 18446744073709551615 64 1 0 outside.start (length m)
       (outside.here ∙ ap (λ (i : ℕ). Here (tag_of 1 1 0 outside.start i)) all) (omega arith)
 
-  first : first_at m outside.start (till (length m)) 63 ≡ Value (tag_of 1 1 (root_number root) inside.start (length m))
+  first : first_at m outside.start (till (length m)) 63 ≡ Ok (tag_of 1 1 (root_number root) inside.start (length m))
   first =
       let e = outside.ends in
       let i : outside.start + length within ≡ length m = omega (arith, all) in
@@ -138,7 +135,7 @@ module _ (real : ℕ → List ℕ) (spells : Spells real) (root : ℕ) (t : Tree
       grows real spells m few t 62 (length m) root 0 0 inside.start [] [] is-legal inside.there (omega (arith, all))
 
   -- The message of a legal tree is walked to its end, and the entries are the tree's.
-  pub reads-back : (es : Entries) × ((walk m ≡ record { which = root; out = out (Next (length m)) es }) × (items_of m es ≡ flat 0 0 t))
+  pub reads-back : (es : Entries) × ((walk m ≡ record { which = root; out = out (Ok (length m)) es }) × (items_of m es ≡ flat 0 0 t))
   reads-back = (
     trees.more,
     (
@@ -202,7 +199,7 @@ pub written-spells : Spells written_real
 unfolding is_real written_real
 written-spells w h e = go (form (Ieee.of_bits binary64 w)) refl (unless (Ieee.nan_bits binary64 w) _ e).1
   where
-    go : (f : Form) → form (Ieee.of_bits binary64 w) ≡ f → is_formed f ≡ true → reals.real (form_octets f) ≡ Double (Ieee.of_bits binary64 w)
+    go : (f : Form) → form (Ieee.of_bits binary64 w) ≡ f → is_formed f ≡ true → reals.real (form_octets f) ≡ Some (Ieee.of_bits binary64 w)
     go unwritten q i = never i
     go (octets bs) q i = written_read (Ieee.of_bits binary64 w) bs (of_bits-fits binary64 w) q
 

@@ -1,4 +1,5 @@
 -- The parts of an element behind its number or path: contents, then a collection, each left out where it is empty.
+use Rattle.std.specs.Prelude.{Ok}
 use Prim.Native.Nat.{ℕ, suc, ◌+◌, ◌-◌, ◌≤◌, ◌<◌}
 use mathlib.Core.Path.{◌≡◌, refl, sym, ap, subst, ◌∙◌}
 use mathlib.Core.List.{List, [], ◌∷◌, ◌++◌, append-nil}
@@ -12,7 +13,6 @@ use Rattle.base_choices.specs.Choices.{pick}
 use Rattle.base_choices.proofs.Laws.{both_left, both_right}
 use Rattle.ber_tags.specs.Write.{tag_octets, length_octets}
 use Rattle.ber_tags.proofs.Written.{tag-cons}
-use Rattle.ber_containers.specs.declared.Onto.TheVariants.{Next}
 use Rattle.glow_rows.specs.declared.Cell.{Cell}
 use Rattle.glow_rows.specs.Entry.{Entries, blanks}
 use Rattle.glow_grammar.specs.Grammar.{rule_of, required, is_set, contents_of, inner_class, inner_number, collection_of}
@@ -79,7 +79,7 @@ unfolding wrapped
 wrapped-some n class number [] h = absurd (omega arith)
 wrapped-some n class number (x ∷ xs) h = refl
 
-pub closes : (s : List ℕ) (q j : ℕ) → closed s (till q) j (Next q) ≡ Next q
+pub closes : (s : List ℕ) (q j : ℕ) → closed s (till q) j (Ok q) ≡ Ok q
 unfolding closed
 closes s q j = last-here s q q j refl
 
@@ -88,7 +88,7 @@ pub record Grown (s : List ℕ) (k end which parent above p : ℕ) (es : Entries
   pub more : Entries
   pub says : items_of s more ≡ flat parent (length es) t
   pub sized : length more ≡ count t
-  pub gives : ItemsGive s k (till end) which parent above p es (out (Next end) (es ++ more))
+  pub gives : ItemsGive s k (till end) which parent above p es (out (Ok end) (es ++ more))
 
 abbrev pub Grows : (ℕ → List ℕ) → List ℕ → Trees → Type 0
 Grows real s t =
@@ -160,11 +160,11 @@ module _ (real : ℕ → List ℕ) (spells : Spells real) (s : List ℕ) (few : 
         first-column (omega arith) (omega arith) t (omega arith)
 
     filled : MembersGive s j (till q) row (length pre) above p 0 (with pre (entry kind parent (v ∷ (blanks (length xs) ++ []))))
-        (out (Next inside.next) (with pre (entry kind parent (v ∷ (inside.us ++ [])))))
+        (out (Ok inside.next) (with pre (entry kind parent (v ∷ (inside.us ++ [])))))
     filled =
         let z = set-required row set in
         let g = inside.goes in
-        inside.gives (out (Next inside.next) (with pre (entry kind parent (v ∷ (inside.us ++ [])))))
+        inside.gives (out (Ok inside.next) (with pre (entry kind parent (v ∷ (inside.us ++ [])))))
         (members-done s j (till q) row (length pre) above inside.next inside.after (with pre (entry kind parent (v ∷ (inside.us ++ []))))
         (member-done s inside.next q j row above inside.after (omega arith)
         (ready-done row inside.after (0 + length xs) inside.ready (omega arith))))
@@ -172,7 +172,7 @@ module _ (real : ℕ → List ℕ) (spells : Spells real) (s : List ℕ) (few : 
     -- in the container that ends at q
     pub held : (us : List Cell) × ((say s us ≡ xs) × MembersGive s j (till q) row (length pre) above p 0
         (with pre (entry kind parent (v ∷ blanks (length xs))))
-        (out (Next q) (with pre (entry kind parent (v ∷ us)))))
+        (out (Ok q) (with pre (entry kind parent (v ∷ us)))))
     held =
         let g = inside.goes in
         let e : inside.next ≡ q = omega arith in (
@@ -180,11 +180,11 @@ module _ (real : ℕ → List ℕ) (spells : Spells real) (s : List ℕ) (few : 
           (
             inside.says,
             subst (λ (i : ℕ). MembersGive s j (till q) row (length pre) above p 0 (with pre (entry kind parent (v ∷ blanks (length xs))))
-                (out (Next i) (with pre (entry kind parent (v ∷ inside.us))))) e
+                (out (Ok i) (with pre (entry kind parent (v ∷ inside.us))))) e
                 (subst (λ (cs : List Cell). MembersGive s j (till q) row (length pre) above p 0 (with pre (entry kind parent (v ∷ blanks (length xs))))
-                (out (Next inside.next) (with pre (entry kind parent (v ∷ cs))))) (append-nil inside.us)
+                (out (Ok inside.next) (with pre (entry kind parent (v ∷ cs))))) (append-nil inside.us)
                 (subst (λ (cs : List Cell). MembersGive s j (till q) row (length pre) above p 0 (with pre (entry kind parent (v ∷ cs)))
-                (out (Next inside.next) (with pre (entry kind parent (v ∷ (inside.us ++ [])))))) (append-nil (blanks (length xs))) filled)),
+                (out (Ok inside.next) (with pre (entry kind parent (v ∷ (inside.us ++ [])))))) (append-nil (blanks (length xs))) filled)),
           ),
         )
 

@@ -1,4 +1,5 @@
 -- What stands at a place where a tag with its length was written, and at a container's end. All containers here have a definite length.
+use Rattle.std.specs.Prelude.{Ok}
 use Prim.Native.Nat.{ℕ, ◌+◌, ◌*◌, ◌≤◌, ◌<◌}
 use mathlib.Core.Path.{◌≡◌, refl, sym, ap, subst, ◌∙◌}
 use mathlib.Core.List.{List, [], ◌∷◌, ◌++◌, append_assoc}
@@ -14,8 +15,6 @@ use Rattle.ber_tags.proofs.Written.{head_read, drop_past, drop-room, drop_head}
 use Rattle.ber_containers.specs.declared.Open.{Open}
 use Rattle.ber_containers.specs.declared.Tag.{Tag}
 use Rattle.ber_containers.specs.declared.Stands.TheVariants.{Ended, Here}
-use Rattle.ber_containers.specs.declared.Found.TheVariants.{Value}
-use Rattle.ber_containers.specs.declared.Onto.TheVariants.{Next}
 use Rattle.ber_containers.specs.Ends.{bit, zero_at, standing_at, deep, enter_at, first_at, last_at}
 use Rattle.glow_trees.specs.Written.{tagged, outer}
 
@@ -86,7 +85,7 @@ pub standing-end : (s : List ℕ) (p end : ℕ) → p ≡ end → standing_at s 
 unfolding standing_at
 standing-end s p end e = simp (eq-eqb _ _ e)
 
-pub last-here : (s : List ℕ) (p end k : ℕ) → p ≡ end → last_at s p (till end) k ≡ Next p
+pub last-here : (s : List ℕ) (p end k : ℕ) → p ≡ end → last_at s p (till end) k ≡ Ok p
 unfolding last_at
 last-here s p end k e = rw (standing-end s p end e)
 
@@ -101,7 +100,7 @@ unfolding enter_at
 enter-end s p end k e = rw (standing-end s p end e)
 
 pub first-here : (s : List ℕ) (p end k class c n start stop : ℕ) → standing_at s p (till end) ≡ Here (tag_of class c n start stop)
-    → deep c k ≡ false → first_at s p (till end) k ≡ Value (tag_of class c n start stop)
+    → deep c k ≡ false → first_at s p (till end) k ≡ Ok (tag_of class c n start stop)
 unfolding first_at
 first-here s p end k class c n start stop e h = rw (e, h)
 

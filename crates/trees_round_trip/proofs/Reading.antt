@@ -1,4 +1,6 @@
 -- What the answer 0 says of a message: its entries are those of a legal tree, and they stand in the table's first rows.
+use Rattle.std.specs.Prelude.{Ok, Err}
+use Rattle.ber_containers.specs.declared.No.{No}
 use Prim.Native.Nat.{ℕ, ◌≤◌}
 use mathlib.Core.Path.{◌≡◌, refl, sym, ap, subst, ◌∙◌}
 use mathlib.Core.List.{List}
@@ -10,8 +12,6 @@ use lib.Dec.{ltb}
 use Rattle.base_choices.specs.Choices.{pick}
 use Rattle.base_choices.proofs.Laws.{pick-by}
 use Rattle.ber_integers.proofs.Radix.{Below}
-use Rattle.ber_containers.specs.declared.Onto.{Onto}
-use Rattle.ber_containers.specs.declared.Onto.TheVariants.{Next, Refused as Stopped}
 use Rattle.glow_rows.specs.Entry.{Entries, Rows, overlay}
 use Rattle.glow_reader.specs.declared.Answer.{Answer}
 use Rattle.glow_reader.specs.declared.Answer.TheVariants.{Read}
@@ -33,7 +33,7 @@ pub record Walked (s : List ℕ) (table : Rows) (root count : ℕ) (rows' : Rows
   pub few : length s ≤ 16384
   pub most : length table ≤ 256
   pub next : ℕ
-  pub answer : (walk s).out.answer ≡ Next next
+  pub answer : (walk s).out.answer ≡ Ok next
   pub which : (walk s).which ≡ root
   pub counts : length (walk s).out.entries ≡ count
   pub room : count ≤ length table
@@ -43,8 +43,8 @@ module _ (s : List ℕ) (table : Rows) (root count : ℕ) where
   abbrev Says : Result → Type 0
   Says x = x.answer ≡ Read root count → Walked s table root count x.rows
 
-  of-walk : length s ≤ 16384 → length table ≤ 256 → (a : Onto) → (walk s).out.answer ≡ a → Says (read_of table (walk s).which (walk s).out.entries a)
-  of-walk f m (Next next) q =
+  of-walk : length s ≤ 16384 → length table ≤ 256 → (a : Result ℕ No) → (walk s).out.answer ≡ a → Says (read_of table (walk s).which (walk s).out.entries a)
+  of-walk f m (Ok next) q =
       pick-by Says (ltb (length table) (length (walk s).out.entries)) (λ e h. never (ap is_read h))
       (λ e h.
       let c : length (walk s).out.entries ≡ count = ap (λ (x : Answer). (reply_by x).count) h in
@@ -59,7 +59,7 @@ module _ (s : List ℕ) (table : Rows) (root count : ℕ) where
         room = omega arith;
         holds = refl;
       })
-  of-walk f m (Stopped e) q = λ h. never (ap is_read h)
+  of-walk f m (Err e) q = λ h. never (ap is_read h)
 
   bounds : setup (length s) (length table) ≡ false → (length s ≤ 16384) × (length table ≤ 256)
   unfolding setup

@@ -1,4 +1,5 @@
 -- What is read can be written, and passes the test.
+use Rattle.std.specs.Prelude.{Some}
 use Prim.Native.Nat.{ℕ, ◌≤◌, ◌<◌}
 use mathlib.Core.Path.{◌≡◌, refl, sym, subst}
 use mathlib.Core.List.{List, ◌++◌}
@@ -8,7 +9,6 @@ use native.Mathlib.Omega.{arith}
 use borrow.Author.Tests.{le-leb, lt-leb}
 use lib.ListN.{length, drop}
 use Rattle.ber_integers.specs.Digits.{outcome, unchanged}
-use Rattle.ber_integers.specs.declared.Wrote.TheVariants.{Next}
 use Rattle.ber_integers.proofs.Radix.{Below, lt-or-le}
 use Rattle.glow_rows.specs.Entry.{Rows}
 use Rattle.glow_reader.specs.declared.Answer.TheVariants.{Read}
@@ -63,7 +63,7 @@ module _ (s : List ℕ) (octets : Below 256 s) (table : Rows) (root count : ℕ)
   -- refused for its length alone, or written
   pub rewritten : (out : List ℕ)
       → ((writes root (length rows) count es out ≡ unchanged out) × ((16384 < length bs) ⊎ (length out < length bs)))
-      ⊎ (writes root (length rows) count es out ≡ outcome (Next (length bs)) (bs ++ drop (length bs) out))
+      ⊎ (writes root (length rows) count es out ≡ outcome (Some (length bs)) (bs ++ drop (length bs) out))
   rewritten out =
       ⊎_elim (λ (l : 16384 < length bs). inl (writes-no root (length rows) count es out (too_long l), inl l))
       (λ (l : length bs ≤ 16384).

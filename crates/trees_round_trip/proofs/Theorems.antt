@@ -1,6 +1,7 @@
 -- The theorems of the tree writer (document 01, demand 2: "What we write, we read back as the same tree"), for all rows, counts, messages and outputs.
 -- They speak of what the code is proved to answer: `read_at` (glow_reader::read), `writes` (glow_writer) and `accepted` (glow_sizes).
 -- Trees are compared by the content of their entries: `items_in s rows count` are those of the first `count` rows, with the message s beside them.
+use Rattle.std.specs.Prelude.{Some, None}
 use Prim.Native.Nat.{ℕ, zero, suc, ◌≤◌, ◌<◌}
 use mathlib.Core.Path.{◌≡◌, refl, sym, ap, subst, ◌∙◌}
 use mathlib.Core.List.{List, [], ◌∷◌, ◌++◌}
@@ -10,7 +11,6 @@ use native.Mathlib.Omega.{arith}
 use lib.ListN.{length, take, drop, length-append, length-drop}
 use lib.Seq.{take_at, drop_at}
 use Rattle.ber_integers.specs.Digits.{Below, outcome, unchanged}
-use Rattle.ber_integers.specs.declared.Wrote.TheVariants.{Next, Out}
 use Rattle.glow_rows.specs.Entry.{Rows}
 use Rattle.glow_reader.specs.declared.Answer.TheVariants.{Read}
 use Rattle.glow_reader.specs.Message.{read_at}
@@ -31,12 +31,12 @@ use Rattle.trees_round_trip.proofs.Rewriting.{in_rows, rewritten, read-accepting
 
 module _ (s : List ℕ) (rows : Rows) (count root : ℕ) (out : List ℕ) where
   -- 1. What is written is read back, into any table that has room, as the same tree;
-  pub written_read : (n : ℕ) (out' : List ℕ) → written s rows count root out ≡ outcome (Next n) out'
+  pub written_read : (n : ℕ) (out' : List ℕ) → written s rows count root out ≡ outcome (Some n) out'
       → ReadBack (take n out') root count (items_in s rows count)
   written_read n out' h table room most =
       let es = items_in s rows count in
       let bs = octets_of written_real root es in
-      let t = told root (length rows) count es out (Next n) out' h in
+      let t = told root (length rows) count es out (Some n) out' h in
       let f = fitting written_real root (length rows) count es t.0 in
       let c : length es ≡ count = items-count s rows count f.within in
       let r = whole-read written_real written-spells root es f.whole f.few table (omega arith) most in
@@ -45,12 +45,12 @@ module _ (s : List ℕ) (rows : Rows) (count root : ℕ) (out : List ℕ) where
       (subst (λ (k : ℕ). ReadAs bs table root k es) c (record { answer = r.0; entries = r.1 }))
 
   -- it has at most 16,384 bytes, and the output past it is as it was;
-  pub written-past : (n : ℕ) (out' : List ℕ) → written s rows count root out ≡ outcome (Next n) out'
+  pub written-past : (n : ℕ) (out' : List ℕ) → written s rows count root out ≡ outcome (Some n) out'
       → (n ≤ 16384) × ((length out' ≡ length out) × (drop n out' ≡ drop n out))
   written-past n out' h =
       let es = items_in s rows count in
       let bs = octets_of written_real root es in
-      let t = told root (length rows) count es out (Next n) out' h in
+      let t = told root (length rows) count es out (Some n) out' h in
       let few = (fitting written_real root (length rows) count es t.0).few in
       let k = t.1.0 in
       let room = t.1.1.0 in
@@ -60,8 +60,8 @@ module _ (s : List ℕ) (rows : Rows) (count root : ℕ) (out : List ℕ) where
       (omega arith, (omega arith, ap (drop n) t.1.1.1 ∙ drop_at bs (drop n out) n (sym k)))
 
   -- and a refusal, 46, leaves the whole output as it was.
-  pub refused-unchanged : (out' : List ℕ) → written s rows count root out ≡ outcome Out out' → out' ≡ out
-  refused-unchanged out' h = (told root (length rows) count (items_in s rows count) out Out out' h).0
+  pub refused-unchanged : (out' : List ℕ) → written s rows count root out ≡ outcome None out' → out' ≡ out
+  refused-unchanged out' h = (told root (length rows) count (items_in s rows count) out None out' h).0
 
 module _ (s : List ℕ) (octets : Below 256 s) (table : Rows) (root count : ℕ) (h : (read_at s table).answer ≡ Read root count) where
   -- the rows after reading, and the message that is written of them
@@ -74,11 +74,11 @@ module _ (s : List ℕ) (octets : Below 256 s) (table : Rows) (root count : ℕ)
   -- 2. What is read can be written, unless that message passes 16,384 bytes or the output; and then it is read back as the same tree.
   pub read-written : (out : List ℕ)
       → ((written s rows' count root out ≡ unchanged out) × ((16384 < length bytes') ⊎ (length out < length bytes')))
-      ⊎ ((n : ℕ) × ((out' : List ℕ) × ((written s rows' count root out ≡ outcome (Next n) out') × ReadBack (take n out') root count (items_in s rows' count))))
+      ⊎ ((n : ℕ) × ((out' : List ℕ) × ((written s rows' count root out ≡ outcome (Some n) out') × ReadBack (take n out') root count (items_in s rows' count))))
   read-written out =
       let n = length bytes' in
       let out' = bytes' ++ drop n out in
-      ⊎_elim inl (λ (e : written s rows' count root out ≡ outcome (Next n) out'). inr (n, (out', (e, written_read s rows' count root out n out' e))))
+      ⊎_elim inl (λ (e : written s rows' count root out ≡ outcome (Some n) out'). inr (n, (out', (e, written_read s rows' count root out n out' e))))
       (rewritten s octets table root count h out)
 
   -- 3. What is read passes the test.

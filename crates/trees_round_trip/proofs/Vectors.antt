@@ -1,4 +1,5 @@
 -- The theorems speak of something: P12, "one command, 32", as a row of words; and a row that is refused.
+use Rattle.std.specs.Prelude.{Some}
 use Prim.Native.Nat.{ℕ, zero, suc, ◌≤◌}
 use mathlib.Core.Path.{◌≡◌, refl, sym, ap, subst, ◌∙◌}
 use mathlib.Core.List.{List, [], ◌∷◌, ◌++◌}
@@ -8,7 +9,6 @@ use lib.ListN.{length, drop}
 use lib.Dec.{ltb}
 use borrow.Author.Tests.{ltb-true}
 use Rattle.ber_integers.specs.Digits.{outcome}
-use Rattle.ber_integers.specs.declared.Wrote.TheVariants.{Next}
 use Rattle.ber_integers.proofs.Radix.{Below}
 use Rattle.glow_rows.specs.Entry.{Rows}
 use Rattle.glow_reader.specs.Message.{read_at}
@@ -48,14 +48,14 @@ p12-octets : octets_of written_real 0 es ≡ message
 p12-octets = octets-tree 0 p12 p12-legal es p12-items written_real ∙ p12-written
 
 -- It is written, into any output of 13 bytes or more,
-pub p12-writes : (out : List ℕ) → 13 ≤ length out → written [] table 1 0 out ≡ outcome (Next 13) (message ++ drop 13 out)
+pub p12-writes : (out : List ℕ) → 13 ≤ length out → written [] table 1 0 out ≡ outcome (Some 13) (message ++ drop 13 out)
 p12-writes out h =
     let n : length (octets_of written_real 0 es) ≡ 13 = ap length p12-octets in
     let f = fits_by written_real 0 1 1 es
     (record { within = omega arith; most = omega arith; whole = whole-tree 0 p12 p12-legal es p12-items; few = omega arith }) in
     writes-yes 0 1 1 es out f (omega arith)
-    ∙ ap (λ (k : ℕ). outcome (Next k) (octets_of written_real 0 es ++ drop k out)) n
-    ∙ ap (λ (l : List ℕ). outcome (Next 13) (l ++ drop 13 out)) p12-octets
+    ∙ ap (λ (k : ℕ). outcome (Some k) (octets_of written_real 0 es ++ drop k out)) n
+    ∙ ap (λ (l : List ℕ). outcome (Some 13) (l ++ drop 13 out)) p12-octets
 
 -- and read back (1), into any table of a row or more.
 pub p12-back : ReadBack message 0 1 es
@@ -76,7 +76,7 @@ p12-read : ReadAs message table 0 1 es
 p12-read = p12-back table (omega arith) (omega arith)
 
 -- The message is read, and what is read is written again (2): the same bytes, in a sufficient output.
-pub p12-again : (out : List ℕ) → 13 ≤ length out → written message (read_at message table).rows 1 0 out ≡ outcome (Next 13) (message ++ drop 13 out)
+pub p12-again : (out : List ℕ) → 13 ≤ length out → written message (read_at message table).rows 1 0 out ≡ outcome (Some 13) (message ++ drop 13 out)
 p12-again out h =
     let rows = (read_at message table).rows in
     ap (λ (x : List Item). writes 0 (length rows) 1 x out) p12-read.entries

@@ -1,4 +1,5 @@
 -- What the writer's answers say; and the message of entries that make a whole tree is read as these entries.
+use Rattle.std.specs.Prelude.{Option, Some, None}
 use Prim.Native.Nat.{ℕ, ◌+◌, ◌≤◌, ◌<◌}
 use mathlib.Core.Path.{◌≡◌, refl, sym, ap, subst, ◌∙◌}
 use mathlib.Core.List.{List, [], ◌∷◌, ◌++◌}
@@ -11,8 +12,6 @@ use lib.Dec.{leb}
 use Rattle.base_choices.specs.Choices.{pick}
 use Rattle.base_choices.proofs.Laws.{pick-by, both_left, both_right, both-make}
 use Rattle.ber_integers.specs.Digits.{Put, outcome, put, unchanged}
-use Rattle.ber_integers.specs.declared.Wrote.{Wrote}
-use Rattle.ber_integers.specs.declared.Wrote.TheVariants.{Next, Out}
 use Rattle.ber_integers.proofs.Radix.{Below}
 use Rattle.glow_rows.specs.Entry.{Entries, Rows, overlay}
 use Rattle.glow_reader.specs.declared.Answer.TheVariants.{Read}
@@ -104,9 +103,9 @@ module _ (root rows n : ℕ) (es : List Item) (out : List ℕ) where
   abbrev bs : List ℕ
   bs = octets_of written_real root es
 
-  abbrev Tells : Wrote → List ℕ → Type 0
-  Tells (Next k) out' = (fits written_real root rows n es ≡ true) × ((k ≡ length bs) × ((k ≤ length out) × (out' ≡ bs ++ drop k out)))
-  Tells Out out' = (out' ≡ out) × ((fits written_real root rows n es ≡ false) ⊎ (length out < length bs))
+  abbrev Tells : Option ℕ → List ℕ → Type 0
+  Tells (Some k) out' = (fits written_real root rows n es ≡ true) × ((k ≡ length bs) × ((k ≤ length out) × (out' ≡ bs ++ drop k out)))
+  Tells None out' = (out' ≡ out) × ((fits written_real root rows n es ≡ false) ⊎ (length out < length bs))
 
   tells : Tells (writes root rows n es out).answer (writes root rows n es out).out
   unfolding writes put
@@ -119,7 +118,7 @@ module _ (root rows n : ℕ) (es : List Item) (out : List ℕ) where
       (λ f. let l = leb-false (0 + length bs) (length out) f in (refl, inr (omega arith))))
       (λ e. (refl, inl e))
 
-  pub told : (r : Wrote) (out' : List ℕ) → writes root rows n es out ≡ outcome r out' → Tells r out'
+  pub told : (r : Option ℕ) (out' : List ℕ) → writes root rows n es out ≡ outcome r out' → Tells r out'
   told r out' h = subst (λ (x : Put). Tells x.answer x.out) h tells
 
 -- the parts of the test
@@ -166,7 +165,7 @@ module _ (root rows n : ℕ) (es : List Item) (out : List ℕ) where
 
   pub writes-yes : fits written_real root rows n es ≡ true → length (octets_of written_real root es) ≤ length out
       → writes root rows n es out
-      ≡ outcome (Next (length (octets_of written_real root es))) (octets_of written_real root es ++ drop (length (octets_of written_real root es)) out)
+      ≡ outcome (Some (length (octets_of written_real root es))) (octets_of written_real root es ++ drop (length (octets_of written_real root es)) out)
   unfolding writes put
   writes-yes e h =
       let z : 0 + length (octets_of written_real root es) ≡ length (octets_of written_real root es) = omega arith in

@@ -1,4 +1,6 @@
 -- The tree reader's answer and the entries in the table, by the bytes and the table's length.
+use Rattle.std.specs.Prelude.{Result, Ok, Err}
+use Rattle.ber_containers.specs.declared.No.{No}
 use Prim.Native.Nat.{ℕ, ◌≤◌}
 use mathlib.Core.Bool.{Bool, true, false}
 use mathlib.Core.List.{List}
@@ -8,8 +10,6 @@ use lib.Dec.{ltb}
 use lib.ListN.{length}
 use Rattle.base_choices.specs.Choices.{pick}
 use Rattle.ber_integers.proofs.Radix.{Below}
-use Rattle.ber_containers.specs.declared.Onto.{Onto}
-use Rattle.ber_containers.specs.declared.Onto.TheVariants.{Next, Refused as Stopped}
 use Rattle.glow_rows.specs.Entry.{Entries, Rows, overlay}
 use Rattle.glow_reader.specs.declared.Answer.{Answer}
 use Rattle.glow_reader.specs.declared.Answer.TheVariants.{Setup, Refused, Room, Read}
@@ -31,16 +31,16 @@ tree_for (Refused number place) es = refusal (reply_by (Refused number place))
 tree_for (Room count) es = refusal (reply_by (Room count))
 tree_for (Read root count) es = entries (reply_by (Read root count)) es
 
-for-by : (s : List ℕ) (table : Rows) (which : ℕ) (es : Entries) (a : Onto)
+for-by : (s : List ℕ) (table : Rows) (which : ℕ) (es : Entries) (a : Result ℕ No)
     → tree_by (length table) which (items_of s es) a ≡ tree_for (read_of table which es a).answer (items_of s es)
-for-by s table which es (Next next) = rw (items-length s es) (go (ltb (length table) (length es)))
+for-by s table which es (Ok next) = rw (items-length s es) (go (ltb (length table) (length es)))
   where
     go : (u : Bool)
         → pick u (refusal (reply_by (Room (length es)))) (entries (reply_by (Read which (length es))) (items_of s es))
         ≡ tree_for (pick u (read_result (Room (length es)) table) (read_result (Read which (length es)) (overlay es table))).answer (items_of s es)
     go true = refl
     go false = refl
-for-by s table which es (Stopped e) = refl
+for-by s table which es (Err e) = refl
 
 tree-for : (s : List ℕ) (table : Rows) → tree_of s (length table) ≡ tree_for (read_at s table).answer (items_of s (walk s).out.entries)
 unfolding tree_of read_at

@@ -1,10 +1,9 @@
 -- The rules of the claim over every list of turns (document 01, "Contracts"): "The rules are fed the bytes one by one, the table's length and the starting
 -- desk. They start outside frames, no message open, and keep the open frame or stray run, the open message and the desk". They know no chunk, no session,
 -- no store, and of the table its length alone.
-use Rattle.std.specs.Prelude.{ℕ, ◌+◌, List, [], ◌∷◌, ltb, eqb, length}
+use Rattle.ber_containers.specs.declared.No.{No}
+use Rattle.std.specs.Prelude.{ℕ, ◌+◌, List, [], ◌∷◌, ltb, eqb, length, Result, Ok, Err}
 use Rattle.base_choices.specs.Choices.{pick}
-use Rattle.ber_containers.specs.declared.Onto.{Onto}
-use Rattle.ber_containers.specs.declared.Onto.TheVariants.{Next, Refused as Stopped}
 use Rattle.framing_session.specs.Rules.{State, Said, step}
 use Rattle.glow_reader.specs.declared.Answer.TheVariants.{Setup, Refused, Room, Read}
 use Rattle.glow_walk.specs.Walk.{walk}
@@ -29,10 +28,10 @@ pub data Tree : Type 0 where
   refusal : TreeSaid → Tree
 
 -- "38 ROOM: message right, table too small; says how many"
-abbrev pub tree_by : ℕ → ℕ → List Item → Onto → Tree
-tree_by table root es (Next next) =
+abbrev pub tree_by : ℕ → ℕ → List Item → Result ℕ No → Tree
+tree_by table root es (Ok next) =
     pick (ltb table (length es)) (refusal (reply_by (Room (length es)))) (entries (reply_by (Read root (length es))) es)
-tree_by table root es (Stopped e) = refusal (reply_by (Refused e.0 e.1))
+tree_by table root es (Err e) = refusal (reply_by (Refused e.0 e.1))
 
 -- by the message's bytes and the table's length; "1 SETUP: .. table over 256 entries, message over 16,384 bytes"
 unfoldable pub tree_of : List ℕ → ℕ → Tree

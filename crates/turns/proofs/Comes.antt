@@ -1,12 +1,12 @@
 -- What the three calls give, one after another, is a turn: for calls made one by one and for the function `turn`.
+use Rattle.std.specs.Prelude.{Ok, Err}
+use Rattle.ber_containers.specs.declared.No.{No}
 use Prim.Native.Nat.{ℕ}
 use mathlib.Core.Bool.{Bool}
 use mathlib.Core.List.{List, ◌∷◌, ◌++◌}
 use mathlib.Core.Path.{◌≡◌, refl, ap, subst, ◌∙◌}
 use lib.Dec.{ltb}
 use lib.ListN.{length, take, drop}
-use Rattle.ber_containers.specs.declared.Onto.{Onto}
-use Rattle.ber_containers.specs.declared.Onto.TheVariants.{Next, Refused as Stopped}
 use Rattle.base_choices.proofs.Laws.{pick-by}
 use Rattle.framing_session.specs.declared.Event.{Event}
 use Rattle.framing_session.specs.declared.Event.TheVariants as ev
@@ -31,9 +31,9 @@ use Rattle.turns.specs.Whole.{Left, later_of, gave, answer_to, read_to, later_at
 abbrev Whole : Result → Type 0
 Whole x = x ≡ read_result x.answer x.rows
 
-whole_by : (table : Rows) (which : ℕ) (es : Entries) (a : Onto) → Whole (read_of table which es a)
-whole_by table which es (Next next) = pick-by Whole (ltb (length table) (length es)) (λ e. refl) (λ e. refl)
-whole_by table which es (Stopped e) = refl
+whole_by : (table : Rows) (which : ℕ) (es : Entries) (a : Result ℕ No) → Whole (read_of table which es a)
+whole_by table which es (Ok next) = pick-by Whole (ltb (length table) (length es)) (λ e. refl) (λ e. refl)
+whole_by table which es (Err e) = refl
 
 whole : (s : List ℕ) (table : Rows) → Whole (read_at s table)
 unfolding read_at

@@ -1,6 +1,5 @@
 -- Document 01, "Samples": "P marks cases to be proved"; "P1 to P12 form one table, proved by one statement" (`samples`, proofs/Samples.antt).
-use Rattle.std.specs.Prelude.{ℕ, ◌≡◌, List, [], ◌∷◌, map, ℤ, pos, negsuc, length}
-use Rattle.ber_integers.specs.declared.Number.TheVariants.{Int}
+use Rattle.std.specs.Prelude.{ℕ, ◌≡◌, List, [], ◌∷◌, map, ℤ, pos, negsuc, length, Some}
 use Rattle.ber_integers.specs.Integer.{integer, shortest}
 use Rattle.framing_session.specs.Rules.{Happening, begin, happens}
 use Rattle.framing_packets.specs.Written.{frame}
@@ -26,7 +25,7 @@ number_of h = h.said.number
 -- rules that the claim ties to the session (`every-cut`); a message is read into a table of two rows, whatever they hold, as these entries, and a row past
 -- them is as it was.
 abbrev pub Holds : Sample → Type 0
-Holds (content z bs) = (shortest z ≡ bs) × (integer bs ≡ Int z)
+Holds (content z bs) = (shortest z ≡ bs) × (integer bs ≡ Some z)
 Holds (framed xs bs) = frame xs ≡ bs
 Holds (gives bs ns) = map number_of (happens begin 0 bs) ≡ ns
 Holds (tree m es) = (r q : List ℕ) → read_at m (r ∷ q ∷ []) ≡ read_result (Read 0 (length es)) (overlay es (r ∷ q ∷ []))

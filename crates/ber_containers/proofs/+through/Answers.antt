@@ -38,22 +38,22 @@ through-requires t c = let w = subst (CrossOnward _ _) c.in-Into.is c.cross.ensu
 pub loop-next-smaller : goal.loop-next-smaller
 loop-next-smaller t c =
     let w = subst (CrossOnward _ _) c.in-Into.is c.cross.ensures.cross_onward in
-    let n = subst (OntoOnward _) c.in-Next.is c.through.ensures.onto_onward in
+    let n = subst (OntoOnward _) c.in-Ok.is c.through.ensures.onto_onward in
     omega arith
 
 pub loop-next-preserved : goal.loop-next-preserved
 loop-next-preserved t c =
     let w = subst (CrossOnward _ _) c.in-Into.is c.cross.ensures.cross_onward in
-    let n = subst (OntoOnward _) c.in-Next.is c.through.ensures.onto_onward in
-    let i = rw (c.less.ensures, c.in-Next.is) at c.through.ensures.through in (
+    let n = subst (OntoOnward _) c.in-Ok.is c.through.ensures.onto_onward in
+    let i = rw (c.less.ensures, c.in-Ok.is) at c.through.ensures.through in (
       omega arith,
       λ x h. c.loop-next.invariant.1 x (through-into _ _ _ _ (c.cross.ensures.k_value ∙ c.in-Into.is) w i n h),
     )
 
-pub returns-in-Refused-through : goal.returns-in-Refused-through
-returns-in-Refused-through t c =
+pub returns-in-Err : goal.returns-in-Err
+returns-in-Err t c =
     let w = subst (CrossOnward _ _) c.in-Into.is c.cross.ensures.cross_onward in
-    let i = rw (c.less.ensures, c.in-Refused-through.is) at c.through.ensures.through in
+    let i = rw (c.less.ensures, c.in-Err.is) at c.through.ensures.through in
     record {
       through = c.loop-next.invariant.1 _ (through-in-stuck _ _ _ _ (c.cross.ensures.k_value ∙ c.in-Into.is) w i);
       onto_onward = tt;

@@ -24,16 +24,16 @@ returns-in-Ended c =
 pub returns-in-Refused : goal.returns-in-Refused
 returns-in-Refused c = record { k_value = cross-no _ _ _ _ (c.standing.ensures.end_value ∙ c.in-Refused.is); cross_onward = tt }
 
-pub returns-in-Next : goal.returns-in-Next
-returns-in-Next c =
+pub returns-in-Ok : goal.returns-in-Ok
+returns-in-Ok c =
     let a = subst (Onward _ _) c.in-Here.is c.standing.ensures.onward in
-    let n = subst (OntoOnward _) c.in-Next.is c.skip.ensures.onto_onward in
-    let e = cross-past _ _ _ _ (c.standing.ensures.end_value ∙ c.in-Here.is) c.if-t-eq1.false (c.skip.ensures.t_value ∙ c.in-Next.is) in
+    let n = subst (OntoOnward _) c.in-Ok.is c.skip.ensures.onto_onward in
+    let e = cross-past _ _ _ _ (c.standing.ensures.end_value ∙ c.in-Here.is) c.if-t-eq1.false (c.skip.ensures.t_value ∙ c.in-Ok.is) in
     record { k_value = e; cross_onward = (a.within, omega (arith, a.later, a.opens)) }
 
-pub returns-in-Refused-skip : goal.returns-in-Refused-skip
-returns-in-Refused-skip c =
+pub returns-in-Err : goal.returns-in-Err
+returns-in-Err c =
     record {
-      k_value = cross-cut _ _ _ _ (c.standing.ensures.end_value ∙ c.in-Here.is) c.if-t-eq1.false (c.skip.ensures.t_value ∙ c.in-Refused-skip.is);
+      k_value = cross-cut _ _ _ _ (c.standing.ensures.end_value ∙ c.in-Here.is) c.if-t-eq1.false (c.skip.ensures.t_value ∙ c.in-Err.is);
       cross_onward = tt;
     }

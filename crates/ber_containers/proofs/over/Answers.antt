@@ -9,8 +9,8 @@ returns-then-z c =
     let z = c.shut-z.ensures c.if-z.true in
     λ h. (through-over _ _ _ _ (cross-ended _ _ _ _ z.0), z.1)
 
-pub returns-in-Next : goal.returns-in-Next
-returns-in-Next c = λ h. (subst (Through _ _ _ _) c.in-Next.is c.within.ensures.through, subst (OntoOnward _) c.in-Next.is c.within.ensures.onto_onward)
+pub returns-in-Ok : goal.returns-in-Ok
+returns-in-Ok c = λ h. (subst (Through _ _ _ _) c.in-Ok.is c.within.ensures.through, subst (OntoOnward _) c.in-Ok.is c.within.ensures.onto_onward)
 
-pub returns-in-Refused : goal.returns-in-Refused
-returns-in-Refused c = λ h. absurd (h refl)
+pub returns-in-Err : goal.returns-in-Err
+returns-in-Err c = λ h. absurd (h refl)

@@ -1,8 +1,8 @@
+use Rattle.std.specs.Prelude.{Some}
 use Prim.Native.Nat.{ℕ, ◌+◌}
 use mathlib.Core.Path.{◌≡◌}
 use mathlib.Core.List.{List, ◌++◌}
 use lib.ListN.{length}
-use Rattle.ber_integers.specs.declared.Wrote.TheVariants.{Next}
 use Rattle.ber_integers.specs.Digits.{put, outcome}
 use Rattle.ber_identifiers.specs.Identifier.{oid_octets}
 use Rattle.ber_identifiers.proofs.write_oid.Given as goal
@@ -13,5 +13,5 @@ invariant-loop-n l = record {
   done : List ℕ;
   split : l.n-iterator.iter.rest.now ++ done ≡ l.ns;
   size : l.p + length (oid_octets done) ≡ l.end;
-  placed : put l.initial.out l.p (oid_octets done) ≡ outcome (Next l.end) l.out;
+  placed : put l.initial.out l.p (oid_octets done) ≡ outcome (Some l.end) l.out;
 }

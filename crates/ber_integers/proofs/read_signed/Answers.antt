@@ -1,10 +1,10 @@
+use Rattle.std.specs.Prelude.{Some}
 use Rattle.ber_integers.proofs.Promises.{promised, integer-row}
 use Prim.Native.Nat.{◌<◌, ◌-◌, ◌^◌}
 use mathlib.Core.Path.{sym, ap, ◌∙◌}
 use native.Mathlib.Omega.{arith}
 use mir.Syntax.{w64}
 use mir.Facts.{to_z_pos}
-use Rattle.ber_integers.specs.declared.Number.TheVariants.{Int}
 use Rattle.ber_integers.proofs.Laws.{signed-out, signed-none, signed-long, signed_is}
 use Rattle.ber_integers.proofs.Signs.{low_fits, low-is, high_fits, high_is, minus-fits, minus_is}
 use Rattle.ber_integers.proofs.read_signed.Goals.{After-ones}
@@ -43,10 +43,10 @@ pub returns-then-s-at-lt128 : goal.returns-then-s-at-lt128
 returns-then-s-at-lt128 c =
     promised integer-row (let e = c.natural_of-v.ensures.value in
     let k = low_fits _ _ _ (λ i. (c.type_inv.s i).fits) (omega (arith, c.if-n-eq0.false)) c.if-n-gt8.false (omega arith) c.if-s-at-lt128.true in
-    ap Int (rw e (to_z_pos w64 k) ∙ sym (low-is _ _ _ (λ i. (c.type_inv.s i).fits) (omega (arith, c.if-n-eq0.false)) c.if-n-gt8.false (omega arith) c.if-s-at-lt128.true)) ∙ signed_is _ _ _ (omega arith) (omega (arith, c.if-n-eq0.false)) c.if-n-gt8.false)
+    ap Some (rw e (to_z_pos w64 k) ∙ sym (low-is _ _ _ (λ i. (c.type_inv.s i).fits) (omega (arith, c.if-n-eq0.false)) c.if-n-gt8.false (omega arith) c.if-s-at-lt128.true)) ∙ signed_is _ _ _ (omega arith) (omega (arith, c.if-n-eq0.false)) c.if-n-gt8.false)
 
 pub returns-else-s-at-lt128 : goal.returns-else-s-at-lt128
 returns-else-s-at-lt128 c =
-    promised integer-row (ap Int (minus_is _ (far c) ∙ rw c.natural_of-v.ensures.value
+    promised integer-row (ap Some (minus_is _ (far c) ∙ rw c.natural_of-v.ensures.value
     (sym (high_is _ _ _ (λ i. (c.type_inv.s i).fits) (omega (arith, c.if-n-eq0.false)) c.if-n-gt8.false (omega arith) c.if-s-at-lt128.false c.ones.result c.ones.ensures)))
     ∙ signed_is _ _ _ (omega arith) (omega (arith, c.if-n-eq0.false)) c.if-n-gt8.false)

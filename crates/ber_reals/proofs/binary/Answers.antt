@@ -1,3 +1,4 @@
+use Rattle.std.specs.Prelude.{Float, Option}
 use Prim.Native.Nat.{ℕ, ◌+◌, ◌-◌, ◌/◌, ◌%◌}
 use mathlib.Core.Path.{◌≡◌, ap, ◌∙◌}
 use mathlib.Core.List.{List}
@@ -8,7 +9,6 @@ use lib.IntN.{pos, ◌+ℤ◌}
 use Rattle.ber_integers.specs.Digits.{natural}
 use Rattle.ber_integers.specs.Integer.{signed}
 use Rattle.ber_integers.proofs.Laws.{length_part}
-use Rattle.ber_reals.specs.declared.Read.{Read}
 use Rattle.ber_reals.specs.Number.{number}
 use Rattle.ber_reals.specs.Real.{binary_real}
 use Rattle.ber_reals.proofs.RealLaws.{binary-not, binary-base, binary-form, binary-short, binary-long, message-is}
@@ -29,7 +29,7 @@ module _ (c : After-wide-first) where
   rest-length = length_part c.args.s.now (c.args.at + 1) (c.args.n - 1) (omega arith)
 
   -- an answer for the first octet as it was read
-  answer : (r : Read) → r ≡ binary_real first rest → r ≡ binary_real (get_or c.args.s.now c.args.at 0) rest
+  answer : (r : Option Float) → r ≡ binary_real first rest → r ≡ binary_real (get_or c.args.s.now c.args.at 0) rest
   answer r e = e ∙ ap (λ (x : ℕ). binary_real x rest) c.wide-first.ensures.value
 
 pub returns-then-first-lt128 : goal.returns-then-first-lt128
@@ -62,11 +62,11 @@ returns c =
     let e = f % 4 + 1 in
     let u = c.read_unsigned in
     let p = c.power-p in
-    let m : c.in-Nat.m ≡ natural (take (a.n - 1 - e) (drop (a.at + 1 + e) a.s.now)) =
-    read-value a.s.now (a.at + 1 + e) (a.n - 1 - e) (omega arith) (omega arith) u.result u.ensures.is c.in-Nat.m
-    c.in-Nat.is in
+    let m : c.in-Some.m ≡ natural (take (a.n - 1 - e) (drop (a.at + 1 + e) a.s.now)) =
+    read-value a.s.now (a.at + 1 + e) (a.n - 1 - e) (omega arith) (omega arith) u.result u.ensures.is c.in-Some.m
+    c.in-Some.is in
     answer (goal.at.returns c).After-wide-first _
     (c.exact.ensures
-    ∙ ap (number (leb 64 (f % 128)) c.in-Nat.m) p.ensures.result_value
+    ∙ ap (number (leb 64 (f % 128)) c.in-Some.m) p.ensures.result_value
     ∙ ap (λ (x : ℕ). number (leb 64 (f % 128)) x (signed (take e (drop (a.at + 1) a.s.now)) +ℤ pos (f / 4 % 4))) m
     ∙ message-is a.s.now a.at a.n f (omega arith) (omega arith) (omega arith) (omega arith) (omega arith) (omega arith))

@@ -1,3 +1,4 @@
+use Rattle.std.specs.Prelude.{Some}
 use Prim.Native.Nat.{ℕ, ◌+◌, ◌-◌, ◌%◌, ◌^◌, ◌≤◌, ◌<◌}
 use mathlib.Core.Path.{◌≡◌, sym, ap, ◌∙◌, subst}
 use mathlib.Core.Bool.{not}
@@ -7,7 +8,6 @@ use lib.Count.{trailing_le}
 use lib.Ieee as Ieee
 use lib.Ieee.{binary64, size, minus}
 use lib.Ieee.Digits.{size-le}
-use Rattle.ber_reals.specs.declared.Read.TheVariants.{Real}
 use Rattle.ber_reals.specs.Number.{halvings, halved, odd_part, limit, number}
 use Rattle.ber_reals.proofs.Odd.{halvings-lt}
 use Rattle.ber_reals.proofs.Doubles.{odd_is}
@@ -73,7 +73,7 @@ module _ (c : After-pattern) where
   odd-now = c.halved-odd.ensures ∙ ap (halved c.args.m) c.halvings-zeros.ensures
 
   made : T (not (Ieee.nan_bits binary64 c.pattern.result))
-      × (Real (Ieee.of_bits binary64 c.pattern.result) ≡ number c.args.negative c.args.m (minus c.args.power 16777216))
+      × (Some (Ieee.of_bits binary64 c.pattern.result) ≡ number c.args.negative c.args.m (minus c.args.power 16777216))
   made =
       let a = c.args in
       let j = a.power + halvings a.m - 16776142 in
@@ -88,7 +88,7 @@ module _ (c : After-pattern) where
       ∙ ap (λ (o : ℕ). bits_of a.negative o (a.power + c.halvings-zeros.result - 16776142)) (odd-now)
       ∙ ap (λ (z : ℕ). bits_of a.negative (odd_part a.m) (a.power + z - 16776142)) h in (
         subst (λ (x : ℕ). T (not (Ieee.nan_bits binary64 x))) (sym e) (number-no-nan a.negative a.m a.power 16777216 j some n t w c.ranges.m.fits),
-        ap (λ (x : ℕ). Real (Ieee.of_bits binary64 x)) e ∙ number-bits a.negative a.m a.power 16777216 j some n t w c.ranges.m.fits,
+        ap (λ (x : ℕ). Some (Ieee.of_bits binary64 x)) e ∙ number-bits a.negative a.m a.power 16777216 j some n t w c.ranges.m.fits,
       )
 
 pub float_from_bits-result : goal.float_from_bits-result

@@ -8,14 +8,14 @@ use Rattle.ber_integers.specs.Digits.{natural}
 use Rattle.ber_integers.specs.Integer.{signed}
 use Rattle.ber_reals.proofs.Naturals.{read-value, read-never}
 use Rattle.ber_reals.proofs.PowerOctets.{part-lt, worth-le, exponent-low, exponent-high}
-use Rattle.ber_reals.proofs.power.Goals.{In-Nat}
+use Rattle.ber_reals.proofs.power.Goals.{In-Some}
 use Rattle.ber_reals.proofs.power.Goals as goal
 
 -- `ber_reals::power` meets its contract. Assumes nothing.
 -- the number that was read
-module _ (c : In-Nat) where
+module _ (c : In-Some) where
   abbrev v : ℕ
-  v = c.in-Nat.v
+  v = c.in-Some.v
 
   bytes : (i : ℕ) → get_or c.args.s.now i 0 < 256
   bytes i = (c.shared_slice_known-1.given i).fits
@@ -27,7 +27,7 @@ module _ (c : In-Nat) where
   value =
       read-value c.args.s.now c.args.at c.args.e (omega arith) within c.read_unsigned.result
       c.read_unsigned.ensures.is v
-      c.in-Nat.is
+      c.in-Some.is
 
   small : v < 256 ^ c.args.e
   small =
@@ -42,26 +42,26 @@ returns-in_default c =
     c.read_unsigned.ensures.is c.in_default.is)
 
 pub overflow_add-raised-2 : goal.overflow_add-raised-2
-overflow_add-raised-2 c = omega (arith, small (goal.at.overflow_add-raised-2 c).In-Nat, worth (goal.at.overflow_add-raised-2 c).In-Nat)
+overflow_add-raised-2 c = omega (arith, small (goal.at.overflow_add-raised-2 c).In-Some, worth (goal.at.overflow_add-raised-2 c).In-Some)
 
 pub returns-then-s-at-lt128 : goal.returns-then-s-at-lt128
 returns-then-s-at-lt128 c =
     let a = c.args in record {
-      result_value = subst (λ (x : ℕ). minus (16777216 + a.scale + x) 16777216 ≡ signed (take a.e (drop a.at a.s.now)) +ℤ pos a.scale) (sym (value (goal.at.returns-then-s-at-lt128 c).In-Nat))
-          (exponent-low a.s.now a.at a.e (bytes (goal.at.returns-then-s-at-lt128 c).In-Nat) (within (goal.at.returns-then-s-at-lt128 c).In-Nat) a.scale (omega arith) (omega arith) c.if-s-at-lt128.true);
-      upper_bound = omega (arith, small (goal.at.returns-then-s-at-lt128 c).In-Nat, worth (goal.at.returns-then-s-at-lt128 c).In-Nat);
+      result_value = subst (λ (x : ℕ). minus (16777216 + a.scale + x) 16777216 ≡ signed (take a.e (drop a.at a.s.now)) +ℤ pos a.scale) (sym (value (goal.at.returns-then-s-at-lt128 c).In-Some))
+          (exponent-low a.s.now a.at a.e (bytes (goal.at.returns-then-s-at-lt128 c).In-Some) (within (goal.at.returns-then-s-at-lt128 c).In-Some) a.scale (omega arith) (omega arith) c.if-s-at-lt128.true);
+      upper_bound = omega (arith, small (goal.at.returns-then-s-at-lt128 c).In-Some, worth (goal.at.returns-then-s-at-lt128 c).In-Some);
     }
 
 pub overflow_sub-result : goal.overflow_sub-result
-overflow_sub-result c = omega (arith, worth (goal.at.overflow_sub-result c).In-Nat)
+overflow_sub-result c = omega (arith, worth (goal.at.overflow_sub-result c).In-Some)
 
 pub returns : goal.returns
 returns c =
     let a = c.args in record {
-      result_value = subst (λ (w : ℕ). minus (16777216 + a.scale + v (goal.at.returns c).In-Nat - w) 16777216 ≡ signed (take a.e (drop a.at a.s.now)) +ℤ pos a.scale)
+      result_value = subst (λ (w : ℕ). minus (16777216 + a.scale + v (goal.at.returns c).In-Some - w) 16777216 ≡ signed (take a.e (drop a.at a.s.now)) +ℤ pos a.scale)
           (sym c.power_of_256.ensures)
           (subst (λ (x : ℕ). minus (16777216 + a.scale + x - 256 ^ a.e) 16777216 ≡ signed (take a.e (drop a.at a.s.now)) +ℤ pos a.scale)
-          (sym (value (goal.at.returns c).In-Nat))
-          (exponent-high a.s.now a.at a.e (bytes (goal.at.returns c).In-Nat) (within (goal.at.returns c).In-Nat) a.scale (omega arith) (omega arith) c.if-s-at-lt128.false));
-      upper_bound = omega (arith, small (goal.at.returns c).In-Nat, worth (goal.at.returns c).In-Nat);
+          (sym (value (goal.at.returns c).In-Some))
+          (exponent-high a.s.now a.at a.e (bytes (goal.at.returns c).In-Some) (within (goal.at.returns c).In-Some) a.scale (omega arith) (omega arith) c.if-s-at-lt128.false));
+      upper_bound = omega (arith, small (goal.at.returns c).In-Some, worth (goal.at.returns c).In-Some);
     }

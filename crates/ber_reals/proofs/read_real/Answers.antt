@@ -1,3 +1,4 @@
+use Rattle.std.specs.Prelude.{Some}
 use Rattle.ber_integers.proofs.Promises.{promised}
 use Rattle.ber_reals.proofs.RealLaws.{real-row}
 use mathlib.Core.Path.{◌≡◌, refl, ap, ◌∙◌}
@@ -5,7 +6,6 @@ use mathlib.Core.Bool.{true, false}
 use native.Mathlib.Omega.{arith}
 use lib.Ieee as Ieee
 use lib.Ieee.{binary64, inf}
-use Rattle.ber_reals.specs.declared.Read.TheVariants.{Real}
 use Rattle.ber_reals.proofs.RealLaws.{real-out, real-empty, real-plus, real-minus, real-alone, real-binary}
 use Rattle.ber_reals.proofs.read_real.Goals as goal
 
@@ -35,7 +35,7 @@ float_from_bits-result c = tt
 pub returns-then-s-at-eq64 : goal.returns-then-s-at-eq64
 returns-then-s-at-eq64 c =
     promised real-row (let a = c.args in
-    ap Real plus ∙ real-plus a.s.now a.at a.n (omega arith) c.if-n-eq1.true c.if-s-at-eq64.true)
+    ap Some plus ∙ real-plus a.s.now a.at a.n (omega arith) c.if-n-eq1.true c.if-s-at-eq64.true)
 
 pub float_from_bits-result-then-s-at-eq65 : goal.float_from_bits-result-then-s-at-eq65
 unfolding Ieee.nan_bits
@@ -44,7 +44,7 @@ float_from_bits-result-then-s-at-eq65 c = tt
 pub returns-then-s-at-eq65 : goal.returns-then-s-at-eq65
 returns-then-s-at-eq65 c =
     promised real-row (let a = c.args in
-    ap Real minus ∙ real-minus a.s.now a.at a.n (omega arith) c.if-n-eq1.true c.if-s-at-eq65.true)
+    ap Some minus ∙ real-minus a.s.now a.at a.n (omega arith) c.if-n-eq1.true c.if-s-at-eq65.true)
 
 pub returns-then-n-eq1 : goal.returns-then-n-eq1
 returns-then-n-eq1 c =

@@ -29,20 +29,20 @@ overflow_cast-out c = let k = few c.if-n-gt4294967295.false c.octet_count-k.ensu
 pub overflow_add-out : goal.overflow_add-out
 overflow_add-out c = let k = few c.if-n-gt4294967295.false c.octet_count-k.ensures in omega arith
 
-pub returns-in-Next : goal.returns-in-Next
-returns-in-Next c =
+pub returns-in-Some : goal.returns-in-Some
+returns-in-Some c =
     let b : 128 + c.octet_count-k.result ≡ 128 + count 256 c.args.n = omega (arith, c.octet_count-k.ensures) in
     put-length-long _ _ _ c.if-n-gt4294967295.false
     c.if-n-lt128.false
     ∙ rw b (cons-done c.args.out.now c.args.at (128 + count 256 c.args.n) (digits 256 (count 256 c.args.n) c.args.n) _ _ _
     (rw c.octet_count-k.ensures at
-    c.write_octets.ensures) c.in-Next.is
+    c.write_octets.ensures) c.in-Some.is
     c.if-out-at.false)
 
-pub returns-in-Out : goal.returns-in-Out
-returns-in-Out c =
+pub returns-in-None : goal.returns-in-None
+returns-in-None c =
     put-length-long _ _ _ c.if-n-gt4294967295.false
     c.if-n-lt128.false
     ∙ cons-none c.args.out.now c.args.at (128 + count 256 c.args.n) (digits 256 (count 256 c.args.n) c.args.n) _ _
     (rw c.octet_count-k.ensures at c.write_octets.ensures)
-    c.in-Out.is
+    c.in-None.is

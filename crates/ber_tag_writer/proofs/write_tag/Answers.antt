@@ -25,20 +25,20 @@ returns-then-out-at c =
     tag-long _ _ _ _ _ c.if-class-gt3.false c.if-number-gt268435455.false c.if-number-lt31.false
     ∙ put-out _ _ _ (omega arith)
 
-pub returns-in-Next : goal.returns-in-Next
-returns-in-Next c =
+pub returns-in-Some : goal.returns-in-Some
+returns-in-Some c =
     tag-long _ _ _ _ _ c.if-class-gt3.false
     c.if-number-gt268435455.false
     c.if-number-lt31.false
     ∙ rw c.lead-first.ensures.value
     (cons-done c.args.out.now c.args.at (c.args.class * 64 + bit c.args.constructed + 31) (septets c.args.number) _ _ _
-    c.write_septets.ensures c.in-Next.is
+    c.write_septets.ensures c.in-Some.is
     c.if-out-at.false)
 
-pub returns-in-Out : goal.returns-in-Out
-returns-in-Out c =
+pub returns-in-None : goal.returns-in-None
+returns-in-None c =
     tag-long _ _ _ _ _ c.if-class-gt3.false
     c.if-number-gt268435455.false
     c.if-number-lt31.false
     ∙ cons-none c.args.out.now c.args.at (c.args.class * 64 + bit c.args.constructed + 31) (septets c.args.number) _ _
-    c.write_septets.ensures c.in-Out.is
+    c.write_septets.ensures c.in-None.is

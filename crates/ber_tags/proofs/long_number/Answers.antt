@@ -1,7 +1,7 @@
+use Rattle.std.specs.Prelude.{Err}
 use Prim.Native.Nat.{ℕ, ◌<◌, ◌+◌, ◌-◌, ◌^◌}
 use mathlib.Core.Path.{◌≡◌, ap, ◌∙◌}
 use native.Mathlib.Omega.{arith}
-use Rattle.ber_tags.specs.declared.Numbered.TheVariants.{Refused}
 use Rattle.ber_tags.specs.Tag.{stop}
 use Rattle.ber_tags.proofs.Laws.{long-over, long-cut, long-last, long-more}
 use Rattle.ber_integers.proofs.Radix.{digit-more, power_le}
@@ -14,7 +14,7 @@ room at {p} h a = power_le 128 {n = p - (at + 1)} {k = 3} (omega arith) (omega a
 pub returns-then-end-p-clause-value : goal.returns-then-end-p-clause-value
 returns-then-end-p-clause-value c =
     let e = c.stop_of-end.ensures.value in
-    ap Refused c.cut_of-place.ensures ∙ long-cut _ _ _ _ _ _ (omega arith) (rw e at c.if-end-p.true) ∙ c.loop-p.invariant.rest
+    ap Err c.cut_of-place.ensures ∙ long-cut _ _ _ _ _ _ (omega arith) (rw e at c.if-end-p.true) ∙ c.loop-p.invariant.rest
 
 pub overflow_mul-result : goal.overflow_mul-result
 overflow_mul-result c = let h = room _ c.loop-p-test.true c.loop-p.invariant.below in omega arith

@@ -1,11 +1,11 @@
+use Rattle.std.specs.Prelude.{Err}
 use mathlib.Core.Path.{ap, ◌∙◌}
 use native.Mathlib.Omega.{arith}
-use Rattle.ber_tags.specs.declared.Numbered.TheVariants.{Refused}
 use Rattle.ber_tags.proofs.Laws.{number_cut, number_short, number-cut-long, number-80, number-long}
 use Rattle.ber_tags.proofs.tag_number.Goals as goal
 
 pub returns-then-end-at : goal.returns-then-end-at
-returns-then-end-at c = record { value = ap Refused c.cut_of-place.ensures ∙ number_cut _ _ _ (rw c.stop_of-end.ensures.value at c.if-end-at.true); number_within = tt }
+returns-then-end-at c = record { value = ap Err c.cut_of-place.ensures ∙ number_cut _ _ _ (rw c.stop_of-end.ensures.value at c.if-end-at.true); number_within = tt }
 
 pub returns-then-low-lt31 : goal.returns-then-low-lt31
 returns-then-low-lt31 c = record { value = rw c.from.ensures (number_short _ _ _ (omega arith) c.if-low-lt31.true); number_within = (omega arith, omega arith) }
@@ -13,7 +13,7 @@ returns-then-low-lt31 c = record { value = rw c.from.ensures (number_short _ _ _
 pub returns-then-end-p : goal.returns-then-end-p
 returns-then-end-p c =
     record {
-      value = ap Refused c.cut_of-place.ensures
+      value = ap Err c.cut_of-place.ensures
           ∙ number-cut-long _ _ _ (omega arith) c.if-low-lt31.false
           (rw c.stop_of-end.ensures.value at c.if-end-p.true);
       number_within = tt;

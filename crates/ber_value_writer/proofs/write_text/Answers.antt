@@ -21,22 +21,22 @@ returns-then-out-h-2 c =
     text-none c.args.src.now c.args.start c.args.len c.args.out.now c.args.at c.args.kind c.requires
     c.if-n-gt4294967295.false (omega arith)
 
-pub shape_of-out-in-Next : goal.shape_of-out-in-Next
-shape_of-out-in-Next c =
+pub shape_of-out-in-Some : goal.shape_of-out-in-Some
+shape_of-out-in-Some c =
     simp length-set (c.write_length.auto.out ∙ c.write_part.auto.out)
 
-pub returns-in-Next : goal.returns-in-Next
-returns-in-Next c =
+pub returns-in-Some : goal.returns-in-Some
+returns-in-Some c =
     text-done c.args.src.now c.args.start c.args.len c.args.out.now c.args.at c.args.kind
     c.requires c.if-n-gt4294967295.false c.length_size-h.result c.length_size-h.ensures.value _ _ c.write_part.ensures
-    _ c.in-Next.is _ _
+    _ c.in-Some.is _ _
     c.write_length.ensures (omega arith)
 
-pub returns-in-Out : goal.returns-in-Out
-returns-in-Out c =
+pub returns-in-None : goal.returns-in-None
+returns-in-None c =
     text-stop c.args.src.now c.args.start c.args.len c.args.out.now c.args.at c.args.kind
     c.requires
     c.if-n-gt4294967295.false
     c.length_size-h.result
     c.length_size-h.ensures.value _ _
-    c.write_part.ensures c.in-Out.is
+    c.write_part.ensures c.in-None.is

@@ -5,11 +5,11 @@ use Rattle.ber_values.specs.Value.{on_number}
 use borrow.Author.Rules.{rules}
 use Rattle.ber_values.proofs.of_number.Goals as goal
 
-pub returns-in-Int : goal.returns-in-Int
-returns-in-Int c =
-    let z = c.in-Int.x in
+pub returns-in-Some : goal.returns-in-Some
+returns-in-Some c =
+    let z = c.in-Some.x in
     let k : to_z w64 (of_z w64 z) ≡ z = search rules in
-    rw k (sym (ap (on_number c.args.at c.args.next) c.in-Int.is))
+    rw k (sym (ap (on_number c.args.at c.args.next) c.in-Some.is))
 
-pub returns-in-Refused : goal.returns-in-Refused
-returns-in-Refused c = sym (ap (on_number c.args.at c.args.next) c.in-Refused.is)
+pub returns-in-None : goal.returns-in-None
+returns-in-None c = sym (ap (on_number c.args.at c.args.next) c.in-None.is)

@@ -2,8 +2,8 @@ use mathlib.Core.Path.{sym, ap}
 use Rattle.ber_values.specs.Value.{on_real}
 use Rattle.ber_values.proofs.of_real.Goals as goal
 
-pub returns-in-Real : goal.returns-in-Real
-returns-in-Real c = sym (ap (on_real c.args.at c.args.next) c.in-Real.is)
+pub returns-in-Some : goal.returns-in-Some
+returns-in-Some c = sym (ap (on_real c.args.at c.args.next) c.in-Some.is)
 
-pub returns-in-Refused : goal.returns-in-Refused
-returns-in-Refused c = sym (ap (on_real c.args.at c.args.next) c.in-Refused.is)
+pub returns-in-None : goal.returns-in-None
+returns-in-None c = sym (ap (on_real c.args.at c.args.next) c.in-None.is)

@@ -1,14 +1,14 @@
-use Rattle.framing_session.specs.declared.Pending.TheVariants.{Nothing, Part}
+use Rattle.std.specs.Prelude.{Some, None}
 use mathlib.Core.Path.{◌≡◌}
 use native.Mathlib.Omega.{arith}
 use Rattle.framing_lines.proofs.put_pending.Goals as goal
 
-pub returns-in-Nothing : goal.returns-in-Nothing
-returns-in-Nothing c =
-    let e : c.args.message ≡ Nothing = c.in-Nothing.is in
+pub returns-in-None : goal.returns-in-None
+returns-in-None c =
+    let e : c.args.message ≡ None = c.in-None.is in
     record { message_value = rw e (c.put.ensures.b_value (omega arith)); upper_bound = omega arith }
 
-pub returns-in-Part : goal.returns-in-Part
-returns-in-Part c =
-    let e : c.args.message ≡ Part c.in-Part.length = c.in-Part.is in
+pub returns-in-Some : goal.returns-in-Some
+returns-in-Some c =
+    let e : c.args.message ≡ Some c.in-Some.length = c.in-Some.is in
     record { message_value = rw e c.put_decimal.ensures.n_value; upper_bound = omega arith }

@@ -1,8 +1,7 @@
+use Rattle.std.specs.Prelude.{ℕ, Option, Some, None}
 use mathlib.Core.Path.{refl}
 use mathlib.Core.Bool.{false}
 use lib.ListN.{take, drop}
-use Rattle.framing_session.specs.declared.Pending.{Pending}
-use Rattle.framing_session.specs.declared.Pending.TheVariants.{Nothing, Part}
 use Rattle.framing_session.specs.declared.Frame.TheVariants.{Outside}
 use Rattle.framing_content.specs.declared.Fault.TheVariants.{Orphan}
 use Rattle.framing_session.specs.Steps.{refusing}
@@ -28,7 +27,7 @@ returns-then-first c =
     c.is_part-discarded.ensures)) (sym c.copies.ensures))
 
 pub overflow_add-all : goal.overflow_add-all
-overflow_add-all c = omega (arith, ap message_length c.in-Part.is)
+overflow_add-all c = omega (arith, ap message_length c.in-Some.is)
 
 pub returns-then-all-gt-MESSAGE_LIMIT : goal.returns-then-all-gt-MESSAGE_LIMIT
 unfolding pieces
@@ -36,22 +35,22 @@ returns-then-all-gt-MESSAGE_LIMIT c =
     let a = c.args in
     let p = c.requires in
     let t = a.store.now in
-    let e : a.message ≡ Part c.in-Part.length = c.in-Part.is in
+    let e : a.message ≡ Some c.in-Some.length = c.in-Some.is in
     rw c.if-first.false
-    (ap (λ (m : Pending). keeps (pieces false a.last (take a.n (drop 16393 t)) (message_of m t)) t) e
-    ∙ keeps-big t p.0 a.last a.n p.1.0 c.in-Part.length (omega (arith, ap message_length e))
+    (ap (λ (m : Option ℕ). keeps (pieces false a.last (take a.n (drop 16393 t)) (message_of m t)) t) e
+    ∙ keeps-big t p.0 a.last a.n p.1.0 c.in-Some.length (omega (arith, ap message_length e))
     c.if-all-gt-MESSAGE_LIMIT.true
     ∙ gives_same (sym c.refuses-then-all-gt-MESSAGE_LIMIT.ensures) refl)
 
-pub returns-in-Nothing : goal.returns-in-Nothing
+pub returns-in-None : goal.returns-in-None
 unfolding pieces
-returns-in-Nothing c =
+returns-in-None c =
     let a = c.args in
     let p = c.requires in
     let t = a.store.now in
-    let e : a.message ≡ Nothing = c.in-Nothing.is in
+    let e : a.message ≡ None = c.in-None.is in
     rw c.if-first.false
-    (ap (λ (m : Pending). keeps (pieces false a.last (take a.n (drop 16393 t)) (message_of m t)) t) e
+    (ap (λ (m : Option ℕ). keeps (pieces false a.last (take a.n (drop 16393 t)) (message_of m t)) t) e
     ∙ keeps-orphan t p.0 a.last a.n p.1.0
     ∙ gives_same (sym (c.refuses.ensures ∙ ap (refusing Orphan Outside) e)) refl)
 
@@ -61,10 +60,10 @@ returns-else-all-gt-MESSAGE_LIMIT c =
     let a = c.args in
     let p = c.requires in
     let t = a.store.now in
-    let e : a.message ≡ Part c.in-Part.length =
-    c.in-Part.is in
+    let e : a.message ≡ Some c.in-Some.length =
+    c.in-Some.is in
     rw c.if-first.false
-    (ap (λ (m : Pending). keeps (pieces false a.last (take a.n (drop 16393 t)) (message_of m t)) t) e
-    ∙ keeps-later t p.0 a.last a.n p.1.0 c.in-Part.length
+    (ap (λ (m : Option ℕ). keeps (pieces false a.last (take a.n (drop 16393 t)) (message_of m t)) t) e
+    ∙ keeps-later t p.0 a.last a.n p.1.0 c.in-Some.length
     (omega (arith, ap message_length e)) c.if-all-gt-MESSAGE_LIMIT.false
-    ∙ gives_same (sym c.joins-in-Part.ensures) (sym c.copies-in-Part.ensures))
+    ∙ gives_same (sym c.joins-in-Some.ensures) (sym c.copies-in-Some.ensures))

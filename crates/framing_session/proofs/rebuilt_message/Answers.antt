@@ -1,5 +1,5 @@
 use mathlib.Core.Path.{sym}
 use Rattle.framing_session.proofs.rebuilt_message.Goals as goal
 
-pub returns-in-Part : goal.returns-in-Part
-returns-in-Part c = sym c.in-Part.is
+pub returns-in-Some : goal.returns-in-Some
+returns-in-Some c = sym c.in-Some.is

@@ -7,7 +7,7 @@ use Rattle.glow_entries.specs.Member.{number_cell}
 use borrow.Author.Rules.{rules}
 use Rattle.glow_entries.proofs.number_cell.Goals as goal
 
-pub returns-in-Is : goal.returns-in-Is
-returns-in-Is c =
-    let k : to_z w64 (of_z w64 c.in-Is.x) ≡ c.in-Is.x = search rules in
-    c.cell_of.ensures ∙ ap (λ (z : ℤ). cell 2 (word_of z) 0) k ∙ sym (ap number_cell c.in-Is.is)
+pub returns-in-Some : goal.returns-in-Some
+returns-in-Some c =
+    let k : to_z w64 (of_z w64 c.in-Some.x) ≡ c.in-Some.x = search rules in
+    c.cell_of.ensures ∙ ap (λ (z : ℤ). cell 2 (word_of z) 0) k ∙ sym (ap number_cell c.in-Some.is)

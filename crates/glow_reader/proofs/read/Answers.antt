@@ -10,14 +10,14 @@ returns-then-s-gt-MOST_BYTES c = read-long _ _ c.if-table-gt-MOST_ENTRIES.false 
 pub returns-then-table-count : goal.returns-then-table-count
 returns-then-table-count c =
     let m = c.message in
-    read-room _ _ c.if-table-gt-MOST_ENTRIES.false c.if-s-gt-MOST_BYTES.false m.new.table m.auto.table m.ensures c.in-Read.is c.if-table-count.true
+    read-room _ _ c.if-table-gt-MOST_ENTRIES.false c.if-s-gt-MOST_BYTES.false m.new.table m.auto.table m.ensures c.in-Ok.is c.if-table-count.true
 
-pub returns-in-Refused : goal.returns-in-Refused
-returns-in-Refused c =
+pub returns-in-Err : goal.returns-in-Err
+returns-in-Err c =
     let m = c.message in
-    read_no _ _ c.if-table-gt-MOST_ENTRIES.false c.if-s-gt-MOST_BYTES.false m.new.table m.auto.table m.ensures c.in-Refused.is
+    read_no _ _ c.if-table-gt-MOST_ENTRIES.false c.if-s-gt-MOST_BYTES.false m.new.table m.auto.table m.ensures c.in-Err.is
 
 pub returns-else-table-count : goal.returns-else-table-count
 returns-else-table-count c =
     let m = c.message in
-    read-filled _ _ c.if-table-gt-MOST_ENTRIES.false c.if-s-gt-MOST_BYTES.false m.new.table m.auto.table m.ensures c.in-Read.is c.if-table-count.false c.message-again.ensures
+    read-filled _ _ c.if-table-gt-MOST_ENTRIES.false c.if-s-gt-MOST_BYTES.false m.new.table m.auto.table m.ensures c.in-Ok.is c.if-table-count.false c.message-again.ensures

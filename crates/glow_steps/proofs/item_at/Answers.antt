@@ -16,7 +16,7 @@ returns-then-kind-eq0 c =
     let h = c.entering.ensures.k_value ∙ c.in-Here.is in
     let i = c.is_tag.ensures ∙ c.if-not-is_tag.false in
     record {
-      which_value = item-kind _ _ _ _ _ h i c.less-left.ensures (c.first.ensures.k_value ∙ c.in-Value.is) c.kind_of-kind.ensures c.if-kind-eq0.true;
+      which_value = item-kind _ _ _ _ _ h i c.less-left.ensures (c.first.ensures.k_value ∙ c.in-Ok.is) c.kind_of-kind.ensures c.if-kind-eq0.true;
       item_onward = tt;
     }
 
@@ -30,20 +30,20 @@ returns-in-Ended c =
       item_onward = subst (Onward _ _) c.in-Ended.is c.entering.ensures.onward;
     }
 
-pub returns-in-Refused-first : goal.returns-in-Refused-first
-returns-in-Refused-first c =
+pub returns-in-Err : goal.returns-in-Err
+returns-in-Err c =
     let h = c.entering.ensures.k_value ∙ c.in-Here.is in
     let i = c.is_tag.ensures ∙ c.if-not-is_tag.false in
-    record { which_value = item-missing _ _ _ _ _ h i c.less-left.ensures (c.first.ensures.k_value ∙ c.in-Refused-first.is); item_onward = tt }
+    record { which_value = item-missing _ _ _ _ _ h i c.less-left.ensures (c.first.ensures.k_value ∙ c.in-Err.is); item_onward = tt }
 
 pub returns-else-kind-eq0 : goal.returns-else-kind-eq0
 returns-else-kind-eq0 c =
     let h = c.entering.ensures.k_value ∙ c.in-Here.is in
     let i = c.is_tag.ensures ∙ c.if-not-is_tag.false in
     let a = subst (Onward _ _) c.in-Here.is c.entering.ensures.onward in
-    let b = subst (FoundOnward _ _) c.in-Value.is c.first.ensures.found_onward in
+    let b = subst (FoundOnward _ _) c.in-Ok.is c.first.ensures.found_onward in
     record {
-      which_value = item-element _ _ _ _ _ h i c.less-left.ensures (c.first.ensures.k_value ∙ c.in-Value.is) c.kind_of-kind.ensures
+      which_value = item-element _ _ _ _ _ h i c.less-left.ensures (c.first.ensures.k_value ∙ c.in-Ok.is) c.kind_of-kind.ensures
           c.if-kind-eq0.false;
       item_onward = (omega arith, omega arith);
     }

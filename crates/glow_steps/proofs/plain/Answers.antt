@@ -14,21 +14,21 @@ returns-in-Refused c =
       member_onward = tt;
     }
 
-pub returns-in-Refused-last : goal.returns-in-Refused-last
-returns-in-Refused-last c =
+pub returns-in-Err : goal.returns-in-Err
+returns-in-Err c =
     let i = c.is_tag.ensures ∙ c.if-not-is_tag.false in
     record {
-      c_value = plain_more _ _ _ _ _ _ _ _ i (c.read_leaf.ensures.above_value ∙ c.in-Kept.is) (c.last.ensures.k_value ∙ c.in-Refused-last.is);
+      c_value = plain_more _ _ _ _ _ _ _ _ i (c.read_leaf.ensures.above_value ∙ c.in-Kept.is) (c.last.ensures.k_value ∙ c.in-Err.is);
       member_onward = tt;
     }
 
-pub returns-in-Next : goal.returns-in-Next
-returns-in-Next c =
+pub returns-in-Ok : goal.returns-in-Ok
+returns-in-Ok c =
     let the-pre = c.requires in
     let i = c.is_tag.ensures ∙ c.if-not-is_tag.false in
-    let n = subst (OntoOnward _) c.in-Next.is c.last.ensures.onto_onward in
+    let n = subst (OntoOnward _) c.in-Ok.is c.last.ensures.onto_onward in
     let a = the-pre in
     record {
-      c_value = plain-kept _ _ _ _ _ _ _ _ i (c.read_leaf.ensures.above_value ∙ c.in-Kept.is) (c.last.ensures.k_value ∙ c.in-Next.is);
+      c_value = plain-kept _ _ _ _ _ _ _ _ i (c.read_leaf.ensures.above_value ∙ c.in-Kept.is) (c.last.ensures.k_value ∙ c.in-Ok.is);
       member_onward = (a.within, omega (arith, a.later, a.opens));
     }

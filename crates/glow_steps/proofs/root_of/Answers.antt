@@ -8,7 +8,7 @@ returns-then-not-is_tag c = top-other _ (c.entering.ensures.k_value ∙ c.in-Her
 pub returns-then-which-eq-NO_ROOT : goal.returns-then-which-eq-NO_ROOT
 returns-then-which-eq-NO_ROOT c =
     let h = c.entering.ensures.k_value ∙ c.in-Here.is in
-    top-none _ h (c.is_tag.ensures ∙ c.if-not-is_tag.false) (c.first.ensures.k_value ∙ c.in-Value.is) c.root_kind-which.ensures c.if-which-eq-NO_ROOT.true
+    top-none _ h (c.is_tag.ensures ∙ c.if-not-is_tag.false) (c.first.ensures.k_value ∙ c.in-Ok.is) c.root_kind-which.ensures c.if-which-eq-NO_ROOT.true
 
 pub returns-in-Refused : goal.returns-in-Refused
 returns-in-Refused c = top-no _ (c.entering.ensures.k_value ∙ c.in-Refused.is)
@@ -16,12 +16,12 @@ returns-in-Refused c = top-no _ (c.entering.ensures.k_value ∙ c.in-Refused.is)
 pub returns-in-Ended : goal.returns-in-Ended
 returns-in-Ended c = top-ended _ (c.entering.ensures.k_value ∙ c.in-Ended.is)
 
-pub returns-in-Refused-first : goal.returns-in-Refused-first
-returns-in-Refused-first c =
+pub returns-in-Err : goal.returns-in-Err
+returns-in-Err c =
     let h = c.entering.ensures.k_value ∙ c.in-Here.is in
-    top-missing _ h (c.is_tag.ensures ∙ c.if-not-is_tag.false) (c.first.ensures.k_value ∙ c.in-Refused-first.is)
+    top-missing _ h (c.is_tag.ensures ∙ c.if-not-is_tag.false) (c.first.ensures.k_value ∙ c.in-Err.is)
 
 pub returns-else-which-eq-NO_ROOT : goal.returns-else-which-eq-NO_ROOT
 returns-else-which-eq-NO_ROOT c =
     let h = c.entering.ensures.k_value ∙ c.in-Here.is in
-    top-root _ h (c.is_tag.ensures ∙ c.if-not-is_tag.false) (c.first.ensures.k_value ∙ c.in-Value.is) c.root_kind-which.ensures c.if-which-eq-NO_ROOT.false
+    top-root _ h (c.is_tag.ensures ∙ c.if-not-is_tag.false) (c.first.ensures.k_value ∙ c.in-Ok.is) c.root_kind-which.ensures c.if-which-eq-NO_ROOT.false

@@ -4,21 +4,21 @@ use native.Mathlib.Omega.{arith}
 use mathlib.Core.Path.{sym, subst, ◌∙◌}
 use Rattle.glow_steps.proofs.ruled.Goals as goal
 
-pub returns-in-Refused : goal.returns-in-Refused
-returns-in-Refused c =
+pub returns-in-Err : goal.returns-in-Err
+returns-in-Err c =
     record {
-      number_value = ruled-over-no _ _ _ _ _ _ _ _ (c.rule_of-what.ensures ∙ c.if-what-eq-NONE.true) (c.passed.ensures.k_value ∙ c.in-Refused.is);
+      number_value = ruled-over-no _ _ _ _ _ _ _ _ (c.rule_of-what.ensures ∙ c.if-what-eq-NONE.true) (c.passed.ensures.k_value ∙ c.in-Err.is);
       member_onward = tt;
     }
 
-pub returns-in-Next : goal.returns-in-Next
-returns-in-Next c =
+pub returns-in-Ok : goal.returns-in-Ok
+returns-in-Ok c =
     let the-pre = c.requires in
     let a = the-pre in
-    let n = subst (OntoOnward _) c.in-Next.is (c.passed.ensures.onto_onward a.opens) in
+    let n = subst (OntoOnward _) c.in-Ok.is (c.passed.ensures.onto_onward a.opens) in
     record {
       number_value = rw (← c.after_other-after.ensures) (ruled-over _ _ _ _ _ _ _ _ (c.rule_of-what.ensures ∙ c.if-what-eq-NONE.true)
-          (c.passed.ensures.k_value ∙ c.in-Next.is));
+          (c.passed.ensures.k_value ∙ c.in-Ok.is));
       member_onward = (a.within, omega (arith, a.later));
     }
 
