@@ -1,5 +1,6 @@
 -- The trees that entries make, and their sizes: one law for each way on and out.
-use Prim.Native.Nat.{ℕ, zero, suc, ◌+◌, ◌-◌, ◌≤◌, ◌<◌}
+use Prim.Native.Nat.{ℕ, zero, suc, ◌+◌, ◌-◌, ◌≤◌, ◌<◌, min}
+use Rattle.std.proofs.lemmas.List.{take_min}
 use mathlib.Core.Path.{◌≡◌, refl, sym, ap, subst, ◌∙◌}
 use mathlib.Core.Bool.{Bool, true, false, not}
 use mathlib.Core.List.{List, [], ◌∷◌, ◌++◌}
@@ -950,26 +951,15 @@ module _ (real : ℕ → List ℕ) (root rows n : ℕ) (es : List Item) where
           rw (le-leb _ _ i, le-leb _ _ j, u, v, w, x) (twice m.size a r p q)
 
 -- ---- any count: past the rows' end there is nothing
-take-over : (rows : Rows) (n : ℕ) → length rows ≤ n → take n rows ≡ take (length rows) rows
-take-over [] zero h = refl
-take-over [] (suc n) h = refl
-take-over (r ∷ rows) zero h = absurd (omega (arith, h))
-take-over (r ∷ rows) (suc n) h = ap (λ (x : Rows). r ∷ x) (take-over rows n (omega (arith, h)))
-
-module _ (real : ℕ → List ℕ) (s : List ℕ) (rows : Rows) (n which parent start k above m : ℕ) (h : m ≤ n) (e : (m ≡ n) ⊎ (m ≡ length rows)) where
+module _ (real : ℕ → List ℕ) (s : List ℕ) (rows : Rows) (n which parent start k above m : ℕ) (e : m ≡ min n (length rows)) where
   rows-least : items_in s rows m ≡ items_in s rows n
   unfolding items_in
-  rows-least =
-      ⊎_elim
-      (λ (i : m ≡ n). ap (λ (j : ℕ). items_of s (entries_of (take j rows))) i)
-      (λ (i : m ≡ length rows).
-      ap (λ (x : Rows). items_of s (entries_of x)) (ap (λ (j : ℕ). take j rows) i ∙ sym (take-over rows n (omega (arith, i, h)))))
-      e
+  rows-least = ap (λ (x : Rows). items_of s (entries_of x)) (ap (λ (j : ℕ). take j rows) e ∙ take_min n rows)
 
-  pub trees-past : m ≤ length rows → m < start → Gives real (items_in s rows n) which parent k above 0 start (record { next = start; size = 0 })
-  trees-past l p =
+  pub trees-past : m < start → Gives real (items_in s rows n) which parent k above 0 start (record { next = start; size = 0 })
+  trees-past p =
       let a = ap (λ (es : List Item). length es) rows-least in
-      let b = rows-length s rows m l in
+      let b = rows-length s rows m (omega arith) in
       gives-end real (items_in s rows n) which parent k above 0 start (omega (arith, a, b, p)) (omega arith)
 
   pub trees-least : (r : Measured) → Gives real (items_in s rows m) which parent k above 0 start r → Gives real (items_in s rows n) which parent k above 0 start r

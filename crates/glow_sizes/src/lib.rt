@@ -115,11 +115,9 @@ fn cells_size(
     ensures { (kind : ℕ) → RulesIn kind rules
         → cells_size (spelling least) kind from (contents_of s.now (cells_from (to - from) from (get_or rows.now i []))) ≡ result }
 {
-    let mut c = to;
     let mut total: u64 = 0;
-    while from < c {
-        c = c - 1;
-        total = total + member_size(s, cell_at(rows, i, c), rule_in(rules, word(c)), least);
+    for c in (from..to).rev() {
+        total += member_size(s, cell_at(rows, i, c), rule_in(rules, word(c)), least);
     }
     capped(total)
 }
@@ -292,13 +290,6 @@ pub fn inside_of(k: u64) -> u64
 pub struct Measured {
     pub next: usize,
     pub size: u64,
-}
-
-fn least_of(a: usize, b: usize) -> usize
-    ensures upper_bound { (result ≤ a) × (result ≤ b) }
-    ensures fact { (result ≡ a) ⊎ (result ≡ b) }
-{
-    if a <= b { a } else { b }
 }
 
 fn empty(start: usize) -> Measured
@@ -503,7 +494,7 @@ pub fn trees_size(
 ) -> Measured
     ensures { Gives (spelling least) (items_in s.now rows.now count) which parent k above 0 start result }
 {
-    let n = least_of(count, rows.len());
+    let n = count.min(rows.len());
     if n < start {
         return Measured {
             next: start,

@@ -118,11 +118,9 @@ fn put_cells(
     requires { (i < length rows.now) × ((from ≤ to) × (to ≤ 16)) }
     ensures { MembersPut kind from (row_cells s.now rows.now i (to - from) from) out.old at result out.new }
 {
-    let mut c = from;
     let mut p = at;
-    while c < to {
+    for c in from..to {
         p = put_member(s, cell_at(rows, i, c), byte(c - from), out, p);
-        c = c + 1;
     }
     p
 }

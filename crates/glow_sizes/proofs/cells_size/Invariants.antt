@@ -10,6 +10,3 @@ abbrev pub invariant-loop-c : goal.invariant-loop-c
 invariant-loop-c l = (l.from ≤ l.c)
     × ((l.c ≤ 16)
     × ((l.total ≤ 65536 * (16 - l.c)) × ((kind : ℕ) → RulesIn kind l.rules → Sum (spelling l.least) kind l.s (get_or l.rows l.i []) l.to l.c l.total)))
-
-abbrev pub decreases-loop-c : goal.decreases-loop-c
-decreases-loop-c l = l.c

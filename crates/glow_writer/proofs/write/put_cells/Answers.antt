@@ -22,12 +22,6 @@ put_member-p-requires c =
     let the-loop = c.loop-c in
     let h = the-loop.invariant in let q = c.requires in let b = c.byte.ensures in omega arith
 
-pub overflow_add-c : goal.overflow_add-c
-overflow_add-c c = omega arith
-
-pub loop-c-smaller : goal.loop-c-smaller
-loop-c-smaller c = omega arith
-
 pub loop-c-preserved : goal.loop-c-preserved
 loop-c-preserved c =
     let the-loop = c.loop-c in
@@ -38,7 +32,7 @@ loop-c-preserved c =
         omega arith,
         (
           c.put_member-p.auto.out ∙ h.1.1.0,
-          onward-more _ _ _ _ _ _ _ _ _ _ c.loop-c-test.true h.0
+          onward-more _ _ _ _ _ _ _ _ _ _ (omega arith) h.0
               h.1.1.1 _ (c.cell_at.ensures ∙ cell_in_lem _ _ _ (omega arith)) _ c.byte.ensures _ _ c.put_member-p.ensures,
         ),
       ),
@@ -52,4 +46,4 @@ shape_of-out c =
 pub returns : goal.returns
 returns c =
     let the-loop = c.loop-c in
-    λ u. onward-end _ _ _ _ _ _ _ _ _ _ c.loop-c-test.false the-loop.invariant.1.0 the-loop.invariant.1.1.1 u
+    λ u. onward-end _ _ _ _ _ _ _ _ _ _ (omega arith) the-loop.invariant.1.0 the-loop.invariant.1.1.1 u
