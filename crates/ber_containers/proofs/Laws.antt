@@ -8,6 +8,7 @@ use native.Mathlib.Omega.{arith}
 use borrow.Author.Tests.{le-leb, lt-leb, eq-eqb, ne_eqb, leb-false}
 use lib.ListN.{length, get_or}
 use lib.Dec.{leb, eqb}
+use mir.Val.{bool_byte}
 use Rattle.base_choices.specs.Choices.{pick}
 use Rattle.ber_tags.specs.declared.Head.{Head}
 use Rattle.ber_tags.specs.declared.Head.TheVariants.{Tag as HeadTag}
@@ -62,20 +63,7 @@ module _ (s : List ℕ) (p : ℕ) (o : Open) where
   unfolding standing_at
   standing_by e z k = simp (ne_eqb _ _ e, z, k)
 
-module _ (c k : ℕ) where
-  pub deep_in : c ≡ 1 → deep c k ≡ eqb k 0
-  unfolding deep
-  deep_in h = simp (eq-eqb _ _ h)
-
-  pub deep-not : (c ≡ 1 → ⊥) → deep c k ≡ false
-  unfolding deep
-  deep-not h = simp (ne_eqb _ _ h)
-
 module _ (s : List ℕ) (p : ℕ) where
-  pub zero-past : length s ≤ p → zero_at s p ≡ false
-  unfolding zero_at
-  zero-past h = simp (le-leb _ _ h)
-
   pub zero_in : p < length s → zero_at s p ≡ eqb (get_or s p 0) 0
   unfolding zero_at
   zero_in h = simp (lt-leb _ _ h)
@@ -199,14 +187,6 @@ module _ (s : List ℕ) (t : Tag) where
   skip-next h = simp (le-leb _ _ h)
 
 module _ (t : Tag) (class c number : ℕ) where
-  pub tag-class : (t.class ≡ class → ⊥) → is_tag t class c number ≡ false
-  unfolding is_tag
-  tag-class h = simp (ne_eqb _ _ h)
-
-  pub tag-number : t.class ≡ class → (t.number ≡ number → ⊥) → is_tag t class c number ≡ false
-  unfolding is_tag
-  tag-number h k = simp (eq-eqb _ _ h, ne_eqb _ _ k)
-
   pub tag-form : t.class ≡ class → t.number ≡ number → is_tag t class c number ≡ eqb t.constructed c
   unfolding is_tag
   tag-form h k = simp (eq-eqb _ _ h, eq-eqb _ _ k)
@@ -251,3 +231,8 @@ module _ (s : List ℕ) (t : Tag) (k : ℕ) where
 pub onto-later : (p q : ℕ) (r : Result ℕ No) → p ≤ q → OntoOnward q r → OntoOnward p r
 onto-later p q (Ok n) h w = omega arith
 onto-later p q (Err n) h w = tt
+
+-- a form as the code has it
+pub bit-is : (b : Bool) → bit b ≡ bool_byte b
+bit-is true = refl
+bit-is false = refl

@@ -2,13 +2,12 @@
 #![tactic(auto)]
 
 ghost use Rattle.std.specs.Prelude.{ℕ, ◌+◌, ◌-◌, ◌≤◌, ◌<◌, ◌≡◌, true, length, eqb, Result, Err};
-ghost use Rattle.ber_containers.specs.Ends.{open_of, bit, zero_at, closing_at, standing_at, deep, enter_at, first_at, last_at, is_tag};
+ghost use Rattle.ber_containers.specs.Ends.{open_of, zero_at, closing_at, standing_at, deep, enter_at, first_at, last_at, is_tag};
 ghost use Rattle.ber_containers.specs.declared.No.{No};
 ghost use Rattle.ber_containers.specs.Passing.{skipped, cross_at, Through, passed_at};
 ghost use Rattle.ber_containers.specs.Short.{open_by, not_shut, short_tag, Shuts, Shortens, TagTold, Passes};
 ghost use Rattle.ber_containers.specs.Progress.{Fits, Onward, FoundOnward, OntoOnward, CrossOnward};
 
-use base_casts::{size, wide};
 use ber_tags::{Head, Length};
 
 // What a quick answer says where the place after the container's end is not told: no place in a message.
@@ -66,13 +65,11 @@ pub enum Crossing {
     Refused(No),
 }
 
+#[tactic(auto, unfolding(crate::specs::Ends::zero_at))]
 fn zero_at(s: &[u8], p: usize) -> bool
     ensures { zero_at s.now p ≡ result }
 {
-    if s.len() <= p {
-        return false;
-    }
-    s[p] == 0
+    p < s.len() && s[p] == 0
 }
 
 // A 00 stands at p, in a container that is definite (1) or not and ends at `end`.
@@ -112,12 +109,6 @@ fn open_of(bound: usize, start: usize, length: Length) -> Open
             end: bound,
         },
     }
-}
-
-fn flag(b: bool) -> u64
-    ensures { bit b ≡ result }
-{
-    if b { 1 } else { 0 }
 }
 
 // The place after the open container o if it ends at p, or 2^64 - 1 where that is for `standing` to say.
@@ -173,7 +164,7 @@ pub fn short(s: &[u8], p: usize, end: usize) -> usize
     if b % 32 == 31 {
         return 129;
     }
-    let l = size(s[q]);
+    let l = usize::from(s[q]);
     if l < 128 {
         if end - q <= l {
             return 129;
@@ -195,9 +186,9 @@ fn short_tag(b: u8, start: usize, n: usize, end: usize) -> Tag
 {
     if n < 128 {
         return Tag {
-            class: wide(b / 64),
-            constructed: wide(b % 64 / 32),
-            number: wide(b % 32),
+            class: u64::from(b / 64),
+            constructed: u64::from(b % 64 / 32),
+            number: u64::from(b % 32),
             start,
             inner: Open {
                 definite: 1,
@@ -206,9 +197,9 @@ fn short_tag(b: u8, start: usize, n: usize, end: usize) -> Tag
         };
     }
     Tag {
-        class: wide(b / 64),
-        constructed: wide(b % 64 / 32),
-        number: wide(b % 32),
+        class: u64::from(b / 64),
+        constructed: u64::from(b % 64 / 32),
+        number: u64::from(b % 32),
         start,
         inner: Open { definite: 0, end },
     }
@@ -237,8 +228,8 @@ pub fn standing(s: &[u8], p: usize, definite: u64, end: usize) -> Stands
             length,
             next,
         } => Stands::Here(Tag {
-            class: wide(class),
-            constructed: flag(constructed),
+            class: u64::from(class),
+            constructed: u64::from(constructed),
             number,
             start: next,
             inner: open_of(end, next, length),
@@ -253,20 +244,18 @@ fn agree(a: u64, b: u64) -> bool
 }
 
 // Whether a constructed tag stands where no container is allowed any more.
+#[tactic(auto, unfolding(crate::specs::Ends::deep))]
 fn too_deep(constructed: u64, k: usize) -> bool
     ensures { deep constructed k ≡ result }
 {
-    if constructed == 1 {
-        return k == 0;
-    }
-    false
+    constructed == 1 && k == 0
 }
 
 // One container fewer.
 pub fn less(k: usize) -> usize
     ensures { result ≡ k - 1 }
 {
-    if k == 0 { 0 } else { k - 1 }
+    k.saturating_sub(1)
 }
 
 // What stands at p, and no container too many.
@@ -329,15 +318,11 @@ pub fn last(s: &[u8], p: usize, c: Open, k: usize) -> Result<usize, No>
 }
 
 // Whether a tag has this class, form (1: constructed) and number.
+#[tactic(auto, unfolding(crate::specs::Ends::is_tag))]
 pub fn is_tag(t: Tag, class: u64, constructed: u64, number: u64) -> bool
     ensures { is_tag t class constructed number ≡ result }
 {
-    if t.class == class {
-        if t.number == number {
-            return t.constructed == constructed;
-        }
-    }
-    false
+    t.class == class && t.number == number && t.constructed == constructed
 }
 
 // The content of a tag that is not constructed, passed over.
@@ -382,6 +367,7 @@ fn through(s: &[u8], from: usize, o: Open, k: usize) -> Result<usize, No>
     ensures onto_onward { OntoOnward from result }
 {
     let mut p = from;
+    // No index is counted: p goes on past what stands there.
     loop {
         match cross(s, p, o, k) {
             Crossing::Over(next) => {
@@ -441,10 +427,7 @@ fn tag_at(s: &[u8], p: usize, o: Open) -> Tag
 fn has_room(d: usize, k: usize) -> bool
     ensures { result ≡ true → (d < k) × (d < 64) }
 {
-    if k <= d {
-        return false;
-    }
-    d < 64
+    d < k && d < 64
 }
 
 // Why what a container holds from a place on is refused, if the part `here` of it stops at p; where that is for `through` to say, all of it again.
@@ -478,6 +461,7 @@ fn nests(s: &[u8], from: usize, definite: u64, end: usize, k: usize) -> Result<u
     let mut d = 0;
     let mut p = from;
     let mut here = Open { definite, end };
+    // No index is counted: p goes on past what stands there, into containers and out of them.
     loop {
         let z = shut(s, p, here);
         if z != NOT_SHUT {
@@ -522,6 +506,7 @@ fn values(s: &[u8], from: usize, end: usize) -> usize
     ensures lower_bound { from ≤ result }
 {
     let mut p = from;
+    // No index is counted: p goes on past each value.
     loop {
         let n = short(s, p, end);
         if 128 <= n {

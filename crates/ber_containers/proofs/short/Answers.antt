@@ -23,12 +23,12 @@ returns-then-end-q-2 c = λ h. absurd (omega arith)
 
 pub returns-then-l-lt128 : goal.returns-then-l-lt128
 returns-then-l-lt128 c =
-    λ h. short-definite _ _ _ c.if-s-q.false c.if-end-q.false (omega (arith, c.if-b-eq31.false)) c.if-b-eq0.false c.size-l.ensures c.if-l-lt128.true
+    λ h. short-definite _ _ _ c.if-s-q.false c.if-end-q.false (omega (arith, c.if-b-eq31.false)) c.if-b-eq0.false c.from-l.ensures c.if-l-lt128.true
     c.if-end-q-2.false
 
 pub returns-then-b-ge32 : goal.returns-then-b-ge32
 returns-then-b-ge32 c =
-    λ h. short-open _ _ _ c.if-s-q.false c.if-end-q.false (omega (arith, c.if-b-eq31.false)) c.if-b-eq0.false (sym c.size-l.ensures ∙ c.if-l-eq128.true)
+    λ h. short-open _ _ _ c.if-s-q.false c.if-end-q.false (omega (arith, c.if-b-eq31.false)) c.if-b-eq0.false (sym c.from-l.ensures ∙ c.if-l-eq128.true)
     c.if-b-ge32.true
 
 pub returns-else-b-ge32 : goal.returns-else-b-ge32

@@ -8,7 +8,7 @@ overflow_add-result c =
     omega arith
 
 pub returns-then-n-lt128 : goal.returns-then-n-lt128
-returns-then-n-lt128 c = tag-definite _ _ _ _ c.wide.ensures.value c.wide-then-n-lt128.ensures.value c.wide-then-n-lt128-2.ensures.value c.if-n-lt128.true
+returns-then-n-lt128 c = tag-definite _ _ _ _ c.from.ensures c.from-then-n-lt128.ensures c.from-then-n-lt128-2.ensures c.if-n-lt128.true
 
 pub returns : goal.returns
-returns c = tag_open _ _ _ _ c.wide-2.ensures.value c.wide-3.ensures.value c.wide-4.ensures.value c.if-n-lt128.false
+returns c = tag_open _ _ _ _ c.from-2.ensures c.from-3.ensures c.from-4.ensures c.if-n-lt128.false

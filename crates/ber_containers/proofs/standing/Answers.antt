@@ -1,4 +1,4 @@
-use Rattle.ber_containers.proofs.Laws.{standing-ended, standing-missing, standing-zero, standing_by, standing_here, zero-inside, head-fits, ahead-here}
+use Rattle.ber_containers.proofs.Laws.{standing-ended, standing-missing, standing-zero, standing_by, standing_here, zero-inside, head-fits, ahead-here, bit-is}
 use native.Mathlib.Omega.{arith}
 use mathlib.Core.Path.{sym, ◌∙◌}
 use Rattle.ber_containers.proofs.standing.Goals as goal
@@ -33,7 +33,7 @@ pub returns-in-Tag : goal.returns-in-Tag
 returns-in-Tag c =
     let e = sym c.read_tag.ensures.is ∙ c.in-Tag.is in
     record {
-      end_value = standing_here _ _ _ e c.wide.ensures.value c.flag.ensures c.open_of.ensures.length_value c.if-p-end.false
+      end_value = standing_here _ _ _ e c.from.ensures (bit-is _ ∙ sym c.from-in-Tag.ensures) c.open_of.ensures.length_value c.if-p-end.false
           (c.zero_at.ensures ∙ c.if-zero_at.false);
-      onward = ahead-here _ _ _ e c.wide.ensures.value c.flag.ensures c.open_of.ensures.start_le_end;
+      onward = ahead-here _ _ _ e c.from.ensures (bit-is _ ∙ sym c.from-in-Tag.ensures) c.open_of.ensures.start_le_end;
     }
