@@ -190,7 +190,7 @@ fn is_counted(what: u64) -> bool
 
 // The word of a number that is in its member's range; NO_WORD where that is for `read_leaf` to say.
 fn word_in(what: u64, x: i64) -> u64
-    ensures { (result ≡ no_word → ⊥) → NumberTold what (Number.Int x) result }
+    ensures { (result ≡ no_word → ⊥) → NumberTold what (Some x) result }
 {
     let v = glow_rows::cell_of(Value::Int(x));
     if what == rules::ANY {
