@@ -1,7 +1,7 @@
 // One value, read and judged by what stands at its member.
 #![tactic(auto)]
 
-ghost use Rattle.std.specs.Prelude.{◌≡◌, ◌+◌, ◌≤◌, true, leb, eqb, length};
+ghost use Rattle.std.specs.Prelude.{◌≡◌, ◌+◌, ◌≤◌, true, leb, eqb, length, Some};
 ghost use Rattle.base_choices.specs.Choices.{pick};
 ghost use Rattle.ber_identifiers.specs.Identifier.{arcs};
 ghost use Rattle.glow_rows.specs.Cell.{numbers_cell};
