@@ -3,7 +3,7 @@ use Rattle.std.specs.Prelude.{Option, Some, None}
 use Prim.Native.Nat.{ℕ, zero, suc, ◌+◌, ◌-◌, ◌*◌, ◌≤◌, ◌<◌}
 use mathlib.Core.Path.{◌≡◌, refl, sym, ap, ◌∙◌}
 use mathlib.Core.Bool.{Bool, true, false, not}
-use mathlib.Core.List.{List, [], ◌∷◌, head-eq_of_cons-eq, cons-ne-nil}
+use mathlib.Core.List.{List, [], ◌∷◌}
 use native.Mathlib.Omega.{arith}
 use borrow.Author.Tests.{lt-ltb, le-ltb, le-leb, eq-eqb, ne_eqb, eqb-true}
 use lib.Dec.{T, eqb}
@@ -153,23 +153,32 @@ same-is (x ∷ xs) (y ∷ ys) e = go (same-is xs ys) (eqb x y) refl e
     go f true q s = ap (λ (n : ℕ). n ∷ xs) (eqb-true x y q) ∙ ap (λ (l : List ℕ). y ∷ l) (f s)
     go f false q s = let z : ◌≡◌ {A = ℕ} 0 1 = cc in absurd (omega arith)
 
--- a kind of entry: what its answers hold is read_as by `opens`
+-- a kind of entry
 module _ {E R : Type 0} (of : List ℕ → E) (made : E → List ℕ) (is : E → R) (other : R) where
   pub told_back : (e : E) → of (made e) ≡ e → read_as of made is other (made e) ≡ is e
   unfolding read_as
   told_back e h = rw (h, same_refl (made e))
 
-  pub told-made : (opens : R → List E) → ((x : E) → opens (is x) ≡ x ∷ []) → opens other ≡ []
-      → (r : List ℕ) (e : E) → read_as of made is other r ≡ is e → r ≡ made e
+some : {E : Type 0} {x e : E} → Some x ≡ Some e → x ≡ e
+some q = cc
+
+no : {E : Type 0} {e : E} → None ≡ Some e → ⊥
+no q = cc
+
+module _ {E : Type 0} (of : List ℕ → E) (made : E → List ℕ) (r : List ℕ) (e : E) where
+  pub told-made : read_as of made Some None r ≡ Some e → r ≡ made e
   unfolding read_as
-  told-made opens i o r e q = go (same r (made (of r))) refl q
+  told-made q = go (same r (made (of r))) refl q
     where
-      go : (b : Bool) → same r (made (of r)) ≡ b → pick b (is (of r)) other ≡ is e → r ≡ made e
-      go true s q = same-is r (made (of r)) s ∙ ap made (head-eq_of_cons-eq (sym (i (of r)) ∙ ap opens q ∙ i e))
-      go false s q = absurd (cons-ne-nil _ _ (sym (i e) ∙ sym (ap opens q) ∙ o))
+      go : (b : Bool) → same r (made (of r)) ≡ b → pick b (Some (of r)) None ≡ Some e → r ≡ made e
+      go true s q = same-is r (made (of r)) s ∙ ap made (some q)
+      go false s q = absurd (no q)
+
+pub none-back : {E : Type 0} (read : List ℕ → Option E) (made : E → List ℕ) (r : List ℕ) (e : E)
+    → read (made e) ≡ Some e → read r ≡ None → r ≡ made e → ⊥
+none-back read made r e b q s = no (sym q ∙ ap read s ∙ b)
 
 -- a test before it
-pub stream-told : {E R : Type 0} (opens : R → List E) (t : Bool) (x other : R) (e : E) {y : R} → opens other ≡ [] → opens y ≡ e ∷ []
-    → pick t other x ≡ y → x ≡ y
-stream-told opens true x other e o i q = absurd (cons-ne-nil _ _ (sym i ∙ sym (ap opens q) ∙ o))
-stream-told opens false x other e o i q = q
+pub stream-told : {E : Type 0} (t : Bool) (x : Option E) (e : E) → pick t None x ≡ Some e → x ≡ Some e
+stream-told true x e q = absurd (no q)
+stream-told false x e q = q

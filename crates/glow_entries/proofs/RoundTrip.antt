@@ -1,9 +1,9 @@
 -- Each kind of entry and its row, for all entries: the row made of an entry is read as that entry (`parameter-back`), a row that is read as an
 -- entry is the row made of it (`parameter-made`), and a row that is read_as to be none's is no entry's (`parameter-none`); so for each kind.
-use Rattle.std.specs.Prelude.{Option, Some, None}
+use Rattle.std.specs.Prelude.{Some, None}
 use Prim.Native.Nat.{ℕ}
-use mathlib.Core.Path.{◌≡◌, refl, sym, ap, ◌∙◌}
-use mathlib.Core.List.{List, [], ◌∷◌, cons-ne-nil}
+use mathlib.Core.Path.{◌≡◌, refl, ap, ◌∙◌}
+use mathlib.Core.List.{List}
 use native.Mathlib.Omega.{arith}
 use lib.Dec.{eqb}
 use Rattle.glow_rows.specs.declared.Cell.{Cell}
@@ -13,7 +13,7 @@ use Rattle.glow_entries.specs.Member.{key_kind, parent_word}
 use Rattle.glow_entries.specs.Record.{read_as, filled}
 use Rattle.glow_entries.proofs.Cells.{entry, parameter_cells, parameter-cells, node_cells, node-cells, matrix_cells, matrix-cells}
 use Rattle.glow_entries.proofs.Cells.{command_cells, command-cells, connection_cells, connection-cells, stream_cells, stream-cells}
-use Rattle.glow_entries.proofs.Back.{number_at, flag_at, part_at, value-at, int_at, key-at, parent-at, told_back, told-made, stream-told, stream-there}
+use Rattle.glow_entries.proofs.Back.{number_at, flag_at, part_at, value-at, int_at, key-at, parent-at, told_back, told-made, none-back, stream-told, stream-there}
 use Rattle.glow_entries.specs.declared.Parameter.{Parameter}
 use Rattle.glow_entries.specs.Held.{HeldParameter}
 use Rattle.glow_entries.specs.Record.{parameter_row, parameter_of, parameter_read}
@@ -32,13 +32,6 @@ use Rattle.glow_entries.specs.Record.{connection_row, connection_of, connection_
 use Rattle.glow_entries.specs.declared.Stream.{Stream}
 use Rattle.glow_entries.specs.Held.{HeldStream}
 use Rattle.glow_entries.specs.Record.{stream_row, stream_of, stream_read}
-
-none : {A : Type 0} {x : A} → x ∷ [] ≡ [] → ⊥
-none e = cons-ne-nil _ _ e
-
-abbrev pub parameter_in : Option Parameter → List Parameter
-parameter_in (Some e) = e ∷ []
-parameter_in None = []
 
 parameter-from : (e : Parameter) → HeldParameter e → parameter_of (row (entry (key_kind e.key 1 5) (parent_word e.parent) (parameter_cells e))) ≡ e
 unfolding parameter_of
@@ -70,14 +63,10 @@ parameter-back e h = told_back parameter_of parameter_row Some None e (parameter
 
 pub parameter-made : (r : List ℕ) (e : Parameter) → parameter_read r ≡ Some e → r ≡ parameter_row e
 unfolding parameter_read
-parameter-made r e q = told-made parameter_of parameter_row Some None parameter_in (λ x. refl) refl r e q
+parameter-made r e q = told-made parameter_of parameter_row r e q
 
 pub parameter-none : (r : List ℕ) (e : Parameter) → HeldParameter e → parameter_read r ≡ None → r ≡ parameter_row e → ⊥
-parameter-none r e h q s = none (sym (ap parameter_in (sym q ∙ ap parameter_read s ∙ parameter-back e h)))
-
-abbrev pub node_in : Option Node → List Node
-node_in (Some e) = e ∷ []
-node_in None = []
+parameter-none r e h = none-back parameter_read parameter_row r e (parameter-back e h)
 
 node-from : (e : Node) → HeldNode e → node_of (row (entry (key_kind e.key 3 6) (parent_word e.parent) (node_cells e))) ≡ e
 unfolding node_of blanks
@@ -103,14 +92,10 @@ node-back e h = told_back node_of node_row Some None e (node-of e h)
 
 pub node_made : (r : List ℕ) (e : Node) → node_read r ≡ Some e → r ≡ node_row e
 unfolding node_read
-node_made r e q = told-made node_of node_row Some None node_in (λ x. refl) refl r e q
+node_made r e q = told-made node_of node_row r e q
 
 pub node-none : (r : List ℕ) (e : Node) → HeldNode e → node_read r ≡ None → r ≡ node_row e → ⊥
-node-none r e h q s = none (sym (ap node_in (sym q ∙ ap node_read s ∙ node-back e h)))
-
-abbrev pub matrix_in : Option Matrix → List Matrix
-matrix_in (Some e) = e ∷ []
-matrix_in None = []
+node-none r e h = none-back node_read node_row r e (node-back e h)
 
 matrix-from : (e : Matrix) → HeldMatrix e → matrix_of (row (entry (key_kind e.key 4 7) (parent_word e.parent) (matrix_cells e))) ≡ e
 unfolding matrix_of blanks
@@ -140,14 +125,10 @@ matrix-back e h = told_back matrix_of matrix_row Some None e (matrix-of e h)
 
 pub matrix-made : (r : List ℕ) (e : Matrix) → matrix_read r ≡ Some e → r ≡ matrix_row e
 unfolding matrix_read
-matrix-made r e q = told-made matrix_of matrix_row Some None matrix_in (λ x. refl) refl r e q
+matrix-made r e q = told-made matrix_of matrix_row r e q
 
 pub matrix-none : (r : List ℕ) (e : Matrix) → HeldMatrix e → matrix_read r ≡ None → r ≡ matrix_row e → ⊥
-matrix-none r e h q s = none (sym (ap matrix_in (sym q ∙ ap matrix_read s ∙ matrix-back e h)))
-
-abbrev pub command_in : Option Command → List Command
-command_in (Some e) = e ∷ []
-command_in None = []
+matrix-none r e h = none-back matrix_read matrix_row r e (matrix-back e h)
 
 command-from : (e : Command) → HeldCommand e → command_of (row (entry 2 (parent_word e.parent) (command_cells e))) ≡ e
 unfolding command_of blanks
@@ -170,14 +151,10 @@ command-back e h = told_back command_of command_row Some None e (command-of e h)
 
 pub command-made : (r : List ℕ) (e : Command) → command_read r ≡ Some e → r ≡ command_row e
 unfolding command_read
-command-made r e q = told-made command_of command_row Some None command_in (λ x. refl) refl r e q
+command-made r e q = told-made command_of command_row r e q
 
 pub command-none : (r : List ℕ) (e : Command) → HeldCommand e → command_read r ≡ None → r ≡ command_row e → ⊥
-command-none r e h q s = none (sym (ap command_in (sym q ∙ ap command_read s ∙ command-back e h)))
-
-abbrev pub connection_in : Option Connection → List Connection
-connection_in (Some e) = e ∷ []
-connection_in None = []
+command-none r e h = none-back command_read command_row r e (command-back e h)
 
 connection-from : (e : Connection) → HeldConnection e → connection_of (row (entry 8 (parent_word e.parent) (connection_cells e))) ≡ e
 unfolding connection_of blanks
@@ -201,14 +178,10 @@ connection-back e h = told_back connection_of connection_row Some None e (connec
 
 pub connection-made : (r : List ℕ) (e : Connection) → connection_read r ≡ Some e → r ≡ connection_row e
 unfolding connection_read
-connection-made r e q = told-made connection_of connection_row Some None connection_in (λ x. refl) refl r e q
+connection-made r e q = told-made connection_of connection_row r e q
 
 pub connection-none : (r : List ℕ) (e : Connection) → HeldConnection e → connection_read r ≡ None → r ≡ connection_row e → ⊥
-connection-none r e h q s = none (sym (ap connection_in (sym q ∙ ap connection_read s ∙ connection-back e h)))
-
-abbrev pub stream_in : Option Stream → List Stream
-stream_in (Some e) = e ∷ []
-stream_in None = []
+connection-none r e h = none-back connection_read connection_row r e (connection-back e h)
 
 stream-from : (e : Stream) → HeldStream e → stream_of (row (entry 9 (parent_word e.parent) (stream_cells e))) ≡ e
 unfolding stream_of blanks
@@ -231,8 +204,8 @@ stream-back e h = rw (stream-there e.value h.value h.present) (told_back stream_
 
 pub stream-made : (r : List ℕ) (e : Stream) → stream_read r ≡ Some e → r ≡ stream_row e
 unfolding stream_read
-stream-made r e q = told-made stream_of stream_row Some None stream_in (λ x. refl) refl r e
-    (stream-told stream_in (eqb (cell_in r 1).kind 0) (read_as stream_of stream_row Some None r) None e refl refl q)
+stream-made r e q = told-made stream_of stream_row r e
+    (stream-told (eqb (cell_in r 1).kind 0) (read_as stream_of stream_row Some None r) e q)
 
 pub stream-none : (r : List ℕ) (e : Stream) → HeldStream e → stream_read r ≡ None → r ≡ stream_row e → ⊥
-stream-none r e h q s = none (sym (ap stream_in (sym q ∙ ap stream_read s ∙ stream-back e h)))
+stream-none r e h = none-back stream_read stream_row r e (stream-back e h)

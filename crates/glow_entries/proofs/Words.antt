@@ -1,17 +1,19 @@
 -- The words of what a cell or a row stands for are its own.
-use Rattle.std.specs.Prelude.{Option, Some, None}
-use Prim.Native.Nat.{ℕ, ◌-◌, ◌≤◌, ◌<◌, ◌^◌}
-use mathlib.Core.Path.{◌≡◌, refl, ap, subst, ◌∙◌}
+use Rattle.std.specs.Prelude.{Some, None}
+use Prim.Native.Nat.{ℕ, ◌+◌, ◌-◌, ◌*◌, ◌≤◌, ◌<◌, ◌^◌}
+use mathlib.Core.Path.{◌≡◌, refl}
 use mathlib.Core.Bool.{Bool, true, false}
 use mathlib.Core.List.{List, []}
 use native.Mathlib.Omega.{arith}
 use borrow.Author.Tests.{le-leb, eqb-true, eqb-false}
-use lib.Dec.{leb, eqb}
-use lib.IntN.{ℤ}
+use lib.Dec.{leb, ltb, eqb}
 use lib.ListN.{get_or}
 use Rattle.base_choices.specs.Choices.{pick}
 use Rattle.glow_rows.specs.declared.Cell.{Cell}
-use Rattle.glow_rows.specs.Cell.{cell, numbers, word_of, int_of, number_in, octets_in}
+use Rattle.glow_rows.specs.Place as place
+use Rattle.glow_rows.specs.Row.{cell_at, cell_in}
+use Rattle.glow_entries.specs.Record.{ConnectionWords, MatrixWords, connection_of, matrix_of}
+use Rattle.glow_rows.specs.Cell.{cell, absent, numbers, word_of, int_of, number_in, octets_in}
 use Rattle.glow_rows.proofs.Values.{word-int}
 use Rattle.glow_entries.specs.declared.Part.TheVariants as parts
 use Rattle.glow_entries.specs.Member.{number_cell, int_in, number_of, part_cell, part_of, parent_word, parent_of}
@@ -39,13 +41,33 @@ module _ (v : Cell) (h : v.first < 2 ^ 64) where
       go true false = refl
       go false b = refl
 
--- answers with the words of a cell
-pub number-again : (v w : Cell) (r : Option ℤ) → v ≡ w → v.first < 2 ^ 64 → r ≡ number_of w → (r ≡ number_of w) × (number_in (number_cell r) ≡ number_in w)
-number-again v w r q h e =
-    (e, ap (λ (n : Option ℤ). number_in (number_cell n)) e ∙ number_word w (subst (λ (x : Cell). x.first < 2 ^ 64) q h))
+-- of a row of words of 64 bits
+module _ (r : List ℕ) (h : (i : ℕ) → get_or r i 0 < 2 ^ 64) where
+  fits : (c : ℕ) → (cell_in r c).first < 2 ^ 64
+  unfolding cell_in
+  fits c = go (ltb c 16)
+    where
+      go : (b : Bool) → (pick b (cell_at r c) absent).first < 2 ^ 64
+      go true = h (3 + c * 3)
+      go false = omega arith
 
-pub int-again : (v w : Cell) (r : ℤ) → v ≡ w → v.first < 2 ^ 64 → r ≡ int_in w → (r ≡ int_in w) × (word_of r ≡ number_in w)
-int-again v w r q h e = (e, ap word_of e ∙ int_word w (subst (λ (x : Cell). x.first < 2 ^ 64) q h))
+  pub connection_words : ConnectionWords r (connection_of r)
+  unfolding connection_of
+  connection_words = record {
+    target = int_word (cell_in r place.target) (fits place.target);
+    operation = number_word (cell_in r place.operation) (fits place.operation);
+  }
+
+  pub matrix_words : MatrixWords r (matrix_of r)
+  unfolding matrix_of
+  matrix_words = record {
+    matrix_type = number_word (cell_in r place.matrix_type) (fits place.matrix_type);
+    mode = number_word (cell_in r place.mode) (fits place.mode);
+    targets = number_word (cell_in r place.targets) (fits place.targets);
+    sources = number_word (cell_in r place.sources) (fits place.sources);
+    total_limit = number_word (cell_in r place.total_limit) (fits place.total_limit);
+    target_limit = number_word (cell_in r place.target_limit) (fits place.target_limit);
+  }
 
 pub part-octets : (s : List ℕ) (v : Cell) → octets_in s (part_cell numbers (part_of numbers v)) ≡ octets_in s v
 unfolding part_of octets_in

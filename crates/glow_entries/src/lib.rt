@@ -1,14 +1,14 @@
 // The kinds of entry of the Glow tree, by value: each is made from a row of the lent table and put into one.
 #![tactic(auto)]
 
-ghost use Rattle.std.specs.Prelude.{◌≡◌, ◌-◌, ◌≤◌, length, take, drop, Some};
+ghost use Rattle.std.specs.Prelude.{◌≡◌, ◌-◌, ◌≤◌, List, ℕ, length, take, drop, Some, None};
 ghost use Rattle.glow_rows.specs.Cell.{numbers, cell_of, word_of, int_of, value_of, number_in, octets_in};
 ghost use Rattle.glow_rows.specs.Row.{cell_in};
 ghost use Rattle.glow_entries.specs.Member.{number_cell, int_in, number_of, flag_cell, flag_of, part_cell, part_of, parent_word, parent_of};
 ghost use Rattle.glow_entries.specs.Record.{parameter_row, parameter_of, parameter_read, node_row, node_of, node_read, matrix_row, matrix_of, matrix_read};
 ghost use Rattle.glow_entries.specs.Record.{command_row, command_of, command_read, connection_row};
 ghost use Rattle.glow_entries.specs.Record.{connection_of, connection_read, stream_row, stream_of, stream_read};
-ghost use Rattle.glow_entries.specs.Record.{ConnectionWords, MatrixWords};
+ghost use Rattle.glow_entries.specs.Record.{read_as, ConnectionWords, MatrixWords};
 ghost use Rattle.glow_entries.specs.Member.{key_kind, key_cell, key_of};
 
 use base_casts::{index, word};
@@ -17,20 +17,6 @@ use glow_rows::{
     Cell, KIND, PARENT, Span, absent, begun, cell_in, cell_of, int_of, is_same, kinds, places,
     put_in, tags, value_of,
 };
-
-// A number member, or that there is none.
-#[derive(Clone, Copy)]
-pub enum Number {
-    Absent,
-    Is(i64),
-}
-
-// A flag member, or that there is none.
-#[derive(Clone, Copy)]
-pub enum Flag {
-    Absent,
-    Is(bool),
-}
 
 // A part of the message, a text or a list of identifier numbers, or that there is none.
 #[derive(Clone, Copy)]
@@ -44,13 +30,6 @@ pub enum Part {
 pub enum Key {
     Number(i64),
     Path { start: usize, len: usize },
-}
-
-// The place of the entry that holds this one, or that none does.
-#[derive(Clone, Copy)]
-pub enum Parent {
-    Root,
-    At(u32),
 }
 
 fn number_cell(n: Option<i64>) -> Cell
@@ -117,22 +96,18 @@ pub fn parent_word(p: Option<u32>) -> u64
 }
 
 fn number_at(row: &[u64; 50], c: usize) -> Option<i64>
-    ensures value { result ≡ number_of (cell_in row.now c) }
-    ensures result_value { number_in (number_cell result) ≡ number_in (cell_in row.now c) }
+    ensures { result ≡ number_of (cell_in row.now c) }
 {
     let v = cell_in(row, c);
-    if v.kind == tags::INTEGER {
-        if v.second == 0 {
-            return Some(int_of(v.first));
-        }
+    if v.kind == tags::INTEGER && v.second == 0 {
+        return Some(int_of(v.first));
     }
     None
 }
 
 // What a cell stands for as a number that is never absent.
 fn int_at(row: &[u64; 50], c: usize) -> i64
-    ensures value { result ≡ int_in (cell_in row.now c) }
-    ensures result_value { word_of result ≡ number_in (cell_in row.now c) }
+    ensures { result ≡ int_in (cell_in row.now c) }
 {
     int_of(glow_rows::number_of(cell_in(row, c)))
 }
@@ -223,6 +198,30 @@ pub fn span_of(s: &[u8], p: Part) -> Span
     glow_rows::span_of(s, part_cell(tags::NUMBERS, p))
 }
 
+// A kind of entry: made from a row of the lent table, and put into one.
+pub trait Entry: Copy {
+    // The row of an entry, and the entry that a row stands for.
+    ghost row_of: { Self → List ℕ };
+
+    ghost entry_of: { List ℕ → Self };
+
+    fn row(self) -> [u64; 50]
+        ensures { result ≡ row_of self };
+
+    // Of a row that is of another kind, any entry serves: the row made of it is another.
+    fn at(row: &[u64; 50]) -> Self
+        ensures { result ≡ entry_of row.now };
+}
+
+// The entry of a row, or that the row is none of this kind: it is one's exactly if it is the row of the entry that it stands for.
+pub fn read<E: Entry>(row: &[u64; 50]) -> Option<E>
+    ensures { result ≡ read_as E.entry_of E.row_of Some None row.now }
+{
+    let e = E::at(row);
+    let again = e.row();
+    if is_same(row, &again) { Some(e) } else { None }
+}
+
 // A parameter, with its value, its minimum and its maximum, of any kind each.
 #[derive(Clone, Copy)]
 pub struct Parameter {
@@ -240,96 +239,70 @@ pub struct Parameter {
     pub stream: Option<i64>,
 }
 
-// What a row is read as: an entry, or that it is none of this kind.
-#[derive(Clone, Copy)]
-pub enum ReadParameter {
-    Entry(Parameter),
-    Other,
+impl Entry for Parameter {
+    ghost row_of = { parameter_row };
+
+    ghost entry_of = { parameter_of };
+
+    fn row(self) -> [u64; 50] {
+        let mut row = begun(
+            key_kind(self.key, kinds::PARAMETER, kinds::QUALIFIED_PARAMETER),
+            parent_word(self.parent),
+        );
+        put_in(&mut row, places::KEY, key_cell(self.key));
+        put_in(
+            &mut row,
+            places::IDENTIFIER,
+            part_cell(tags::TEXT, self.identifier),
+        );
+        put_in(
+            &mut row,
+            places::DESCRIPTION,
+            part_cell(tags::TEXT, self.description),
+        );
+        put_in(&mut row, places::VALUE, cell_of(self.value));
+        put_in(&mut row, places::MINIMUM, cell_of(self.minimum));
+        put_in(&mut row, places::MAXIMUM, cell_of(self.maximum));
+        put_in(&mut row, places::ACCESS, number_cell(self.access));
+        put_in(&mut row, places::FACTOR, number_cell(self.factor));
+        put_in(&mut row, places::ONLINE, flag_cell(self.online));
+        put_in(&mut row, places::STEP, number_cell(self.step));
+        put_in(&mut row, places::STREAM, number_cell(self.stream));
+        row
+    }
+
+    #[tactic(auto, unfolding(crate::specs::Record::parameter_of))]
+    fn at(row: &[u64; 50]) -> Parameter {
+        Parameter {
+            parent: parent_at(row),
+            key: key_at(row, kinds::QUALIFIED_PARAMETER),
+            identifier: part_at(row, tags::TEXT, places::IDENTIFIER),
+            description: part_at(row, tags::TEXT, places::DESCRIPTION),
+            value: value_at(row, places::VALUE),
+            minimum: value_at(row, places::MINIMUM),
+            maximum: value_at(row, places::MAXIMUM),
+            access: number_at(row, places::ACCESS),
+            factor: number_at(row, places::FACTOR),
+            online: flag_at(row, places::ONLINE),
+            step: number_at(row, places::STEP),
+            stream: number_at(row, places::STREAM),
+        }
+    }
 }
 
 // The row of a parameter.
 pub fn parameter_row(e: Parameter) -> [u64; 50]
     ensures { result ≡ parameter_row e }
 {
-    let parent = e.parent;
-    let key = e.key;
-    let identifier = e.identifier;
-    let description = e.description;
-    let value = e.value;
-    let minimum = e.minimum;
-    let maximum = e.maximum;
-    let access = e.access;
-    let factor = e.factor;
-    let online = e.online;
-    let step = e.step;
-    let stream = e.stream;
-    let mut row = begun(
-        key_kind(key, kinds::PARAMETER, kinds::QUALIFIED_PARAMETER),
-        parent_word(parent),
-    );
-    put_in(&mut row, places::KEY, key_cell(key));
-    put_in(
-        &mut row,
-        places::IDENTIFIER,
-        part_cell(tags::TEXT, identifier),
-    );
-    put_in(
-        &mut row,
-        places::DESCRIPTION,
-        part_cell(tags::TEXT, description),
-    );
-    put_in(&mut row, places::VALUE, cell_of(value));
-    put_in(&mut row, places::MINIMUM, cell_of(minimum));
-    put_in(&mut row, places::MAXIMUM, cell_of(maximum));
-    put_in(&mut row, places::ACCESS, number_cell(access));
-    put_in(&mut row, places::FACTOR, number_cell(factor));
-    put_in(&mut row, places::ONLINE, flag_cell(online));
-    put_in(&mut row, places::STEP, number_cell(step));
-    put_in(&mut row, places::STREAM, number_cell(stream));
-    row
-}
-
-fn parameter_at(row: &[u64; 50]) -> Parameter
-    ensures { result ≡ parameter_of row.now }
-{
-    let parent = parent_at(row);
-    let key = key_at(row, kinds::QUALIFIED_PARAMETER);
-    let identifier = part_at(row, tags::TEXT, places::IDENTIFIER);
-    let description = part_at(row, tags::TEXT, places::DESCRIPTION);
-    let value = value_at(row, places::VALUE);
-    let minimum = value_at(row, places::MINIMUM);
-    let maximum = value_at(row, places::MAXIMUM);
-    let access = number_at(row, places::ACCESS);
-    let factor = number_at(row, places::FACTOR);
-    let online = flag_at(row, places::ONLINE);
-    let step = number_at(row, places::STEP);
-    let stream = number_at(row, places::STREAM);
-    Parameter {
-        parent: parent,
-        key: key,
-        identifier: identifier,
-        description: description,
-        value: value,
-        minimum: minimum,
-        maximum: maximum,
-        access: access,
-        factor: factor,
-        online: online,
-        step: step,
-        stream: stream,
-    }
+    e.row()
 }
 
 // The parameter of a row, or that the row is none's.
+#[tactic(auto, unfolding(crate::specs::Record::parameter_read))]
 pub fn parameter_of(row: &[u64; 50]) -> Option<Parameter>
     ensures { result ≡ parameter_read row.now }
 {
-    let e = parameter_at(row);
-    let again = parameter_row(e);
-    if is_same(row, &again) {
-        return Some(e);
-    }
-    None
+    read(row)
 }
 
 // A node.
@@ -343,72 +316,58 @@ pub struct Node {
     pub online: Option<bool>,
 }
 
-// What a row is read as: an entry, or that it is none of this kind.
-#[derive(Clone, Copy)]
-pub enum ReadNode {
-    Entry(Node),
-    Other,
+impl Entry for Node {
+    ghost row_of = { node_row };
+
+    ghost entry_of = { node_of };
+
+    fn row(self) -> [u64; 50] {
+        let mut row = begun(
+            key_kind(self.key, kinds::NODE, kinds::QUALIFIED_NODE),
+            parent_word(self.parent),
+        );
+        put_in(&mut row, places::KEY, key_cell(self.key));
+        put_in(
+            &mut row,
+            places::IDENTIFIER,
+            part_cell(tags::TEXT, self.identifier),
+        );
+        put_in(
+            &mut row,
+            places::DESCRIPTION,
+            part_cell(tags::TEXT, self.description),
+        );
+        put_in(&mut row, places::ROOT, flag_cell(self.root));
+        put_in(&mut row, places::NODE_ONLINE, flag_cell(self.online));
+        row
+    }
+
+    #[tactic(auto, unfolding(crate::specs::Record::node_of))]
+    fn at(row: &[u64; 50]) -> Node {
+        Node {
+            parent: parent_at(row),
+            key: key_at(row, kinds::QUALIFIED_NODE),
+            identifier: part_at(row, tags::TEXT, places::IDENTIFIER),
+            description: part_at(row, tags::TEXT, places::DESCRIPTION),
+            root: flag_at(row, places::ROOT),
+            online: flag_at(row, places::NODE_ONLINE),
+        }
+    }
 }
 
 // The row of a node.
 pub fn node_row(e: Node) -> [u64; 50]
     ensures { result ≡ node_row e }
 {
-    let parent = e.parent;
-    let key = e.key;
-    let identifier = e.identifier;
-    let description = e.description;
-    let root = e.root;
-    let online = e.online;
-    let mut row = begun(
-        key_kind(key, kinds::NODE, kinds::QUALIFIED_NODE),
-        parent_word(parent),
-    );
-    put_in(&mut row, places::KEY, key_cell(key));
-    put_in(
-        &mut row,
-        places::IDENTIFIER,
-        part_cell(tags::TEXT, identifier),
-    );
-    put_in(
-        &mut row,
-        places::DESCRIPTION,
-        part_cell(tags::TEXT, description),
-    );
-    put_in(&mut row, places::ROOT, flag_cell(root));
-    put_in(&mut row, places::NODE_ONLINE, flag_cell(online));
-    row
-}
-
-fn node_at(row: &[u64; 50]) -> Node
-    ensures { result ≡ node_of row.now }
-{
-    let parent = parent_at(row);
-    let key = key_at(row, kinds::QUALIFIED_NODE);
-    let identifier = part_at(row, tags::TEXT, places::IDENTIFIER);
-    let description = part_at(row, tags::TEXT, places::DESCRIPTION);
-    let root = flag_at(row, places::ROOT);
-    let online = flag_at(row, places::NODE_ONLINE);
-    Node {
-        parent: parent,
-        key: key,
-        identifier: identifier,
-        description: description,
-        root: root,
-        online: online,
-    }
+    e.row()
 }
 
 // The node of a row, or that the row is none's.
+#[tactic(auto, unfolding(crate::specs::Record::node_read))]
 pub fn node_of(row: &[u64; 50]) -> Option<Node>
     ensures { result ≡ node_read row.now }
 {
-    let e = node_at(row);
-    let again = node_row(e);
-    if is_same(row, &again) {
-        return Some(e);
-    }
-    None
+    read(row)
 }
 
 // A matrix.
@@ -426,49 +385,62 @@ pub struct Matrix {
     pub target_limit: Option<i64>,
 }
 
-// What a row is read as: an entry, or that it is none of this kind.
-#[derive(Clone, Copy)]
-pub enum ReadMatrix {
-    Entry(Matrix),
-    Other,
+impl Entry for Matrix {
+    ghost row_of = { matrix_row };
+
+    ghost entry_of = { matrix_of };
+
+    fn row(self) -> [u64; 50] {
+        let mut row = begun(
+            key_kind(self.key, kinds::MATRIX, kinds::QUALIFIED_MATRIX),
+            parent_word(self.parent),
+        );
+        put_in(&mut row, places::KEY, key_cell(self.key));
+        put_in(
+            &mut row,
+            places::IDENTIFIER,
+            part_cell(tags::TEXT, self.identifier),
+        );
+        put_in(
+            &mut row,
+            places::DESCRIPTION,
+            part_cell(tags::TEXT, self.description),
+        );
+        put_in(&mut row, places::MATRIX_TYPE, number_cell(self.matrix_type));
+        put_in(&mut row, places::MODE, number_cell(self.mode));
+        put_in(&mut row, places::TARGETS, number_cell(self.targets));
+        put_in(&mut row, places::SOURCES, number_cell(self.sources));
+        put_in(&mut row, places::TOTAL_LIMIT, number_cell(self.total_limit));
+        put_in(
+            &mut row,
+            places::TARGET_LIMIT,
+            number_cell(self.target_limit),
+        );
+        row
+    }
+
+    #[tactic(auto, unfolding(crate::specs::Record::matrix_of))]
+    fn at(row: &[u64; 50]) -> Matrix {
+        Matrix {
+            parent: parent_at(row),
+            key: key_at(row, kinds::QUALIFIED_MATRIX),
+            identifier: part_at(row, tags::TEXT, places::IDENTIFIER),
+            description: part_at(row, tags::TEXT, places::DESCRIPTION),
+            matrix_type: number_at(row, places::MATRIX_TYPE),
+            mode: number_at(row, places::MODE),
+            targets: number_at(row, places::TARGETS),
+            sources: number_at(row, places::SOURCES),
+            total_limit: number_at(row, places::TOTAL_LIMIT),
+            target_limit: number_at(row, places::TARGET_LIMIT),
+        }
+    }
 }
 
 // The row of a matrix.
 pub fn matrix_row(e: Matrix) -> [u64; 50]
     ensures { result ≡ matrix_row e }
 {
-    let parent = e.parent;
-    let key = e.key;
-    let identifier = e.identifier;
-    let description = e.description;
-    let matrix_type = e.matrix_type;
-    let mode = e.mode;
-    let targets = e.targets;
-    let sources = e.sources;
-    let total_limit = e.total_limit;
-    let target_limit = e.target_limit;
-    let mut row = begun(
-        key_kind(key, kinds::MATRIX, kinds::QUALIFIED_MATRIX),
-        parent_word(parent),
-    );
-    put_in(&mut row, places::KEY, key_cell(key));
-    put_in(
-        &mut row,
-        places::IDENTIFIER,
-        part_cell(tags::TEXT, identifier),
-    );
-    put_in(
-        &mut row,
-        places::DESCRIPTION,
-        part_cell(tags::TEXT, description),
-    );
-    put_in(&mut row, places::MATRIX_TYPE, number_cell(matrix_type));
-    put_in(&mut row, places::MODE, number_cell(mode));
-    put_in(&mut row, places::TARGETS, number_cell(targets));
-    put_in(&mut row, places::SOURCES, number_cell(sources));
-    put_in(&mut row, places::TOTAL_LIMIT, number_cell(total_limit));
-    put_in(&mut row, places::TARGET_LIMIT, number_cell(target_limit));
-    row
+    e.row()
 }
 
 // What a row stands for as a matrix: of a row that is one's, that matrix.
@@ -476,40 +448,15 @@ pub fn matrix_at(row: &[u64; 50]) -> Matrix
     ensures value { result ≡ matrix_of row.now }
     ensures matrix_words { MatrixWords row.now result }
 {
-    let parent = parent_at(row);
-    let key = key_at(row, kinds::QUALIFIED_MATRIX);
-    let identifier = part_at(row, tags::TEXT, places::IDENTIFIER);
-    let description = part_at(row, tags::TEXT, places::DESCRIPTION);
-    let matrix_type = number_at(row, places::MATRIX_TYPE);
-    let mode = number_at(row, places::MODE);
-    let targets = number_at(row, places::TARGETS);
-    let sources = number_at(row, places::SOURCES);
-    let total_limit = number_at(row, places::TOTAL_LIMIT);
-    let target_limit = number_at(row, places::TARGET_LIMIT);
-    Matrix {
-        parent: parent,
-        key: key,
-        identifier: identifier,
-        description: description,
-        matrix_type: matrix_type,
-        mode: mode,
-        targets: targets,
-        sources: sources,
-        total_limit: total_limit,
-        target_limit: target_limit,
-    }
+    Matrix::at(row)
 }
 
 // The matrix of a row, or that the row is none's.
+#[tactic(auto, unfolding(crate::specs::Record::matrix_read))]
 pub fn matrix_of(row: &[u64; 50]) -> Option<Matrix>
     ensures { result ≡ matrix_read row.now }
 {
-    let e = matrix_at(row);
-    let again = matrix_row(e);
-    if is_same(row, &again) {
-        return Some(e);
-    }
-    None
+    read(row)
 }
 
 // A command.
@@ -520,53 +467,45 @@ pub struct Command {
     pub mask: Option<i64>,
 }
 
-// What a row is read as: an entry, or that it is none of this kind.
-#[derive(Clone, Copy)]
-pub enum ReadCommand {
-    Entry(Command),
-    Other,
+impl Entry for Command {
+    ghost row_of = { command_row };
+
+    ghost entry_of = { command_of };
+
+    fn row(self) -> [u64; 50] {
+        let mut row = begun(kinds::COMMAND, parent_word(self.parent));
+        put_in(
+            &mut row,
+            places::COMMAND_NUMBER,
+            cell_of(Value::Int(self.number)),
+        );
+        put_in(&mut row, places::MASK, number_cell(self.mask));
+        row
+    }
+
+    #[tactic(auto, unfolding(crate::specs::Record::command_of))]
+    fn at(row: &[u64; 50]) -> Command {
+        Command {
+            parent: parent_at(row),
+            number: int_at(row, places::COMMAND_NUMBER),
+            mask: number_at(row, places::MASK),
+        }
+    }
 }
 
 // The row of a command.
 pub fn command_row(e: Command) -> [u64; 50]
     ensures { result ≡ command_row e }
 {
-    let parent = e.parent;
-    let number = e.number;
-    let mask = e.mask;
-    let mut row = begun(kinds::COMMAND, parent_word(parent));
-    put_in(
-        &mut row,
-        places::COMMAND_NUMBER,
-        cell_of(Value::Int(number)),
-    );
-    put_in(&mut row, places::MASK, number_cell(mask));
-    row
-}
-
-fn command_at(row: &[u64; 50]) -> Command
-    ensures { result ≡ command_of row.now }
-{
-    let parent = parent_at(row);
-    let number = int_at(row, places::COMMAND_NUMBER);
-    let mask = number_at(row, places::MASK);
-    Command {
-        parent: parent,
-        number: number,
-        mask: mask,
-    }
+    e.row()
 }
 
 // The command of a row, or that the row is none's.
+#[tactic(auto, unfolding(crate::specs::Record::command_read))]
 pub fn command_of(row: &[u64; 50]) -> Option<Command>
     ensures { result ≡ command_read row.now }
 {
-    let e = command_at(row);
-    let again = command_row(e);
-    if is_same(row, &again) {
-        return Some(e);
-    }
-    None
+    read(row)
 }
 
 // A connection of a matrix.
@@ -578,30 +517,39 @@ pub struct Connection {
     pub operation: Option<i64>,
 }
 
-// What a row is read as: an entry, or that it is none of this kind.
-#[derive(Clone, Copy)]
-pub enum ReadConnection {
-    Entry(Connection),
-    Other,
+impl Entry for Connection {
+    ghost row_of = { connection_row };
+
+    ghost entry_of = { connection_of };
+
+    fn row(self) -> [u64; 50] {
+        let mut row = begun(kinds::CONNECTION, parent_word(self.parent));
+        put_in(&mut row, places::TARGET, cell_of(Value::Int(self.target)));
+        put_in(
+            &mut row,
+            places::CONNECTION_SOURCES,
+            part_cell(tags::NUMBERS, self.sources),
+        );
+        put_in(&mut row, places::OPERATION, number_cell(self.operation));
+        row
+    }
+
+    #[tactic(auto, unfolding(crate::specs::Record::connection_of))]
+    fn at(row: &[u64; 50]) -> Connection {
+        Connection {
+            parent: parent_at(row),
+            target: int_at(row, places::TARGET),
+            sources: part_at(row, tags::NUMBERS, places::CONNECTION_SOURCES),
+            operation: number_at(row, places::OPERATION),
+        }
+    }
 }
 
 // The row of a connection.
 pub fn connection_row(e: Connection) -> [u64; 50]
     ensures { result ≡ connection_row e }
 {
-    let parent = e.parent;
-    let target = e.target;
-    let sources = e.sources;
-    let operation = e.operation;
-    let mut row = begun(kinds::CONNECTION, parent_word(parent));
-    put_in(&mut row, places::TARGET, cell_of(Value::Int(target)));
-    put_in(
-        &mut row,
-        places::CONNECTION_SOURCES,
-        part_cell(tags::NUMBERS, sources),
-    );
-    put_in(&mut row, places::OPERATION, number_cell(operation));
-    row
+    e.row()
 }
 
 // What a row stands for as a connection: of a row that is one's, that connection.
@@ -609,28 +557,15 @@ pub fn connection_at(row: &[u64; 50]) -> Connection
     ensures value { result ≡ connection_of row.now }
     ensures connection_words { ConnectionWords row.now result }
 {
-    let parent = parent_at(row);
-    let target = int_at(row, places::TARGET);
-    let sources = part_at(row, tags::NUMBERS, places::CONNECTION_SOURCES);
-    let operation = number_at(row, places::OPERATION);
-    Connection {
-        parent: parent,
-        target: target,
-        sources: sources,
-        operation: operation,
-    }
+    Connection::at(row)
 }
 
 // The connection of a row, or that the row is none's.
+#[tactic(auto, unfolding(crate::specs::Record::connection_read))]
 pub fn connection_of(row: &[u64; 50]) -> Option<Connection>
     ensures { result ≡ connection_read row.now }
 {
-    let e = connection_at(row);
-    let again = connection_row(e);
-    if is_same(row, &again) {
-        return Some(e);
-    }
-    None
+    read(row)
 }
 
 // A stream entry.
@@ -641,55 +576,45 @@ pub struct Stream {
     pub value: Value,
 }
 
-// What a row is read as: an entry, or that it is none of this kind.
-#[derive(Clone, Copy)]
-pub enum ReadStream {
-    Entry(Stream),
-    Other,
+impl Entry for Stream {
+    ghost row_of = { stream_row };
+
+    ghost entry_of = { stream_of };
+
+    fn row(self) -> [u64; 50] {
+        let mut row = begun(kinds::STREAM_ENTRY, parent_word(self.parent));
+        put_in(
+            &mut row,
+            places::STREAM_NUMBER,
+            cell_of(Value::Int(self.identifier)),
+        );
+        put_in(&mut row, places::STREAM_VALUE, cell_of(self.value));
+        row
+    }
+
+    #[tactic(auto, unfolding(crate::specs::Record::stream_of))]
+    fn at(row: &[u64; 50]) -> Stream {
+        Stream {
+            parent: parent_at(row),
+            identifier: int_at(row, places::STREAM_NUMBER),
+            value: value_at(row, places::STREAM_VALUE),
+        }
+    }
 }
 
 // The row of a stream entry.
 pub fn stream_row(e: Stream) -> [u64; 50]
     ensures { result ≡ stream_row e }
 {
-    let parent = e.parent;
-    let identifier = e.identifier;
-    let value = e.value;
-    let mut row = begun(kinds::STREAM_ENTRY, parent_word(parent));
-    put_in(
-        &mut row,
-        places::STREAM_NUMBER,
-        cell_of(Value::Int(identifier)),
-    );
-    put_in(&mut row, places::STREAM_VALUE, cell_of(value));
-    row
-}
-
-fn stream_at(row: &[u64; 50]) -> Stream
-    ensures { result ≡ stream_of row.now }
-{
-    let parent = parent_at(row);
-    let identifier = int_at(row, places::STREAM_NUMBER);
-    let value = value_at(row, places::STREAM_VALUE);
-    Stream {
-        parent: parent,
-        identifier: identifier,
-        value: value,
-    }
+    e.row()
 }
 
 // The stream entry of a row, or that the row is none's.
 pub fn stream_of(row: &[u64; 50]) -> Option<Stream>
     ensures { result ≡ stream_read row.now }
 {
-    let v = cell_in(row, places::STREAM_VALUE);
-    if v.kind == tags::ABSENT {
+    if cell_in(row, places::STREAM_VALUE).kind == tags::ABSENT {
         return None;
     }
-    let e = stream_at(row);
-    let again = stream_row(e);
-    if is_same(row, &again) {
-        return Some(e);
-    }
-    None
+    read(row)
 }

@@ -2,7 +2,7 @@ use Rattle.glow_rows.specs.Entry.{blanks}
 use Rattle.glow_rows.specs.Entry.{with_cell}
 use Rattle.glow_entries.specs.Record.{filled, matrix_row}
 use Rattle.glow_entries.proofs.Answers.{begun-is, put-member}
-use Rattle.glow_entries.proofs.matrix_row.Goals as goal
+use Rattle.glow_entries.proofs.MatrixEntry.row.Goals as goal
 
 pub returns : goal.returns
 unfolding matrix_row filled with_cell blanks
