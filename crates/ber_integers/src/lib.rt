@@ -7,27 +7,6 @@ ghost use Rattle.ber_integers.specs.Digits.{natural, digits, count, put, outcome
 ghost use Rattle.ber_integers.specs.Readings.{Promised, integer_says, integer_or, natural_says, natural_or};
 ghost use Rattle.ber_integers.specs.Integer.{size_by, nine, unsigned_at, signed_at, integer_at, shortest};
 
-// A natural number read, or octets refused.
-#[derive(Clone, Copy)]
-pub enum Natural {
-    Nat(u64),
-    Refused,
-}
-
-// An integer read, or octets refused.
-#[derive(Clone, Copy)]
-pub enum Number {
-    Int(i64),
-    Refused,
-}
-
-// The position after what was written, or 46: nothing written.
-#[derive(Clone, Copy)]
-pub enum Wrote {
-    Next(usize),
-    Out,
-}
-
 fn low(x: u64) -> u8
     ensures { result ≡ x % 256 }
 {

@@ -12,13 +12,6 @@ ghost use Rattle.ber_reals.specs.Pattern.{sign_bit, bits_of};
 
 use base_casts::wide;
 
-// A real that was read, or one that is not accepted: 35.
-#[derive(Clone, Copy)]
-pub enum Read {
-    Real(f64),
-    Refused,
-}
-
 // How often m can be halved.
 pub fn halvings(m: u64) -> u64
     ensures { result ≡ count_trailing_zeros 64 m }

@@ -68,13 +68,9 @@ pub fn write_tag(
     if out.len() <= at {
         return None;
     }
-    match write_septets(number, out, at + 1) {
-        Some(e) => {
-            out[at] = first + 31;
-            Some(e)
-        }
-        None => None,
-    }
+    let end = write_septets(number, out, at + 1)?;
+    out[at] = first + 31;
+    Some(end)
 }
 
 // The length octets of a definite length, the fewest, at a position of the output.
@@ -91,13 +87,9 @@ pub fn write_length(n: u64, out: &mut [u8], at: usize) -> Option<usize>
         return None;
     }
     let k = ber_integers::octet_count(n);
-    match ber_integers::write_octets(n, k, out, at + 1) {
-        Some(e) => {
-            out[at] = 128 + k as u8;
-            Some(e)
-        }
-        None => None,
-    }
+    let end = ber_integers::write_octets(n, k, out, at + 1)?;
+    out[at] = 128 + k as u8;
+    Some(end)
 }
 
 // How many octets a length takes.

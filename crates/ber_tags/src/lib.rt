@@ -12,20 +12,6 @@ pub enum Length {
     Indefinite,
 }
 
-// A tag number read and the position after it, or 30 with its place.
-#[derive(Clone, Copy)]
-pub enum Numbered {
-    Number { number: u64, next: usize },
-    Refused { place: usize },
-}
-
-// A length read and the position after it, or 30 with its place.
-#[derive(Clone, Copy)]
-pub enum Sized {
-    Length { length: Length, next: usize },
-    Refused { place: usize },
-}
-
 // A tag read, with its length, and the position of what follows; or 30 with its place.
 #[derive(Clone, Copy)]
 pub enum Head {

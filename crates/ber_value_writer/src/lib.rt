@@ -14,14 +14,10 @@ fn sealed(kind: u8, w: Option<usize>, out: &mut [u8], at: usize) -> Option<usize
     requires { Sealable out.old at w }
     ensures { put_head out.old at kind w ≡ outcome result out.new }
 {
-    match w {
-        Some(e) => {
-            out[at + 1] = (e - (at + 2)) as u8;
-            out[at] = kind;
-            Some(e)
-        }
-        None => None,
-    }
+    let end = w?;
+    out[at + 1] = (end - (at + 2)) as u8;
+    out[at] = kind;
+    Some(end)
 }
 
 fn write_whole(x: i64, out: &mut [u8], at: usize) -> Option<usize>
@@ -113,14 +109,10 @@ fn write_text(
     if out.len() - (h + 1) < at {
         return None;
     }
-    match write_part(src, start, len, out, at + 1 + h) {
-        Some(e) => {
-            ber_tag_writer::write_length(n, out, at + 1);
-            out[at] = kind;
-            Some(e)
-        }
-        None => None,
-    }
+    let end = write_part(src, start, len, out, at + 1 + h)?;
+    ber_tag_writer::write_length(n, out, at + 1);
+    out[at] = kind;
+    Some(end)
 }
 
 // A value with its tag, at a position of the output; texts and octets come from `src`.

@@ -18,13 +18,6 @@ pub enum Value {
     Octets { start: usize, len: usize },
 }
 
-// A boolean read, or octets refused.
-#[derive(Clone, Copy)]
-pub enum Flag {
-    Is(bool),
-    Refused,
-}
-
 // A value read and the position after it; or a tag that is none of the five kinds; or a number refused with its place.
 #[derive(Clone, Copy)]
 pub enum Answer {

@@ -29,20 +29,21 @@ overflow_cast-out c = let k = few c.if-n-gt4294967295.false c.octet_count-k.ensu
 pub overflow_add-out : goal.overflow_add-out
 overflow_add-out c = let k = few c.if-n-gt4294967295.false c.octet_count-k.ensures in omega arith
 
-pub returns-in-Some : goal.returns-in-Some
-returns-in-Some c =
+pub returns : goal.returns
+returns c =
     let b : 128 + c.octet_count-k.result ≡ 128 + count 256 c.args.n = omega (arith, c.octet_count-k.ensures) in
     put-length-long _ _ _ c.if-n-gt4294967295.false
     c.if-n-lt128.false
     ∙ rw b (cons-done c.args.out.now c.args.at (128 + count 256 c.args.n) (digits 256 (count 256 c.args.n) c.args.n) _ _ _
     (rw c.octet_count-k.ensures at
-    c.write_octets.ensures) c.in-Some.is
+    c.write_octets.ensures) c.in_ok-end.was
     c.if-out-at.false)
 
-pub returns-in-None : goal.returns-in-None
-returns-in-None c =
-    put-length-long _ _ _ c.if-n-gt4294967295.false
+pub returns-in_err-end : goal.returns-in_err-end
+returns-in_err-end c =
+    rw c.from_residual.ensures
+    (put-length-long _ _ _ c.if-n-gt4294967295.false
     c.if-n-lt128.false
     ∙ cons-none c.args.out.now c.args.at (128 + count 256 c.args.n) (digits 256 (count 256 c.args.n) c.args.n) _ _
     (rw c.octet_count-k.ensures at c.write_octets.ensures)
-    c.in-None.is
+    c.in_err-end.was)

@@ -25,20 +25,21 @@ returns-then-out-at c =
     tag-long _ _ _ _ _ c.if-class-gt3.false c.if-number-gt268435455.false c.if-number-lt31.false
     ∙ put-out _ _ _ (omega arith)
 
-pub returns-in-Some : goal.returns-in-Some
-returns-in-Some c =
+pub returns : goal.returns
+returns c =
     tag-long _ _ _ _ _ c.if-class-gt3.false
     c.if-number-gt268435455.false
     c.if-number-lt31.false
     ∙ rw c.lead-first.ensures.value
     (cons-done c.args.out.now c.args.at (c.args.class * 64 + bit c.args.constructed + 31) (septets c.args.number) _ _ _
-    c.write_septets.ensures c.in-Some.is
+    c.write_septets.ensures c.in_ok-end.was
     c.if-out-at.false)
 
-pub returns-in-None : goal.returns-in-None
-returns-in-None c =
-    tag-long _ _ _ _ _ c.if-class-gt3.false
+pub returns-in_err-end : goal.returns-in_err-end
+returns-in_err-end c =
+    rw c.from_residual.ensures
+    (tag-long _ _ _ _ _ c.if-class-gt3.false
     c.if-number-gt268435455.false
     c.if-number-lt31.false
     ∙ cons-none c.args.out.now c.args.at (c.args.class * 64 + bit c.args.constructed + 31) (septets c.args.number) _ _
-    c.write_septets.ensures c.in-None.is
+    c.write_septets.ensures c.in_err-end.was)

@@ -11,25 +11,25 @@ fits : (xs : List ℕ) (at : ℕ) {e : ℕ} {w : Option ℕ} → Sealable xs at 
 fits xs at s e = subst (Sealable xs at) e s
 
 pub overflow_sub-out : goal.overflow_sub-out
-overflow_sub-out c = let q = fits c.args.out.now c.args.at c.requires c.in-Some.is in omega arith
+overflow_sub-out c = let q = fits c.args.out.now c.args.at c.requires c.in_ok-end.was in omega arith
 
 pub overflow_cast-out : goal.overflow_cast-out
-overflow_cast-out c = let q = fits c.args.out.now c.args.at c.requires c.in-Some.is in omega arith
+overflow_cast-out c = let q = fits c.args.out.now c.args.at c.requires c.in_ok-end.was in omega arith
 
 pub overflow_add-out : goal.overflow_add-out
-overflow_add-out c = let q = fits c.args.out.now c.args.at c.requires c.in-Some.is in omega arith
+overflow_add-out c = let q = fits c.args.out.now c.args.at c.requires c.in_ok-end.was in omega arith
 
-pub overflow_add-out-in-Some : goal.overflow_add-out-in-Some
-overflow_add-out-in-Some c = let q = fits c.args.out.now c.args.at c.requires c.in-Some.is in omega arith
+pub overflow_add-out-2 : goal.overflow_add-out-2
+overflow_add-out-2 c = let q = fits c.args.out.now c.args.at c.requires c.in_ok-end.was in omega arith
 
 pub bounds-out-at : goal.bounds-out-at
-bounds-out-at c = let q = fits c.args.out.now c.args.at c.requires c.in-Some.is in omega arith
+bounds-out-at c = let q = fits c.args.out.now c.args.at c.requires c.in_ok-end.was in omega arith
 
-pub bounds-out-at-in-Some : goal.bounds-out-at-in-Some
-bounds-out-at-in-Some c = let q = fits c.args.out.now c.args.at c.requires c.in-Some.is in simp length-set (omega arith)
+pub bounds-out-at-2 : goal.bounds-out-at-2
+bounds-out-at-2 c = let q = fits c.args.out.now c.args.at c.requires c.in_ok-end.was in simp length-set (omega arith)
 
-pub returns-in-Some : goal.returns-in-Some
-returns-in-Some c = ap (put_head c.args.out.now c.args.at c.args.kind) c.in-Some.is
+pub returns : goal.returns
+returns c = ap (put_head c.args.out.now c.args.at c.args.kind) c.in_ok-end.was
 
-pub returns-in-None : goal.returns-in-None
-returns-in-None c = ap (put_head _ _ _) c.in-None.is
+pub returns-in_err-end : goal.returns-in_err-end
+returns-in_err-end c = rw c.from_residual.ensures (ap (put_head _ _ _) c.in_err-end.was)
