@@ -1,10 +1,11 @@
 -- The walk by turns: one law for each way on from p. The fuel of the definitions appears here and in no proof of code.
 use Rattle.std.specs.Prelude.{Result, Ok, Err}
 use Prim.Native.Nat.{ℕ, zero, suc, ◌+◌, ◌-◌, ◌<◌}
-use mathlib.Core.Path.{◌≡◌, ◌∙◌}
+use mathlib.Core.Path.{◌≡◌, ap, ◌∙◌}
 use mathlib.Core.List.{List, [], ◌∷◌, ◌++◌}
 use native.Mathlib.Omega.{arith}
 use lib.ListN.{length}
+use Rattle.base_choices.proofs.Pairs.{ok-parts}
 use Rattle.ber_containers.specs.declared.No.{No}
 use Rattle.ber_containers.specs.declared.Open.{Open}
 use Rattle.ber_containers.specs.declared.Tag.{Tag}
@@ -95,7 +96,7 @@ module _ (s : List ℕ) (k : ℕ) (o : Open) (which parent above p : ℕ) (es : 
 
 -- what the code's answer says of the definition's
 pub counted-read : (a : Result ℕ No) (n : ℕ) {next m : ℕ} → counted a n ≡ Ok (next, m) → (a ≡ Ok next) × (n ≡ m)
-counted-read (Ok p) n h = (cc, cc)
+counted-read (Ok p) n h = let g = ok-parts h in (ap Ok g.0, g.1)
 counted-read (Err e) n h = let z : ◌≡◌ {A = ℕ} 0 1 = cc in absurd (omega arith)
 
 pub counted-no : (a : Result ℕ No) (n : ℕ) {e : No} → counted a n ≡ Err e → a ≡ Err e

@@ -101,19 +101,13 @@ fn close(
     ensures closes { Closes s.now outer k w result }
     ensures keeps { Keeps w result }
 {
-    match w {
-        Err(e) => Err(e),
-        Ok((next, count)) => {
-            let z = ber_containers::shut(s, next, outer);
-            if z != ber_containers::NOT_SHUT {
-                return Ok((z, count));
-            }
-            match ber_containers::last(s, next, outer, k) {
-                Err(e) => Err(e),
-                Ok(q) => Ok((q, count)),
-            }
-        }
+    let (next, count) = w?;
+    let z = ber_containers::shut(s, next, outer);
+    if z != ber_containers::NOT_SHUT {
+        return Ok((z, count));
     }
+    let q = ber_containers::last(s, next, outer, k)?;
+    Ok((q, count))
 }
 
 fn on(place: usize, before: u64, above: usize, count: usize) -> Turn
@@ -451,14 +445,11 @@ fn items(
 fn finish(s: &[u8], which: u64, w: Result<(usize, usize), No>) -> Result<(u64, usize), No>
     ensures { Finishes s.now which w result }
 {
-    match w {
-        Err(e) => Err(e),
-        Ok((next, count)) => {
-            if next == s.len() {
-                return Ok((which, count));
-            }
-            Err(No(30, next))
-        }
+    let (next, count) = w?;
+    if next == s.len() {
+        Ok((which, count))
+    } else {
+        Err(No(30, next))
     }
 }
 
@@ -466,21 +457,17 @@ fn finish(s: &[u8], which: u64, w: Result<(usize, usize), No>) -> Result<(u64, u
 pub fn message(s: &[u8], table: &mut [[u64; 50]]) -> Result<(u64, usize), No>
     ensures { MessageFill s.now table.old table.new result }
 {
-    match glow_steps::root_of(s) {
-        Err(e) => Err(e),
-        Ok((which, outer, g)) => {
-            let w = items(
-                s,
-                g.start,
-                g.inner,
-                collections::IN_COLLECTION,
-                which,
-                0,
-                0,
-                0,
-                table,
-            );
-            finish(s, which, close(s, outer, collections::IN_ROOT, w))
-        }
-    }
+    let (which, outer, g) = glow_steps::root_of(s)?;
+    let w = items(
+        s,
+        g.start,
+        g.inner,
+        collections::IN_COLLECTION,
+        which,
+        0,
+        0,
+        0,
+        table,
+    );
+    finish(s, which, close(s, outer, collections::IN_ROOT, w))
 }
