@@ -42,20 +42,6 @@ pub enum Stands {
     Refused(No),
 }
 
-// The one value of an outer tag.
-#[derive(Clone, Copy)]
-pub enum Found {
-    Value(Tag),
-    Refused(No),
-}
-
-// The place to go on from.
-#[derive(Clone, Copy)]
-pub enum Onto {
-    Next(usize),
-    Refused(No),
-}
-
 // One turn of passing over: the end, a value passed, or a container to go into.
 #[derive(Clone, Copy)]
 pub enum Crossing {
@@ -456,8 +442,10 @@ fn nests(s: &[u8], from: usize, definite: u64, end: usize, k: usize) -> Result<u
     ensures through { Through s.now k (open_by definite end) from result }
     ensures onto_onward { OntoOnward from result }
 {
-    let mut forms = [0u64; 64];
-    let mut ends = [0usize; 64];
+    let mut around = [Open {
+        definite: 0,
+        end: 0,
+    }; 64];
     let mut d = 0;
     let mut p = from;
     let mut here = Open { definite, end };
@@ -470,10 +458,7 @@ fn nests(s: &[u8], from: usize, definite: u64, end: usize, k: usize) -> Result<u
             }
             d = d - 1;
             p = z;
-            here = Open {
-                definite: forms[d],
-                end: ends[d],
-            };
+            here = around[d];
         } else {
             let t = tag_at(s, p, here);
             if t.start == NOT_SHUT {
@@ -484,8 +469,7 @@ fn nests(s: &[u8], from: usize, definite: u64, end: usize, k: usize) -> Result<u
                 if !has_room(d, k) {
                     return stopped(s, p, here, k - d, from, definite, end, k);
                 }
-                forms[d] = here.definite;
-                ends[d] = here.end;
+                around[d] = here;
                 d = d + 1;
                 p = t.start;
                 here = inner;
