@@ -59,6 +59,9 @@ part-cons s at n h k =
     let l : at < length s = omega arith in
     ap (λ (m : ℕ). take m (drop at s)) e ∙ rw (d, drop-cons s at 0 l)
 
+pub part-first : (s : List ℕ) (at n : ℕ) → 0 < n → at + n ≤ length s → get_or (take n (drop at s)) 0 0 ≡ get_or s at 0
+part-first s at n h k = ap (λ (l : List ℕ). get_or l 0 0) (part-cons s at n h k)
+
 pub signed_low : {l bs : List ℕ} {b : ℕ} → l ≡ b ∷ bs → b < 128 → signed l ≡ pos (natural l)
 unfolding signed
 signed_low e h = rw e (simp (lt-ltb _ _ h))

@@ -1,7 +1,7 @@
 // Big-endian numbers in content octets: natural numbers, two's complement, and EmBER integers.
 #![tactic(auto)]
 
-ghost use Rattle.std.specs.Prelude.{◌≡◌, [], ◌∷◌, ◌+◌, ◌-◌, ◌*◌, ◌^◌, ◌%◌, ◌≤◌, ◌<◌, length, take, drop, get_or};
+ghost use Rattle.std.specs.Prelude.{◌≡◌, [], ◌∷◌, ◌+◌, ◌-◌, ◌*◌, ◌^◌, ◌%◌, ◌≤◌, ◌<◌, length, take, drop, get_or, MatchOption};
 ghost use Rattle.std.specs.Int.Signed.{mag};
 ghost use Rattle.ber_integers.specs.Digits.{natural, digits, count, put, outcome};
 ghost use Rattle.ber_integers.specs.Readings.{Promised, integer_says, integer_or, natural_says, natural_or};
@@ -13,14 +13,21 @@ fn low(x: u64) -> u8
     (x % 256) as u8
 }
 
-// The number of n octets.
-fn natural_of(s: &[u8], at: usize, n: usize) -> u64
-    requires { (n ≤ 8) × (at + n ≤ length s.now) }
-    ensures value { result ≡ natural (take n (drop at s.now)) }
-    ensures upper_bound { result < 256 ^ n }
+// The n octets at a position, where the message holds them.
+pub fn held(s: &[u8], at: usize, n: usize) -> Option<&[u8]>
+    ensures { MatchOption result (length s.now < at + n) (λ bs. (at + n ≤ length s.now) × (bs.now ≡ take n (drop at s.now))) }
+{
+    s.get(at..)?.get(..n)
+}
+
+// The number of some octets.
+fn natural_of(octets: &[u8]) -> u64
+    requires { length octets.now ≤ 8 }
+    ensures value { result ≡ natural octets.now }
+    ensures upper_bound { result < 256 ^ length octets.now }
 {
     let mut acc: u64 = 0;
-    for b in &s[at..at + n] {
+    for b in octets {
         acc = acc * 256 + u64::from(*b);
     }
     acc
@@ -30,16 +37,11 @@ fn natural_of(s: &[u8], at: usize, n: usize) -> u64
 pub fn read_unsigned(s: &[u8], at: usize, n: usize) -> Option<u64>
     ensures { Promised natural_says (natural_or 30) (unsigned_at s.now at n) result }
 {
+    let octets = held(s, at, n)?;
     if 8 < n {
         return None;
     }
-    if s.len() < n {
-        return None;
-    }
-    if s.len() - n < at {
-        return None;
-    }
-    Some(natural_of(s, at, n))
+    Some(natural_of(octets))
 }
 
 // The greatest number of n octets.
@@ -58,20 +60,15 @@ fn ones(n: usize) -> u64
 pub fn read_signed(s: &[u8], at: usize, n: usize) -> Option<i64>
     ensures { Promised integer_says (integer_or 30) (signed_at s.now at n) result }
 {
-    if s.len() < n {
-        return None;
-    }
-    if s.len() - n < at {
-        return None;
-    }
+    let octets = held(s, at, n)?;
     if n == 0 {
         return None;
     }
     if 8 < n {
         return None;
     }
-    let v = natural_of(s, at, n);
-    if s[at] < 128 {
+    let v = natural_of(octets);
+    if octets[0] < 128 {
         Some(v as i64)
     } else {
         Some(-1 - ((ones(n) - v) as i64))
@@ -90,12 +87,7 @@ fn nine_bits(s: &[u8], at: usize) -> u64
 pub fn read_int(s: &[u8], at: usize, n: usize) -> Option<i64>
     ensures { Promised integer_says (integer_or 30) (integer_at s.now at n) result }
 {
-    if s.len() < n {
-        return None;
-    }
-    if s.len() - n < at {
-        return None;
-    }
+    held(s, at, n)?;
     if n < 2 {
         return read_signed(s, at, n);
     }

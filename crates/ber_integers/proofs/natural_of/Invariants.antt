@@ -8,5 +8,5 @@ use Rattle.ber_integers.proofs.natural_of.Given as goal
 abbrev pub invariant-loop-b : goal.invariant-loop-b
 invariant-loop-b l = record {
   below : l.acc < 256 ^ l.b-index;
-  rest : horner 256 l.acc (drop l.b-index l.b-items) ≡ natural l.b-items;
+  rest : horner 256 l.acc (drop l.b-index l.octets) ≡ natural l.octets;
 }
