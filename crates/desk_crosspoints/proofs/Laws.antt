@@ -3,7 +3,9 @@ use Rattle.std.specs.Prelude.{Option, Some, None}
 use Prim.Native.Nat.{ℕ, zero, suc, ◌+◌, ◌-◌, ◌*◌, ◌/◌, ◌≤◌, ◌<◌}
 use mathlib.Core.Path.{◌≡◌, refl, sym, ap, ◌∙◌}
 use mathlib.Core.List.{List, [], ◌∷◌, ◌++◌}
-use mathlib.Core.Bool.{Bool, true, false}
+use Rattle.std.specs.Int.{from_bool}
+use Rattle.std.specs.Option.{unwrap_or}
+use mathlib.Core.Bool.{Bool, true, false, not}
 use mathlib.Core.Logic.{⊎_elim}
 use native.Mathlib.Nat.{div-lt_iff_lt-mul}
 use native.Mathlib.Omega.{arith}
@@ -73,6 +75,19 @@ module _ (f : Figures) where
 pub bit-set : (c : ℕ) → (c ≡ 0 → ⊥) → bit c ≡ 1
 unfolding bit
 bit-set c h = simp (ne_eqb _ _ h)
+
+-- a test as a byte
+pub bit-byte : (c : ℕ) → bit c ≡ from_bool (not (eqb c 0))
+unfolding bit
+bit-byte c = go (eqb c 0)
+  where
+    go : (b : Bool) → pick b 0 1 ≡ from_bool (not b)
+    go true = refl
+    go false = refl
+
+pub limit-unwraps : (l : Option ℕ) (n : ℕ) → limit_or l n ≡ unwrap_or l n
+limit-unwraps None n = refl
+limit-unwraps (Some m) n = refl
 
 pub bit-clear : (c : ℕ) → c ≡ 0 → bit c ≡ 0
 unfolding bit

@@ -3,7 +3,7 @@
 
 ghost use Rattle.std.specs.Prelude.{◌≡◌, ℕ, ◌+◌, ◌*◌, ◌≤◌, ◌<◌, min, leb, length, get_or};
 ghost use Rattle.base_choices.specs.Choices.{both};
-ghost use Rattle.desk_crosspoints.specs.Figures.{side, is_count, is_limit, figures_fit, cells_of, size_of, limit_or, most_each, most_total};
+ghost use Rattle.desk_crosspoints.specs.Figures.{side, is_count, is_limit, figures_fit, cells_of, size_of, most_each, most_total};
 ghost use Rattle.desk_crosspoints.specs.Crosspoints.{bit, count, all_bits, clear, rows_fit, sources_fit, kind_fits, cells_fit, legal};
 ghost use Rattle.desk_crosspoints.specs.Desk.{desk_at, path_fits, desk_legal, answer, desk_opened};
 
@@ -16,13 +16,6 @@ pub const SIDE: usize = 64;
 pub const ONE_TO_ONE: u64 = 1;
 
 pub const N_TO_N: u64 = 2;
-
-// A limit where it was given.
-#[derive(Clone, Copy)]
-pub enum Limit {
-    Absent,
-    Most(u64),
-}
 
 // Type (0 1:N, 1 1:1, 2 N:N), counts of targets and sources, the limit in total and the limit per target.
 #[derive(Clone, Copy)]
@@ -37,10 +30,7 @@ pub struct Figures {
 fn is_count(n: u64) -> bool
     ensures { is_count n ≡ result }
 {
-    if n < 1 {
-        return false;
-    }
-    index(n) <= SIDE
+    1 <= n && index(n) <= SIDE
 }
 
 fn is_limit(l: Option<u64>) -> bool
@@ -48,12 +38,7 @@ fn is_limit(l: Option<u64>) -> bool
 {
     match l {
         None => true,
-        Some(n) => {
-            if n < 1 {
-                return false;
-            }
-            n <= 2147483647
-        }
+        Some(n) => 1 <= n && n <= 2147483647,
     }
 }
 
@@ -70,22 +55,7 @@ pub fn figures_fit(f: Figures) -> bool
     if !is_count(f.sources) {
         return false;
     }
-    let total = f.total;
-    if !is_limit(total) {
-        return false;
-    }
-    let each = f.each;
-    is_limit(each)
-}
-
-// A limit, or what stands for one that was not given.
-fn limit_or(l: Option<u64>, n: u64) -> u64
-    ensures { limit_or l n ≡ result }
-{
-    match l {
-        None => n,
-        Some(m) => m,
-    }
+    is_limit(f.total) && is_limit(f.each)
 }
 
 // The most sources of a target.
@@ -94,7 +64,7 @@ pub fn most_each(f: Figures) -> u64
 {
     if f.kind == N_TO_N {
         let each = f.each;
-        return limit_or(each, f.sources);
+        return each.unwrap_or(f.sources);
     }
     1
 }
@@ -103,10 +73,7 @@ pub fn most_each(f: Figures) -> u64
 fn bit(c: u8) -> u8
     ensures { bit c ≡ result }
 {
-    if c == 0 {
-        return 0;
-    }
-    1
+    u8::from(c != 0)
 }
 
 // How many of a few cells are set: a sum of bytes, of which a processor adds many at a time.
@@ -280,10 +247,7 @@ fn cells_fit(f: Figures, cells: &[u8]) -> bool
 pub fn is_legal(f: Figures, crosspoints: &[u8]) -> bool
     ensures { legal f crosspoints.now ≡ result }
 {
-    if !figures_fit(f) {
-        return false;
-    }
-    cells_fit(f, crosspoints)
+    figures_fit(f) && cells_fit(f, crosspoints)
 }
 
 // Whether a path has 1 to 16 numbers, each 1 to 2,147,483,647.
@@ -311,10 +275,7 @@ fn path_fits(path: &[u64]) -> bool
 pub fn desk_is_legal(f: Figures, path: &[u64], crosspoints: &[u8]) -> bool
     ensures { desk_legal (desk_at f path.now crosspoints.now) ≡ result }
 {
-    if !path_fits(path) {
-        return false;
-    }
-    is_legal(f, crosspoints)
+    path_fits(path) && is_legal(f, crosspoints)
 }
 
 // Clears every cell.

@@ -1,13 +1,16 @@
 -- Laws of a desk's figures as words, at plain variables.
-use Rattle.std.specs.Prelude.{Option, Some, None}
+use Rattle.std.specs.Prelude.{Option, Some, None, is_some}
+use Rattle.std.specs.Bool.{then_some}
+use Rattle.std.specs.Int.{from_bool}
+use Rattle.std.specs.Option.{unwrap_or}
+use Rattle.base_choices.specs.Choices.{pick}
 use Prim.Native.Nat.{ℕ}
 use mathlib.Core.Path.{◌≡◌, refl, sym, ◌∙◌}
-use mathlib.Core.Bool.{Bool, true, false}
-use mathlib.Core.List.{List, [], ◌∷◌}
-use native.Mathlib.Omega.{arith}
+use mathlib.Core.Bool.{Bool, true, false, not}
+use mathlib.Core.List.{List}
 use borrow.Author.Tests.{eq-eqb, ne_eqb}
 use lib.Dec.{eqb}
-use lib.ListN.{length, get_or, set}
+use lib.ListN.{length, get_or}
 use Rattle.desk_crosspoints.specs.declared.Figures.{Figures}
 use Rattle.desk_words.specs.Words.{words_of, given_word, limit_word, limit_at, figures_at, is_limit, is_figures, words_in}
 
@@ -38,13 +41,13 @@ module _ (given n : ℕ) where
   unfolding is_limit
   limit-given h = rw (ne_eqb _ _ h) refl
 
-  pub limit-absent : given ≡ 0 → None ≡ limit_at given n
+  pub limit-tested : then_some (not (eqb given 0)) n ≡ limit_at given n
   unfolding limit_at
-  limit-absent h = rw (eq-eqb _ _ h) refl
-
-  pub limit-most : (given ≡ 0 → ⊥) → Some n ≡ limit_at given n
-  unfolding limit_at
-  limit-most h = rw (ne_eqb _ _ h) refl
+  limit-tested = go (eqb given 0)
+    where
+      go : (b : Bool) → then_some (not b) n ≡ pick b None (Some n)
+      go true = refl
+      go false = refl
 
 module _ (ws : List ℕ) where
   pub figures-length : (length ws ≡ 7 → ⊥) → false ≡ is_figures ws
@@ -60,26 +63,14 @@ module _ (ws : List ℕ) where
   unfolding is_figures
   figures-first h i n = rw (eq-eqb _ _ h, sym i ∙ n) refl
 
-pub set-seven : (xs : List ℕ) (a b c d e f g : ℕ) → length xs ≡ 7
-    → set (set (set (set (set (set (set xs 0 a) 1 b) 2 c) 3 d) 4 e) 5 f) 6 g ≡ a ∷ b ∷ c ∷ d ∷ e ∷ f ∷ g ∷ []
-set-seven (x1 ∷ x2 ∷ x3 ∷ x4 ∷ x5 ∷ x6 ∷ x7 ∷ []) a b c d e f g k = refl
-set-seven (x1 ∷ x2 ∷ x3 ∷ x4 ∷ x5 ∷ x6 ∷ x7 ∷ x8 ∷ xs) a b c d e f g k = absurd (omega arith)
-set-seven (x1 ∷ x2 ∷ x3 ∷ x4 ∷ x5 ∷ x6 ∷ []) a b c d e f g k = absurd (omega arith)
-set-seven (x1 ∷ x2 ∷ x3 ∷ x4 ∷ x5 ∷ []) a b c d e f g k = absurd (omega arith)
-set-seven (x1 ∷ x2 ∷ x3 ∷ x4 ∷ []) a b c d e f g k = absurd (omega arith)
-set-seven (x1 ∷ x2 ∷ x3 ∷ []) a b c d e f g k = absurd (omega arith)
-set-seven (x1 ∷ x2 ∷ []) a b c d e f g k = absurd (omega arith)
-set-seven (x1 ∷ []) a b c d e f g k = absurd (omega arith)
-set-seven [] a b c d e f g k = absurd (omega arith)
+-- a limit's two words
+pub given-word : (l : Option ℕ) → from_bool (is_some l) ≡ given_word l
+given-word None = refl
+given-word (Some n) = refl
 
-pub put-limits : (ws : List ℕ) (total each : Option ℕ) {a b c d : ℕ} → a ≡ given_word total → b ≡ limit_word total → c ≡ given_word each → d ≡ limit_word each
-    → set (set (set (set ws 3 a) 4 b) 5 c) 6 d ≡ set (set (set (set ws 3 (given_word total)) 4 (limit_word total)) 5 (given_word each)) 6 (limit_word each)
-put-limits ws total each i j k l = rw (i, j, k, l) refl
-
-pub put-figures : (ws : List ℕ) (f : Figures) {ws' ws'' : List ℕ} → length ws ≡ 7 → ws' ≡ set (set (set ws 0 f.kind) 1 f.targets) 2 f.sources
-    → ws'' ≡ set (set (set (set ws' 3 (given_word f.total)) 4 (limit_word f.total)) 5 (given_word f.each)) 6 (limit_word f.each)
-    → ws'' ≡ words_of f
-put-figures ws f h i j = j ∙ rw i (set-seven ws _ _ _ _ _ _ _ h)
+pub limit-word : (l : Option ℕ) → unwrap_or l 0 ≡ limit_word l
+limit-word None = refl
+limit-word (Some n) = refl
 
 -- seven words become the figures'; any other count stays as it was
 pub words-seven : (ws : List ℕ) (f : Figures) → length ws ≡ 7 → words_in ws f ≡ words_of f

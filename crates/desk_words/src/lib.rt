@@ -1,18 +1,15 @@
 // A desk's figures as seven words, and back.
 #![tactic(auto)]
 
-ghost use Rattle.std.specs.Prelude.{◌≡◌, length, set};
-ghost use Rattle.desk_words.specs.Words.{given_word, limit_word, words_of, limit_at, figures_at, is_limit, is_figures, words_in};
+ghost use Rattle.std.specs.Prelude.{◌≡◌};
+ghost use Rattle.desk_words.specs.Words.{limit_at, figures_at, is_limit, is_figures, words_in};
 
 use desk_crosspoints::Figures;
 
 fn limit_at(given: u64, n: u64) -> Option<u64>
     ensures { result ≡ limit_at given n }
 {
-    if given == 0 {
-        return None;
-    }
-    Some(n)
+    (given != 0).then_some(n)
 }
 
 fn is_limit(given: u64, n: u64) -> bool
@@ -31,10 +28,7 @@ pub fn is_figures(words: &[u64]) -> bool
     if words.len() != 7 {
         return false;
     }
-    if is_limit(words[3], words[4]) {
-        return is_limit(words[5], words[6]);
-    }
-    false
+    is_limit(words[3], words[4]) && is_limit(words[5], words[6])
 }
 
 // The figures that the words are.
@@ -56,44 +50,6 @@ pub fn figures_at(words: &[u64]) -> Figures
     }
 }
 
-fn given_word(l: Option<u64>) -> u64
-    ensures { result ≡ given_word l }
-{
-    match l {
-        None => 0,
-        Some(_) => 1,
-    }
-}
-
-fn limit_word(l: Option<u64>) -> u64
-    ensures { result ≡ limit_word l }
-{
-    match l {
-        None => 0,
-        Some(n) => n,
-    }
-}
-
-fn put_words(words: &mut [u64], kind: u64, targets: u64, sources: u64)
-    requires { length words.old ≡ 7 }
-    ensures { words.new ≡ set (set (set words.old 0 kind) 1 targets) 2 sources }
-{
-    words[0] = kind;
-    words[1] = targets;
-    words[2] = sources;
-}
-
-fn put_limits(words: &mut [u64], total: Option<u64>, each: Option<u64>)
-    requires { length words.old ≡ 7 }
-    ensures { words.new
-        ≡ set (set (set (set words.old 3 (given_word total)) 4 (limit_word total)) 5 (given_word each)) 6 (limit_word each) }
-{
-    words[3] = given_word(total);
-    words[4] = limit_word(total);
-    words[5] = given_word(each);
-    words[6] = limit_word(each);
-}
-
 // The figures into seven words that are lent; another count stays as it was.
 pub fn put_figures(words: &mut [u64], f: Figures)
     ensures { words_in words.old f ≡ words.new }
@@ -101,8 +57,15 @@ pub fn put_figures(words: &mut [u64], f: Figures)
     if words.len() != 7 {
         return;
     }
-    put_words(words, f.kind, f.targets, f.sources);
     let total = f.total;
     let each = f.each;
-    put_limits(words, total, each);
+    words.copy_from_slice(&[
+        f.kind,
+        f.targets,
+        f.sources,
+        u64::from(total.is_some()),
+        total.unwrap_or(0),
+        u64::from(each.is_some()),
+        each.unwrap_or(0),
+    ]);
 }

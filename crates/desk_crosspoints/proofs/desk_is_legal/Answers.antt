@@ -1,16 +1,9 @@
-use mathlib.Core.Path.{◌∙◌}
+use mathlib.Core.Path.{sym, ◌∙◌}
 use Rattle.desk_crosspoints.proofs.Paths.{desk-path, desk-rest}
 use Rattle.desk_crosspoints.proofs.desk_is_legal.Goals as goal
 
-pub returns-then-not-path_fits : goal.returns-then-not-path_fits
-returns-then-not-path_fits c =
-    let the-path-fits = c.path_fits in
-    let the-if1 = c.if-not-path_fits in
-    desk-path _ (the-path-fits.ensures ∙ the-if1.true)
+pub returns-then-path_fits : goal.returns-then-path_fits
+returns-then-path_fits c = desk-rest _ (c.path_fits.ensures ∙ c.if-path_fits.true) ∙ c.is_legal.ensures
 
-pub returns : goal.returns
-returns c =
-    let the-path-fits = c.path_fits in
-    let the-if1 = c.if-not-path_fits in
-    let the-is-legal = c.is_legal in
-    desk-rest _ (the-path-fits.ensures ∙ the-if1.false) ∙ the-is-legal.ensures
+pub returns-else-path_fits : goal.returns-else-path_fits
+returns-else-path_fits c = desk-path _ (c.path_fits.ensures ∙ c.if-path_fits.false) ∙ sym c.if-path_fits.false
