@@ -1,6 +1,6 @@
 -- The reader's answer to every message of at most 16,384 octets and every table of at most 256 rows, by what the message encodes alone: `read-exactly` for the
 -- definition that the contract of `glow_reader::read` equates its answer with, `call-exactly` for every call that its contract allows.
-use Rattle.std.specs.Prelude.{Ok, Err}
+use Rattle.std.specs.Prelude.{Ok, Err, Result as Fallible}
 use Rattle.ber_containers.specs.declared.No.{No}
 use Prim.Native.Nat.{ℕ, ◌≤◌, ◌<◌}
 use mathlib.Core.Path.{◌≡◌, refl, sym, ap, subst, ◌∙◌}
@@ -76,7 +76,7 @@ module _ (s : List ℕ) (below : Below 256 s) (few : length s ≤ 16384) (rows :
       → ((root : ℕ) (t : Trees) → Encodes s root t → length rows < count t → P) → (Refuses rows x.answer x.rows → P) → P
   by_cases P fits lacks refused = by (walk s).out.answer refl
     where
-      by : (a : Result ℕ No) → (walk s).out.answer ≡ a → P
+      by : (a : Fallible ℕ No) → (walk s).out.answer ≡ a → P
       by (Ok m) q =
           let r = accepted s below q in
           ⊎_elim (λ (l : length rows < count r.0). lacks (walk s).which r.0 r.1 l)
@@ -160,7 +160,7 @@ lent_out xs = record { ref_ptr = (0, 0); ghost_name = 0; now = xs }
 abbrev Whole : Result → Type 0
 Whole y = y ≡ read_result y.answer y.rows
 
-whole-read : (rows : Rows) (which : ℕ) (es : Entries) (a : Result ℕ No) → Whole (read_of rows which es a)
+whole-read : (rows : Rows) (which : ℕ) (es : Entries) (a : Fallible ℕ No) → Whole (read_of rows which es a)
 whole-read rows which es (Ok n) = pick-by Whole (ltb (length rows) (length es)) (λ e. refl) (λ e. refl)
 whole-read rows which es (Err e) = refl
 

@@ -1,5 +1,6 @@
 -- What holds of every call of `read`, for what stands above it: `read_at s rows` is its answer and the table after it.
-use Rattle.std.specs.Prelude.{Ok, Err}
+use Rattle.ber_containers.specs.declared.No.{No as Refusal}
+use Rattle.std.specs.Prelude.{Ok, Err, Result as Fallible}
 use Prim.Native.Nat.{ℕ, ◌≤◌, ◌<◌}
 use mathlib.Core.Path.{◌≡◌, refl, sym, ap, subst, ◌∙◌}
 use mathlib.Core.List.{List, [], ◌∷◌}
@@ -23,7 +24,7 @@ use Rattle.glow_reader.proofs.Places.{OntoIn}
 use Rattle.glow_reader.proofs.Within.{EntriesIn, walk-in}
 
 -- The answer by the bytes and the table's length alone.
-abbrev judged_by : ℕ → ℕ → ℕ → Result ℕ No → Answer
+abbrev judged_by : ℕ → ℕ → ℕ → Fallible ℕ Refusal → Answer
 judged_by table which count (Ok next) = pick (ltb table count) (Room count) (Read which count)
 judged_by table which count (Err e) = No e.0 e.1
 
@@ -34,7 +35,7 @@ pick-answer : (b : Bool) (x y : Result) → (pick b x y).answer ≡ pick b x.ans
 pick-answer true x y = refl
 pick-answer false x y = refl
 
-judged-answer : (rows : Rows) (which : ℕ) (es : Entries) (a : Result ℕ No) → (read_of rows which es a).answer ≡ judged_by (length rows) which (length es) a
+judged-answer : (rows : Rows) (which : ℕ) (es : Entries) (a : Fallible ℕ Refusal) → (read_of rows which es a).answer ≡ judged_by (length rows) which (length es) a
 judged-answer rows which es (Ok next) =
     pick-answer (ltb (length rows) (length es)) (read_result (Room (length es)) rows) (read_result (Read which (length es)) (overlay es rows))
 judged-answer rows which es (Err e) = refl
@@ -76,7 +77,7 @@ said-by : (x y : Result) (b : Bool) → x.said ≡ reply_by x.answer → y.said 
 said-by x y true e f = e
 said-by x y false e f = f
 
-said_of : (rows : Rows) (which : ℕ) (es : Entries) (a : Result ℕ No) → (read_of rows which es a).said ≡ reply_by (read_of rows which es a).answer
+said_of : (rows : Rows) (which : ℕ) (es : Entries) (a : Fallible ℕ Refusal) → (read_of rows which es a).said ≡ reply_by (read_of rows which es a).answer
 said_of rows which es (Ok next) =
     said-by (read_result (Room (length es)) rows) (read_result (Read which (length es)) (overlay es rows)) (ltb (length rows) (length es)) refl refl
 said_of rows which es (Err e) = refl
@@ -91,7 +92,7 @@ module _ (s : List ℕ) (rows : Rows) where
   abbrev Keeps : Result → Type 0
   Keeps x = Ruled s rows x.rows x.answer
 
-  of-walk : length rows ≤ 256 → (which : ℕ) (es : Entries) (a : Result ℕ No) → OntoIn s 0 a → EntriesIn s es → Keeps (read_of rows which es a)
+  of-walk : length rows ≤ 256 → (which : ℕ) (es : Entries) (a : Fallible ℕ Refusal) → OntoIn s 0 a → EntriesIn s es → Keeps (read_of rows which es a)
   of-walk t which es (Ok next) w h =
       pick-by Keeps (ltb (length rows) (length es)) (λ e. (refl, ltb-true (length rows) (length es) e))
       (λ e. record { entries = es; counts = refl; holds = refl; parts = h; room = ltb-false (length rows) (length es) e; table = t })
@@ -147,7 +148,7 @@ module _ (s : List ℕ) (rows : Rows) where
       other : (e : Refusal) → OneOf refusals e.0 → eqb e.0 1 ≡ false
       other e h = ne_eqb e.0 1 (λ q. miss refusals 1 tt (subst (OneOf refusals) q h))
 
-      go : (u : Bool) (a : Result ℕ No) → OntoIn s 0 a
+      go : (u : Bool) (a : Fallible ℕ Refusal) → OntoIn s 0 a
           → eqb (pick u (read_result Setup rows) (read_of rows (walk s).which (walk s).out.entries a)).said.number 1 ≡ u
       go true a w = refl
       go false (Ok next) w =

@@ -6,6 +6,7 @@ use mathlib.Core.List.{List, [], ◌∷◌, ◌++◌}
 use native.Mathlib.Omega.{arith}
 use borrow.Author.Tests.{lt-ltb, le-ltb}
 use lib.ListN.{length}
+use Rattle.base_choices.proofs.Pairs.{ok-parts}
 use Rattle.ber_containers.specs.declared.No.{No}
 use Rattle.glow_rows.specs.Entry.{Entries, Rows, overlay}
 use Rattle.glow_walk.specs.Walk.{walk}
@@ -20,14 +21,14 @@ whole-no which (Err e) n h = cc
 module _ (rows : Rows) (which : ℕ) (es : Entries) {which' count : ℕ} where
   pub whole_room : (a : Result ℕ No) → whole which a (length es) ≡ Ok (which', count) → length rows < count
       → read_of rows which es a ≡ read_result (Room count) rows
-  whole_room (Ok p) h r = let e : length es ≡ count = cc in simp (lt-ltb (length rows) (length es) (rw e r)) (ap (λ n. read_result (Room n) rows) e)
+  whole_room (Ok p) h r = let e : length es ≡ count = (ok-parts h).1 in simp (lt-ltb (length rows) (length es) (rw e r)) (ap (λ n. read_result (Room n) rows) e)
   whole_room (Err e) h r = let z : ◌≡◌ {A = ℕ} 0 1 = cc in absurd (omega arith)
 
   pub whole-filled : (a : Result ℕ No) → whole which a (length es) ≡ Ok (which', count) → count ≤ length rows
       → read_of rows which es a ≡ read_result (ReadTree which' count) (overlay es rows)
   whole-filled (Ok p) h r =
-      let e : length es ≡ count = cc in
-      let f : which ≡ which' = cc in
+      let e : length es ≡ count = (ok-parts h).1 in
+      let f : which ≡ which' = (ok-parts h).0 in
       simp (le-ltb (length rows) (length es) (rw e r)) (rw (e, f))
   whole-filled (Err e) h r = let z : ◌≡◌ {A = ℕ} 0 1 = cc in absurd (omega arith)
 

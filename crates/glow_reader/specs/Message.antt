@@ -1,5 +1,6 @@
 -- What the reader answers (document 01, "Glow" and "Numbers answered").
-use Rattle.std.specs.Prelude.{ℕ, List, [], ◌∷◌, Bool, true, length, ltb, Result, Ok, Err}
+use Rattle.ber_containers.specs.declared.No.{No as Refusal}
+use Rattle.std.specs.Prelude.{ℕ, List, [], ◌∷◌, Bool, true, length, ltb, Result as Fallible, Ok, Err}
 use Rattle.base_choices.specs.Choices.{pick}
 use Rattle.glow_rows.specs.Entry.{Entries, Rows, overlay}
 use Rattle.glow_walk.specs.Walk.{Walk, walk}
@@ -41,7 +42,7 @@ unfoldable pub setup : ℕ → ℕ → Bool
 setup bytes rows = pick (ltb 256 rows) true (ltb 16384 bytes)
 
 -- "38 ROOM: message right, table too small"; "30 to 38 leave table and desk .. as they were"; "entries past the answer's count are untouched"
-abbrev pub read_of : Rows → ℕ → Entries → Result ℕ No → Result
+abbrev pub read_of : Rows → ℕ → Entries → Fallible ℕ Refusal → Result
 read_of rows which es (Ok next) = pick (ltb (length rows) (length es)) (read_result (Room (length es)) rows) (read_result (Read which (length es)) (overlay es rows))
 read_of rows which es (Err e) = read_result (No e.0 e.1) rows
 

@@ -1,5 +1,5 @@
 -- From a message to its entries, as they stand in the table's first rows.
-use Rattle.std.specs.Prelude.{Ok, Err}
+use Rattle.std.specs.Prelude.{Ok, Err, Result as Fallible}
 use Rattle.ber_containers.specs.declared.No.{No}
 use Prim.Native.Nat.{ℕ, suc, ◌≤◌, ◌<◌}
 use mathlib.Core.Path.{◌≡◌, refl, sym, ap, subst, ◌∙◌}
@@ -45,7 +45,7 @@ module _ (m : List ℕ) (table : Rows) (few : length m ≤ 16384) (sized : lengt
   sheet_for (glow.Room count) es = refused 38
   sheet_for (glow.Read root count) es = of_entries (items_of m es)
 
-  for-answer : (which : ℕ) (es : Entries) (a : Result ℕ No) → of_answer m es a ≡ sheet_for (read_of table which es a).answer es
+  for-answer : (which : ℕ) (es : Entries) (a : Fallible ℕ No) → of_answer m es a ≡ sheet_for (read_of table which es a).answer es
   for-answer which es (Ok next) = rw sized (go (ltb 256 (length es)))
     where
       go : (u : Bool) → pick u (refused 38) (of_entries (items_of m es))
@@ -75,7 +75,7 @@ module _ (m : List ℕ) (table : Rows) (few : length m ≤ 16384) (sized : lengt
   is_setup (glow.Room count) = 0
   is_setup (glow.Read root count) = 0
 
-  read-ready : (which : ℕ) (es : Entries) (a : Result ℕ No) → is_setup (read_of table which es a).answer ≡ 0
+  read-ready : (which : ℕ) (es : Entries) (a : Fallible ℕ No) → is_setup (read_of table which es a).answer ≡ 0
   unfolding is_setup
   read-ready which es (Ok next) = go (ltb (length table) (length es))
     where

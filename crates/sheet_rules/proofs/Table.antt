@@ -1,4 +1,5 @@
 -- "the tree's": what a sheet's message gives is what the tree reader answers with a table of 256 entries, whatever the table held.
+use Rattle.ber_containers.specs.declared.No.{No as Refusal}
 use Rattle.std.specs.Prelude.{Result, Ok, Err}
 use Prim.Native.Nat.{ℕ, ◌≤◌}
 use mathlib.Core.Path.{◌≡◌, refl, ap}
@@ -38,7 +39,7 @@ module _ (m : List ℕ) (octets : Below 256 m) (few : length m ≤ 16384) (table
   unfolding setup
   not-setup = let l : length table ≤ 256 = omega arith in rw (le-ltb _ _ l, le-ltb _ _ few) refl
 
-  by-walk : (a : Result ℕ No) → (walk m).out.answer ≡ a
+  by-walk : (a : Result ℕ Refusal) → (walk m).out.answer ≡ a
       → of_table m (read_of table (walk m).which es a).rows (read_of table (walk m).which es a).answer ≡ of_answer m es a
   by-walk (Err e) q = refl
   by-walk (Ok n) q = rw long (go (ltb 256 (length es)) refl)

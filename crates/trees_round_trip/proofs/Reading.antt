@@ -1,5 +1,5 @@
 -- What the answer 0 says of a message: its entries are those of a legal tree, and they stand in the table's first rows.
-use Rattle.std.specs.Prelude.{Ok, Err}
+use Rattle.std.specs.Prelude.{Ok, Err, Result as Fallible}
 use Rattle.ber_containers.specs.declared.No.{No}
 use Prim.Native.Nat.{ℕ, ◌≤◌}
 use mathlib.Core.Path.{◌≡◌, refl, sym, ap, subst, ◌∙◌}
@@ -43,7 +43,7 @@ module _ (s : List ℕ) (table : Rows) (root count : ℕ) where
   abbrev Says : Result → Type 0
   Says x = x.answer ≡ Read root count → Walked s table root count x.rows
 
-  of-walk : length s ≤ 16384 → length table ≤ 256 → (a : Result ℕ No) → (walk s).out.answer ≡ a → Says (read_of table (walk s).which (walk s).out.entries a)
+  of-walk : length s ≤ 16384 → length table ≤ 256 → (a : Fallible ℕ No) → (walk s).out.answer ≡ a → Says (read_of table (walk s).which (walk s).out.entries a)
   of-walk f m (Ok next) q =
       pick-by Says (ltb (length table) (length (walk s).out.entries)) (λ e h. never (ap is_read h))
       (λ e h.

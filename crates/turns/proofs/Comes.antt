@@ -1,5 +1,5 @@
 -- What the three calls give, one after another, is a turn: for calls made one by one and for the function `turn`.
-use Rattle.std.specs.Prelude.{Ok, Err}
+use Rattle.std.specs.Prelude.{Ok, Err, Result as Fallible}
 use Rattle.ber_containers.specs.declared.No.{No}
 use Prim.Native.Nat.{ℕ}
 use mathlib.Core.Bool.{Bool}
@@ -31,7 +31,7 @@ use Rattle.turns.specs.Whole.{Left, later_of, gave, answer_to, read_to, later_at
 abbrev Whole : Result → Type 0
 Whole x = x ≡ read_result x.answer x.rows
 
-whole_by : (table : Rows) (which : ℕ) (es : Entries) (a : Result ℕ No) → Whole (read_of table which es a)
+whole_by : (table : Rows) (which : ℕ) (es : Entries) (a : Fallible ℕ No) → Whole (read_of table which es a)
 whole_by table which es (Ok next) = pick-by Whole (ltb (length table) (length es)) (λ e. refl) (λ e. refl)
 whole_by table which es (Err e) = refl
 
