@@ -10,8 +10,6 @@ ghost use Rattle.ber_reals.specs.Number.{halved, number};
 ghost use Rattle.ber_reals.specs.Real.{binary_real, real_at, real_says, real_or};
 ghost use Rattle.ber_reals.specs.Pattern.{sign_bit, bits_of};
 
-use base_casts::wide;
-
 // How often m can be halved.
 pub fn halvings(m: u64) -> u64
     ensures { result ≡ count_trailing_zeros 64 m }
@@ -116,7 +114,7 @@ fn binary(s: &[u8], at: usize, n: usize) -> Option<f64>
     requires { (2 ≤ n) × (at + n ≤ length s.now) }
     ensures { result ≡ binary_real (get_or s.now at 0) (take (n - 1) (drop (at + 1) s.now)) }
 {
-    let first = wide(s[at]);
+    let first = u64::from(s[at]);
     if first < 128 {
         return None;
     }
@@ -144,23 +142,11 @@ fn binary(s: &[u8], at: usize, n: usize) -> Option<f64>
 pub fn read_real(s: &[u8], at: usize, n: usize) -> Option<f64>
     ensures { Promised real_says (real_or 35) (real_at s.now at n) result }
 {
-    if s.len() < n {
-        return None;
+    match ber_integers::held(s, at, n)? {
+        [] => Some(0.0),
+        [0x40] => Some(f64::from_bits(0x7ff0_0000_0000_0000)),
+        [0x41] => Some(f64::from_bits(0xfff0_0000_0000_0000)),
+        [_] => None,
+        _ => binary(s, at, n),
     }
-    if s.len() - n < at {
-        return None;
-    }
-    if n == 0 {
-        return Some(0.0);
-    }
-    if n == 1 {
-        if s[at] == 0x40 {
-            return Some(f64::from_bits(0x7ff0_0000_0000_0000));
-        }
-        if s[at] == 0x41 {
-            return Some(f64::from_bits(0xfff0_0000_0000_0000));
-        }
-        return None;
-    }
-    binary(s, at, n)
 }

@@ -1,7 +1,7 @@
 -- One law for each answer of the definitions, at plain variables.
 use Rattle.std.specs.Prelude.{Option, Some, None}
 use Prim.Native.Nat.{ℕ, ◌+◌, ◌-◌, ◌≤◌, ◌<◌}
-use mathlib.Core.Path.{◌≡◌, refl, sym, ◌∙◌}
+use mathlib.Core.Path.{◌≡◌, refl, sym, ap, ◌∙◌}
 use mathlib.Core.List.{List, [], ◌∷◌}
 use mathlib.Core.Bool.{Bool, true, false, not}
 use mathlib.Core.Logic.{◌⊎◌, ⊎_elim}
@@ -11,7 +11,7 @@ use lib.ListN.{length, take, drop, get_or}
 use lib.Dec.{leb, eqb}
 use Rattle.ber_integers.proofs.Radix.{lt-or-le}
 use Rattle.ber_integers.specs.Integer.{integer_at}
-use Rattle.ber_integers.proofs.Laws.{part-cons, length_part}
+use Rattle.ber_integers.proofs.Laws.{part-cons, part-first, length_part}
 use Rattle.ber_reals.specs.Real.{real_at}
 use Rattle.ber_tags.specs.declared.Length.{Length}
 use Rattle.ber_tags.specs.declared.Head.{Head}
@@ -41,6 +41,11 @@ module _ (s : List ℕ) (at n : ℕ) where
   bool_is h e =
       let t : take n (drop at s) ≡ get_or s at 0 ∷ [] = part-cons s at n (omega arith) h ∙ let z : n - 1 ≡ 0 = omega arith in rw z in
       simp (le-leb _ _ h, t)
+
+  pub bool_held : (held : List ℕ) → at + n ≤ length s → held ≡ take n (drop at s) → n ≡ 1 → Some (not (eqb (get_or held 0 0) 0)) ≡ bool_at s at n
+  bool_held held h o e =
+      let f : get_or held 0 0 ≡ get_or s at 0 = ap (λ (l : List ℕ). get_or l 0 0) o ∙ part-first s at n (omega arith) h in
+      ap (λ (b : ℕ). Some (not (eqb b 0))) f ∙ bool_is h e
 
   pub bool-not : at + n ≤ length s → (n ≡ 1 → ⊥) → None ≡ bool_at s at n
   unfolding bool_at

@@ -30,16 +30,10 @@ pub enum Answer {
 pub fn read_bool(s: &[u8], at: usize, n: usize) -> Option<bool>
     ensures { Promised flag_says (flag_or 30) (bool_at s.now at n) result }
 {
-    if s.len() < n {
-        return None;
+    match ber_integers::held(s, at, n)? {
+        [b] => Some(*b != 0),
+        _ => None,
     }
-    if s.len() - n < at {
-        return None;
-    }
-    if n == 1 {
-        return Some(s[at] != 0);
-    }
-    None
 }
 
 // Whether the message holds the octets of a value.
