@@ -30,9 +30,6 @@ pub one-short : (b : ℕ) (bs : List ℕ) → octets (b ∷ []) ≡ octets bs �
 one-short b bs e = let f : b ∷ [] ≡ bs = cc in let m : length bs ≡ 1 = ap length (sym f) in omega arith
 
 -- a part of one slice copied into another
-pub part-put : (src out : List ℕ) (start len at : ℕ) (ys : List ℕ) → ys ≡ take (start + len - start) (drop start src)
+pub part-put : (src out : List ℕ) (start len at : ℕ) (ys : List ℕ) → ys ≡ take len (drop start src)
     → put_mid at (at + len - at) out ys ≡ take at out ++ (take len (drop start src) ++ drop (at + len) out)
-part-put src out start len at ys e =
-    let f : start + len - start ≡ len = omega arith in
-    let t : at + len - at ≡ len = omega arith in
-    rw (e, f, t, drop-drop len at out)
+part-put src out start len at ys e = let t : at + len - at ≡ len = omega arith in rw (e, t, drop-drop len at out)

@@ -20,15 +20,11 @@ fn sealed(kind: u8, w: Option<usize>, out: &mut [u8], at: usize) -> Option<usize
     Some(end)
 }
 
+// A number with its tag and length, where the output holds these two octets at a position.
 fn write_whole(x: i64, out: &mut [u8], at: usize) -> Option<usize>
     ensures { put_primitive out.old at 2 (octets (shortest x)) ≡ outcome result out.new }
 {
-    if out.len() < 2 {
-        return None;
-    }
-    if out.len() - 2 < at {
-        return None;
-    }
+    ber_integers::held(out, at, 2)?;
     let w = ber_integers::write_int(x, out, at + 2);
     sealed(2, w, out, at)
 }
@@ -36,12 +32,7 @@ fn write_whole(x: i64, out: &mut [u8], at: usize) -> Option<usize>
 fn write_double(x: f64, out: &mut [u8], at: usize) -> Option<usize>
     ensures { put_primitive out.old at 9 (form x) ≡ outcome result out.new }
 {
-    if out.len() < 2 {
-        return None;
-    }
-    if out.len() - 2 < at {
-        return None;
-    }
+    ber_integers::held(out, at, 2)?;
     let w = ber_real_writer::write_real(x, out, at + 2);
     sealed(9, w, out, at)
 }
@@ -56,12 +47,7 @@ pub fn bool_octet(b: bool) -> u8
 fn write_flag(b: bool, out: &mut [u8], at: usize) -> Option<usize>
     ensures { put_primitive out.old at 1 (octets (bool_octet b ∷ [])) ≡ outcome result out.new }
 {
-    if out.len() < 2 {
-        return None;
-    }
-    if out.len() - 2 < at {
-        return None;
-    }
+    ber_integers::held(out, at, 2)?;
     let w = ber_integers::write_octet(bool_octet(b), out, at + 2);
     sealed(1, w, out, at)
 }
@@ -70,19 +56,9 @@ fn write_flag(b: bool, out: &mut [u8], at: usize) -> Option<usize>
 pub fn write_part(src: &[u8], start: usize, len: usize, out: &mut [u8], at: usize) -> Option<usize>
     ensures { put_part src.now start len out.old at ≡ outcome result out.new }
 {
-    if src.len() < len {
-        return None;
-    }
-    if src.len() - len < start {
-        return None;
-    }
-    if out.len() < len {
-        return None;
-    }
-    if out.len() - len < at {
-        return None;
-    }
-    out[at..at + len].copy_from_slice(&src[start..start + len]);
+    let part = ber_integers::held(src, start, len)?;
+    ber_integers::held(out, at, len)?;
+    out[at..at + len].copy_from_slice(part);
     Some(at + len)
 }
 
@@ -103,12 +79,7 @@ fn write_text(
         return None;
     }
     let h = ber_tag_writer::length_size(n);
-    if out.len() < h + 1 {
-        return None;
-    }
-    if out.len() - (h + 1) < at {
-        return None;
-    }
+    ber_integers::held(out, at, h + 1)?;
     let end = write_part(src, start, len, out, at + 1 + h)?;
     ber_tag_writer::write_length(n, out, at + 1);
     out[at] = kind;

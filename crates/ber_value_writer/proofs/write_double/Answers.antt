@@ -13,11 +13,8 @@ use Rattle.ber_value_writer.proofs.write_double.Goals as goal
 double : (c : Start) → T (Ieee.fits binary64 c.args.x)
 double c = subst T (sym c.well_formed.0.1) tt
 
-pub returns-then-out-lt2 : goal.returns-then-out-lt2
-returns-then-out-lt2 c = form-none _ _ 9 (omega arith) (form c.args.x) (real-short c.args.x (double (goal.at.returns-then-out-lt2 c).Start)) (omega arith)
-
-pub returns-then-out-at : goal.returns-then-out-at
-returns-then-out-at c = form-none _ _ 9 (omega arith) (form c.args.x) (real-short c.args.x (double (goal.at.returns-then-out-at c).Start)) (omega arith)
+pub returns-in_err-held : goal.returns-in_err-held
+returns-in_err-held c = rw c.from_residual.ensures (form-none _ _ 9 (omega arith) (form c.args.x) (real-short c.args.x (double (goal.at.returns-in_err-held c).Start)) c.in_err-held.ensures)
 
 pub sealed-requires : goal.sealed-requires
 sealed-requires c =

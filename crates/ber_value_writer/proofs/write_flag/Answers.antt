@@ -7,11 +7,8 @@ use Rattle.ber_value_writer.proofs.Heads.{form-none, form-fits, form-put}
 use Rattle.ber_value_writer.proofs.Laws.{one-short}
 use Rattle.ber_value_writer.proofs.write_flag.Goals as goal
 
-pub returns-then-out-lt2 : goal.returns-then-out-lt2
-returns-then-out-lt2 c = form-none _ _ 1 (omega arith) (octets (bool_octet c.args.b ∷ [])) (one-short (bool_octet c.args.b)) (omega arith)
-
-pub returns-then-out-at : goal.returns-then-out-at
-returns-then-out-at c = form-none _ _ 1 (omega arith) (octets (bool_octet c.args.b ∷ [])) (one-short (bool_octet c.args.b)) (omega arith)
+pub returns-in_err-held : goal.returns-in_err-held
+returns-in_err-held c = rw c.from_residual.ensures (form-none _ _ 1 (omega arith) (octets (bool_octet c.args.b ∷ [])) (one-short (bool_octet c.args.b)) c.in_err-held.ensures)
 
 pub sealed-requires : goal.sealed-requires
 sealed-requires c =
