@@ -10,7 +10,6 @@ use Rattle.glow_rows.specs.Cell.{cell, absent, numbers, numbers_cell, word_of, i
 use Rattle.glow_rows.specs.Entry.{blanks, row}
 use Rattle.glow_rows.proofs.Values.{word-int}
 use Rattle.glow_entries.specs.declared.Part.{Part}
-use Rattle.glow_entries.specs.declared.Part.TheVariants as part
 use Rattle.glow_entries.specs.declared.Key.TheVariants as key
 use Rattle.glow_entries.specs.Member as members
 use Rattle.glow_entries.specs.Record.{matrix_row, connection_row}
@@ -39,8 +38,8 @@ module _ (f : Figures) (len path : ℕ) (p : path ≡ len) (t g s a b : Option �
       → r ≡ matrix_row (record {
         parent = None;
         key = key.Path 0 path;
-        identifier = part.Absent;
-        description = part.Absent;
+        identifier = None;
+        description = None;
         matrix_type = t;
         mode = None;
         targets = g;
@@ -61,7 +60,7 @@ module _ (f : Figures) (len path : ℕ) (p : path ≡ len) (t g s a b : Option �
       ∙ ap (λ (x : Cell). row (entry 7 0 (cells len (number_cell f.kind) (number_cell f.targets) (number_cell f.sources) x (members.number_cell b)))) h
       ∙ ap (λ (x : Cell). row (entry 7 0 (cells len (number_cell f.kind) (number_cell f.targets) (number_cell f.sources) (limit_cell f.total) x))) k
 
-pub link-is : (target : ℕ) (z : ℤ) (sources : Part) → target < 2 ^ 64 → z ≡ int_of target → (r : List ℕ)
+pub link-is : (target : ℕ) (z : ℤ) (sources : Option Part) → target < 2 ^ 64 → z ≡ int_of target → (r : List ℕ)
     → r ≡ connection_row (record { parent = Some 0; target = z; sources = sources; operation = None })
     → r ≡ row (link_entry target (members.part_cell numbers sources))
 unfolding blanks

@@ -31,16 +31,16 @@ fn limit(l: Option<u64>) -> Option<i64>
 }
 
 // Sources by their place among the octets: an empty list is left out.
-pub fn list_of(start: u64, len: u64) -> Part
+pub fn list_of(start: u64, len: u64) -> Option<Part>
     ensures { list_cell start len ≡ members.part_cell numbers result }
 {
     if len == 0 {
-        return Part::Absent;
+        return None;
     }
-    Part::At {
+    Some(Part {
         start: index(start),
         len: index(len),
-    }
+    })
 }
 
 // The qualified matrix: its path, the first `len` octets; type, targets, sources and limits.
@@ -61,8 +61,8 @@ pub fn matrix_row(f: Figures, len: u64) -> [u64; 50]
             start: 0,
             len: path,
         },
-        identifier: Part::Absent,
-        description: Part::Absent,
+        identifier: None,
+        description: None,
         matrix_type,
         mode: None,
         targets,
@@ -73,7 +73,7 @@ pub fn matrix_row(f: Figures, len: u64) -> [u64; 50]
 }
 
 // A connection of the matrix in the first row: target and sources; no operation.
-pub fn link_row(target: u64, sources: Part) -> [u64; 50]
+pub fn link_row(target: u64, sources: Option<Part>) -> [u64; 50]
     ensures { result ≡ row (link_entry target (members.part_cell numbers sources)) }
 {
     glow_entries::connection_row(Connection {

@@ -25,7 +25,7 @@ use Rattle.glow_trees.specs.Content.{Content, is_part, is_word, content_of}
 use Rattle.glow_trees.specs.Legal.{suits, present, word_suits, is_real}
 use Rattle.trees_read_back.proofs.Bools.{never, unless, word-kinds, part-kinds}
 use Rattle.glow_entries.specs.declared.Part.{Part}
-use Rattle.glow_entries.specs.declared.Part.TheVariants.{Absent as NoPart, At as PartAt}
+use Rattle.glow_entries.specs.Member.{part}
 use Rattle.glow_entries.specs.Held.{HeldInt, HeldNumber, HeldParent, HeldValue, Present}
 use Rattle.glow_rows.specs.Cell.{int_of}
 use Rattle.glow_entries.specs.Member.{number_cell, flag_cell, part_cell, parent_word}
@@ -150,24 +150,24 @@ flag-in what v x (parted kind start len e i n g) =
 
 -- a text (12), a path or sources (13)
 pub record PartIn (tag : ℕ) (v : Cell) : Type 0 where
-  pub member : Part
+  pub member : Option Part
   pub cells : v ≡ part_cell tag member
 
 pub part_in : (tag what : ℕ) (v : Cell) → is_word tag ≡ false → ((k : ℕ) → expects what k ≡ eqb k tag) → Shape what v → PartIn tag v
-part_in tag what v t x (gone e) = record { member = NoPart; cells = e }
+part_in tag what v t x (gone e) = record { member = None; cells = e }
 part_in tag what v t x (worded kind w e i l n g u) =
     let k : kind ≡ tag = eqb-true kind tag (sym (x kind) ∙ g) in never (sym t ∙ ap is_word (sym k) ∙ i)
 part_in tag what v t x (parted kind start len e i n g) =
     let k : kind ≡ tag = eqb-true kind tag (sym (x kind) ∙ g) in
-    record { member = PartAt start len; cells = e ∙ ap (λ (j : ℕ). cell j start len) k }
+    record { member = part start len; cells = e ∙ ap (λ (j : ℕ). cell j start len) k }
 
-pub text-kept : (m : Part) {v : Cell} → v ≡ part_cell 12 m → text_kept m ≡ v
-text-kept NoPart e = sym e
-text-kept (PartAt start len) e = sym e
+pub text-kept : (m : Option Part) {v : Cell} → v ≡ part_cell 12 m → text_kept m ≡ v
+text-kept None e = sym e
+text-kept (Some p) e = sym e
 
-pub list-kept : (m : Part) {v : Cell} → v ≡ part_cell 13 m → list_kept m ≡ v
-list-kept NoPart e = sym e
-list-kept (PartAt start len) e = sym e
+pub list-kept : (m : Option Part) {v : Cell} → v ≡ part_cell 13 m → list_kept m ≡ v
+list-kept None e = sym e
+list-kept (Some p) e = sym e
 
 pub record PathIn (v : Cell) : Type 0 where
   pub start : ℕ
@@ -177,9 +177,9 @@ pub record PathIn (v : Cell) : Type 0 where
 pub some-path : {v : Cell} → PartIn 13 v → (v ≡ absent → ⊥) → PathIn v
 some-path {v = v} r n = go r.member r.cells
   where
-    go : (m : Part) → v ≡ part_cell 13 m → PathIn v
-    go NoPart e = absurd (n e)
-    go (PartAt start len) e = record { start = start; len = len; cells = e }
+    go : (m : Option Part) → v ≡ part_cell 13 m → PathIn v
+    go None e = absurd (n e)
+    go (Some p) e = record { start = p.start; len = p.len; cells = e }
 
 -- no member
 pub nothing-in : (v : Cell) → Shape 0 v → v ≡ absent

@@ -29,7 +29,7 @@ use Rattle.glow_walk.specs.Tree.{closed, members_by, items_by}
 use Rattle.glow_walk.specs.Walk.{finished, walk}
 use Rattle.glow_reader.specs.declared.Answer.TheVariants.{Read}
 use Rattle.glow_reader.specs.Message.{setup, read_at}
-use Rattle.glow_entries.specs.declared.Part.TheVariants.{Absent as NoPart, At as PartAt}
+use Rattle.glow_entries.specs.Member.{part}
 use Rattle.glow_entries.specs.declared.Key.TheVariants.{Number as ByNumber, Path as ByPath}
 use Rattle.glow_entries.specs.declared.Parameter.{Parameter}
 use Rattle.glow_entries.specs.declared.Node.{Node}
@@ -93,8 +93,8 @@ element_samples =
     parameter (record {
       parent = None;
       key = ByNumber (pos 7);
-      identifier = PartAt 25 1;
-      description = PartAt 30 2;
+      identifier = part 25 1;
+      description = part 30 2;
       value = Int (negsuc 0);
       minimum = Truth true;
       maximum = Text 46 3;
@@ -107,8 +107,8 @@ element_samples =
     ∷ node (record {
       parent = None;
       key = ByNumber (pos 9);
-      identifier = PartAt 91 1;
-      description = PartAt 96 2;
+      identifier = part 91 1;
+      description = part 96 2;
       root = Some false;
       online = Some true;
     })
@@ -116,8 +116,8 @@ element_samples =
     ∷ matrix (record {
       parent = None;
       key = ByNumber (pos 4);
-      identifier = PartAt 143 1;
-      description = PartAt 148 2;
+      identifier = part 143 1;
+      description = part 148 2;
       matrix_type = Some (pos 2);
       mode = Some (pos 0);
       targets = Some (pos 104);
@@ -125,12 +125,12 @@ element_samples =
       total_limit = Some (pos 106);
       target_limit = Some (pos 107);
     })
-    ∷ connection (record { parent = Some 3; target = pos 5; sources = PartAt 197 2; operation = Some (pos 1) })
+    ∷ connection (record { parent = Some 3; target = pos 5; sources = part 197 2; operation = Some (pos 1) })
     ∷ parameter (record {
       parent = None;
       key = ByPath 212 2;
-      identifier = NoPart;
-      description = NoPart;
+      identifier = None;
+      description = None;
       value = Octets 222 2;
       minimum = Absent;
       maximum = Absent;
@@ -140,12 +140,12 @@ element_samples =
       step = None;
       stream = None;
     })
-    ∷ node (record { parent = None; key = ByPath 237 1; identifier = PartAt 246 1; description = NoPart; root = None; online = None })
+    ∷ node (record { parent = None; key = ByPath 237 1; identifier = part 246 1; description = None; root = None; online = None })
     ∷ matrix (record {
       parent = None;
       key = ByPath 255 2;
-      identifier = NoPart;
-      description = NoPart;
+      identifier = None;
+      description = None;
       matrix_type = Some (pos 1);
       mode = None;
       targets = None;

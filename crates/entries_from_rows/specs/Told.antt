@@ -7,7 +7,6 @@ use Rattle.glow_rows.specs.Cell.{absent, cell_of, numbers_cell}
 use Rattle.glow_rows.specs.Entry.{Entry}
 use Rattle.glow_grammar.specs.Grammar as grammar
 use Rattle.glow_entries.specs.declared.Part.{Part}
-use Rattle.glow_entries.specs.declared.Part.TheVariants.{Absent as NoPart, At as PartAt}
 use Rattle.glow_entries.specs.declared.Key.{Key}
 use Rattle.glow_entries.specs.declared.Key.TheVariants.{Number as ByNumber, Path as ByPath}
 use Rattle.glow_entries.specs.declared.Parameter.{Parameter}
@@ -29,13 +28,13 @@ abbrev pub flag_kept : Option Bool → Cell
 flag_kept None = absent
 flag_kept (Some b) = cell_of (Truth b)
 
-abbrev pub text_kept : Part → Cell
-text_kept NoPart = absent
-text_kept (PartAt start len) = cell_of (Text start len)
+abbrev pub text_kept : Option Part → Cell
+text_kept None = absent
+text_kept (Some p) = cell_of (Text p.start p.len)
 
-abbrev pub list_kept : Part → Cell
-list_kept NoPart = absent
-list_kept (PartAt start len) = numbers_cell start len
+abbrev pub list_kept : Option Part → Cell
+list_kept None = absent
+list_kept (Some p) = numbers_cell p.start p.len
 
 abbrev pub key_kept : Key → Cell
 key_kept (ByNumber z) = cell_of (Int z)

@@ -12,9 +12,8 @@ use Rattle.glow_rows.specs.Cell.{int_of, number_in}
 use Rattle.glow_rows.specs.Row.{put_in, cell_in, same}
 use Rattle.glow_rows.specs.Entry.{row, blank, blanks}
 use Rattle.glow_rows.proofs.Laws.{row-set}
-use Rattle.glow_entries.specs.declared.Part.TheVariants.{Absent as NoPart, At as PartAt}
 use Rattle.glow_entries.specs.declared.Key.TheVariants.{Number as ByNumber, Path as ByPath}
-use Rattle.glow_entries.specs.Member.{int_in, number_of, flag_of, part_of, key_of, parent_of}
+use Rattle.glow_entries.specs.Member.{int_in, number_of, flag_of, part, part_of, key_of, parent_of}
 use Rattle.glow_entries.specs.Record.{read_as}
 use Rattle.glow_entries.proofs.Cells.{entry}
 
@@ -40,11 +39,11 @@ module _ (v : Cell) where
   unfolding flag_of
   flag-none k = rw (ne_eqb _ _ k)
 
-  pub part-is : (tag : ℕ) → v.kind ≡ tag → PartAt v.first v.second ≡ part_of tag v
+  pub part-is : (tag : ℕ) → v.kind ≡ tag → part v.first v.second ≡ part_of tag v
   unfolding part_of
   part-is tag k = rw (eq-eqb _ _ k)
 
-  pub part_none : (tag : ℕ) → (v.kind ≡ tag → ⊥) → NoPart ≡ part_of tag v
+  pub part_none : (tag : ℕ) → (v.kind ≡ tag → ⊥) → None ≡ part_of tag v
   unfolding part_of
   part_none tag k = rw (ne_eqb _ _ k)
 

@@ -20,7 +20,6 @@ use Rattle.glow_rows.specs.Cell.{cell, absent, word_of, cell_of, int_of, value_o
 use Rattle.glow_rows.specs.Row.{cell_in, same}
 use Rattle.glow_rows.specs.Entry.{words, row}
 use Rattle.glow_entries.specs.declared.Part.{Part}
-use Rattle.glow_entries.specs.declared.Part.TheVariants.{Absent as NoPart, At as PartAt}
 use Rattle.glow_entries.specs.declared.Key.{Key}
 use Rattle.glow_entries.specs.declared.Key.TheVariants.{Number as ByNumber, Path as ByPath}
 use Rattle.glow_entries.specs.Held.{HeldInt, HeldNumber, HeldKey, HeldParent, HeldValue, Present}
@@ -48,10 +47,10 @@ flag-back None = refl
 flag-back (Some true) = refl
 flag-back (Some false) = refl
 
-part-back : (tag : ℕ) (p : Part) → 0 < tag → part_of tag (part_cell tag p) ≡ p
+part-back : (tag : ℕ) (p : Option Part) → 0 < tag → part_of tag (part_cell tag p) ≡ p
 unfolding part_of
-part-back tag NoPart h = rw (ne_eqb 0 tag (λ e. absurd (omega (arith, e))))
-part-back tag (PartAt start len) h = rw (eq-eqb tag tag refl)
+part-back tag None h = rw (ne_eqb 0 tag (λ e. absurd (omega (arith, e))))
+part-back tag (Some p) h = rw (eq-eqb tag tag refl)
 
 -- a real that is a number
 module _ (x : Ieee.Float) (f : T (Ieee.fits binary64 x)) (n : T (not (Ieee.is_nan x))) where
@@ -116,7 +115,7 @@ module _ (k p : ℕ) (cs : List Cell) where
     pub value-at : (v : Value) → c < 16 → get_or cs c absent ≡ cell_of v → HeldValue v → value_of (cell_in (row (entry k p cs)) c) ≡ v
     value-at v h e i = ap value_of (cell-back c h ∙ e) ∙ value-back v i
 
-  pub part_at : (tag c : ℕ) (x : Part) → 0 < tag → c < 16 → get_or cs c absent ≡ part_cell tag x → part_of tag (cell_in (row (entry k p cs)) c) ≡ x
+  pub part_at : (tag c : ℕ) (x : Option Part) → 0 < tag → c < 16 → get_or cs c absent ≡ part_cell tag x → part_of tag (cell_in (row (entry k p cs)) c) ≡ x
   part_at tag c x t h e = ap (part_of tag) (cell-back c h ∙ e) ∙ part-back tag x t
 
 pub key-at : (plain qualified p : ℕ) (cs : List Cell) (k : Key) → (plain ≡ qualified → ⊥) → get_or cs 0 absent ≡ key_cell k → HeldKey k

@@ -9,7 +9,7 @@ use Rattle.ber_values.specs.declared.Value.TheVariants.{Absent, Int, Text, Bool 
 use Rattle.glow_rows.specs.Cell.{int_of, value_of, number_in}
 use Rattle.glow_rows.specs.Entry.{words, blanks, with_cell}
 use Rattle.glow_rows.specs.Row.{cell_in, same}
-use Rattle.glow_entries.specs.declared.Part.TheVariants.{Absent as NoPart, At as PartAt}
+use Rattle.glow_entries.specs.Member.{part}
 use Rattle.glow_entries.specs.declared.Key.TheVariants.{Number as ByNumber, Path as ByPath}
 use Rattle.glow_entries.specs.Member.{int_in, number_of, flag_of, part_of, key_of, parent_of}
 use Rattle.glow_entries.specs.Record.{read_as, filled, parameter_row, node_row, matrix_row, command_row, connection_row, stream_row}
@@ -19,8 +19,8 @@ use Rattle.glow_entries.specs.Record.{parameter_of, parameter_read, node_of, nod
 pub v-parameter : parameter_row (record {
   parent = Some 4;
   key = ByNumber (pos 7);
-  identifier = PartAt 10 3;
-  description = PartAt 20 5;
+  identifier = part 10 3;
+  description = part 20 5;
   value = Int (negsuc 0);
   minimum = Truth true;
   maximum = Text 30 2;
@@ -39,8 +39,8 @@ v-parameter = refl
 pub v-qualified-parameter : parameter_row (record {
   parent = None;
   key = ByPath 40 2;
-  identifier = NoPart;
-  description = NoPart;
+  identifier = None;
+  description = None;
   value = Octets 60 6;
   minimum = Absent;
   maximum = Absent;
@@ -58,8 +58,8 @@ v-qualified-parameter = refl
 pub v-plain-node : node_row (record {
   parent = Some 3;
   key = ByNumber (pos 7);
-  identifier = NoPart;
-  description = PartAt 20 5;
+  identifier = None;
+  description = part 20 5;
   root = Some false;
   online = Some true;
 })
@@ -70,8 +70,8 @@ v-plain-node = refl
 pub v-node : node_row (record {
   parent = None;
   key = ByPath 40 2;
-  identifier = PartAt 10 3;
-  description = NoPart;
+  identifier = part 10 3;
+  description = None;
   root = Some true;
   online = Some false;
 })
@@ -83,8 +83,8 @@ v-node = refl
 pub v-matrix : matrix_row (record {
   parent = None;
   key = ByNumber (pos 9);
-  identifier = NoPart;
-  description = PartAt 20 5;
+  identifier = None;
+  description = part 20 5;
   matrix_type = Some (pos 102);
   mode = Some (pos 103);
   targets = Some (pos 104);
@@ -99,8 +99,8 @@ v-matrix = refl
 pub v-qualified-matrix : matrix_row (record {
   parent = None;
   key = ByPath 40 2;
-  identifier = NoPart;
-  description = NoPart;
+  identifier = None;
+  description = None;
   matrix_type = None;
   mode = None;
   targets = Some (pos 104);
@@ -118,7 +118,7 @@ pub v-command : command_row (record { parent = Some 0; number = pos 100; mask = 
 unfolding filled with_cell blanks command_row words
 v-command = refl
 
-pub v-connection : connection_row (record { parent = Some 2; target = pos 100; sources = PartAt 50 4; operation = Some (pos 102) })
+pub v-connection : connection_row (record { parent = Some 2; target = pos 100; sources = part 50 4; operation = Some (pos 102) })
     ≡ 8 ∷ 3 ∷ 2 ∷ 100 ∷ 0 ∷ 13 ∷ 50 ∷ 4 ∷ 2 ∷ 102 ∷ 0 ∷ words (blanks 13)
 unfolding filled with_cell blanks connection_row words
 v-connection = refl

@@ -15,8 +15,7 @@ use Rattle.glow_rows.specs.Row.{cell_at, cell_in}
 use Rattle.glow_entries.specs.Record.{ConnectionWords, MatrixWords, connection_of, matrix_of}
 use Rattle.glow_rows.specs.Cell.{cell, absent, numbers, word_of, int_of, number_in, octets_in}
 use Rattle.glow_rows.proofs.Values.{word-int}
-use Rattle.glow_entries.specs.declared.Part.TheVariants as parts
-use Rattle.glow_entries.specs.Member.{number_cell, int_in, number_of, part_cell, part_of, parent_word, parent_of}
+use Rattle.glow_entries.specs.Member.{number_cell, int_in, number_of, part, part_cell, part_of, parent_word, parent_of}
 
 module _ (v : Cell) (h : v.first < 2 ^ 64) where
   low : number_in v < 2 ^ 64
@@ -73,7 +72,7 @@ pub part-octets : (s : List ℕ) (v : Cell) → octets_in s (part_cell numbers (
 unfolding part_of octets_in
 part-octets s v = go (eqb v.kind 13)
   where
-    go : (b : Bool) → octets_in s (part_cell numbers (pick b (parts.At v.first v.second) parts.Absent))
+    go : (b : Bool) → octets_in s (part_cell numbers (pick b (part v.first v.second) None))
         ≡ pick b (octets_in s (cell 13 v.first v.second)) []
     go true = refl
     go false = refl

@@ -6,7 +6,6 @@ use Rattle.glow_rows.specs.Cell.{boolean, integer, cell, absent, word_of, bit_of
 use Rattle.glow_rows.specs.Place as place
 use Rattle.glow_rows.specs.Row.{cell_in}
 use Rattle.glow_entries.specs.declared.Part.{Part}
-use Rattle.glow_entries.specs.declared.Part.TheVariants.{Absent as NoPart, At as PartAt}
 use Rattle.glow_entries.specs.declared.Key.{Key}
 use Rattle.glow_entries.specs.declared.Key.TheVariants.{Number as ByNumber, Path as ByPath}
 
@@ -20,9 +19,12 @@ flag_cell None = absent
 flag_cell (Some b) = cell boolean (bit_of b) 0
 
 -- a text, or a list of identifier numbers
-abbrev pub part_cell : ℕ → Part → Cell
-part_cell tag NoPart = absent
-part_cell tag (PartAt start len) = cell tag start len
+abbrev pub part : ℕ → ℕ → Option Part
+part start len = Some (record { start = start; len = len })
+
+abbrev pub part_cell : ℕ → Option Part → Cell
+part_cell tag None = absent
+part_cell tag (Some p) = cell tag p.start p.len
 
 abbrev pub key_cell : Key → Cell
 key_cell (ByNumber z) = cell integer (word_of z) 0
@@ -49,8 +51,8 @@ int_in v = int_of (number_in v)
 unfoldable pub flag_of : Cell → Option Bool
 flag_of v = pick (eqb v.kind boolean) (Some (eqb v.first 1)) None
 
-unfoldable pub part_of : ℕ → Cell → Part
-part_of tag v = pick (eqb v.kind tag) (PartAt v.first v.second) NoPart
+unfoldable pub part_of : ℕ → Cell → Option Part
+part_of tag v = pick (eqb v.kind tag) (part v.first v.second) None
 
 unfoldable pub key_of : ℕ → List ℕ → Key
 key_of qualified r =

@@ -18,11 +18,11 @@ use glow_rows::{
     put_in, tags, value_of,
 };
 
-// A part of the message, a text or a list of identifier numbers, or that there is none.
+// A part of the message, a text or a list of identifier numbers.
 #[derive(Clone, Copy)]
-pub enum Part {
-    Absent,
-    At { start: usize, len: usize },
+pub struct Part {
+    pub start: usize,
+    pub len: usize,
 }
 
 // What an element is found by: its number, or as a qualified element its full path, a part of the message.
@@ -50,15 +50,15 @@ fn flag_cell(f: Option<bool>) -> Cell
     }
 }
 
-fn part_cell(tag: u64, p: Part) -> Cell
+fn part_cell(tag: u64, p: Option<Part>) -> Cell
     ensures { result ≡ part_cell tag p }
 {
     match p {
-        Part::Absent => absent(),
-        Part::At { start, len } => Cell {
+        None => absent(),
+        Some(part) => Cell {
             kind: tag,
-            first: word(start),
-            second: word(len),
+            first: word(part.start),
+            second: word(part.len),
         },
     }
 }
@@ -122,17 +122,17 @@ fn flag_at(row: &[u64; 50], c: usize) -> Option<bool>
     None
 }
 
-fn part_at(row: &[u64; 50], tag: u64, c: usize) -> Part
+fn part_at(row: &[u64; 50], tag: u64, c: usize) -> Option<Part>
     ensures { result ≡ part_of tag (cell_in row.now c) }
 {
     let v = cell_in(row, c);
     if v.kind == tag {
-        return Part::At {
+        return Some(Part {
             start: index(v.first),
             len: index(v.second),
-        };
+        });
     }
-    Part::Absent
+    None
 }
 
 fn value_at(row: &[u64; 50], c: usize) -> Value
@@ -191,7 +191,7 @@ pub fn number_from(w: u64) -> Option<i64>
 }
 
 // The octets of a list of identifier numbers; none where there is no list, or where they do not lie in the message.
-pub fn span_of(s: &[u8], p: Part) -> Span
+pub fn span_of(s: &[u8], p: Option<Part>) -> Span
     ensures s_value { take (result.end - result.start) (drop result.start s.now) ≡ octets_in s.now (part_cell numbers p) }
     ensures start_le_end { (result.start ≤ result.end) × (result.end ≤ length s.now) }
 {
@@ -227,8 +227,8 @@ pub fn read<E: Entry>(row: &[u64; 50]) -> Option<E>
 pub struct Parameter {
     pub parent: Option<u32>,
     pub key: Key,
-    pub identifier: Part,
-    pub description: Part,
+    pub identifier: Option<Part>,
+    pub description: Option<Part>,
     pub value: Value,
     pub minimum: Value,
     pub maximum: Value,
@@ -310,8 +310,8 @@ pub fn parameter_of(row: &[u64; 50]) -> Option<Parameter>
 pub struct Node {
     pub parent: Option<u32>,
     pub key: Key,
-    pub identifier: Part,
-    pub description: Part,
+    pub identifier: Option<Part>,
+    pub description: Option<Part>,
     pub root: Option<bool>,
     pub online: Option<bool>,
 }
@@ -375,8 +375,8 @@ pub fn node_of(row: &[u64; 50]) -> Option<Node>
 pub struct Matrix {
     pub parent: Option<u32>,
     pub key: Key,
-    pub identifier: Part,
-    pub description: Part,
+    pub identifier: Option<Part>,
+    pub description: Option<Part>,
     pub matrix_type: Option<i64>,
     pub mode: Option<i64>,
     pub targets: Option<i64>,
@@ -513,7 +513,7 @@ pub fn command_of(row: &[u64; 50]) -> Option<Command>
 pub struct Connection {
     pub parent: Option<u32>,
     pub target: i64,
-    pub sources: Part,
+    pub sources: Option<Part>,
     pub operation: Option<i64>,
 }
 

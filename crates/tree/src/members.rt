@@ -27,22 +27,22 @@ pub(crate) fn flag(rt: &impl Print, name: &[u8], f: Option<bool>) -> io::Result<
     }
 }
 
-pub(crate) fn text(rt: &impl Print, name: &[u8], s: &[u8], p: Part) -> io::Result<()> {
+pub(crate) fn text(rt: &impl Print, name: &[u8], s: &[u8], p: Option<Part>) -> io::Result<()> {
     match p {
-        Part::Absent => Ok(()),
-        Part::At { start, len } => {
+        None => Ok(()),
+        Some(part) => {
             print::say(rt, name)?;
-            value::text(rt, s, start, len)
+            value::text(rt, s, part.start, part.len)
         }
     }
 }
 
-pub(crate) fn list(rt: &impl Print, name: &[u8], s: &[u8], p: Part) -> io::Result<()> {
+pub(crate) fn list(rt: &impl Print, name: &[u8], s: &[u8], p: Option<Part>) -> io::Result<()> {
     match p {
-        Part::Absent => Ok(()),
-        Part::At { start, len } => {
+        None => Ok(()),
+        Some(part) => {
             print::say(rt, name)?;
-            value::list(rt, s, start, len)
+            value::list(rt, s, part.start, part.len)
         }
     }
 }
