@@ -164,7 +164,7 @@ fn digit_count(base: u64, v: u64) -> usize
     n
 }
 
-// How many octets v needs.
+// How many octets v needs. Each base has a public function of its own: digit_count requires a base over 1, and no public function has a `requires`.
 pub fn octet_count(v: u64) -> usize
     ensures { result ≡ count 256 v }
 {
