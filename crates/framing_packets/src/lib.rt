@@ -6,10 +6,3 @@
 pub const BODY_LIMIT: usize = 1022;
 
 pub const PAYLOAD_LIMIT: usize = 1013;
-
-// What a call answers; specs/Written.antt gives each case its number and values.
-#[derive(Clone, Copy)]
-pub enum Written {
-    Done { length: usize },
-    Out,
-}

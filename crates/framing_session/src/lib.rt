@@ -46,13 +46,7 @@ pub enum Frame {
     TooLong { length: usize },
 }
 
-// The unfinished message: how many bytes of it the store holds.
-#[derive(Clone, Copy)]
-pub enum Pending {
-    Nothing,
-    Part { length: usize },
-}
-
+// Where the stream stands, and how many bytes of an unfinished message the store holds.
 #[derive(Clone, Copy)]
 pub struct Session {
     pub frame: Frame,

@@ -35,13 +35,6 @@ pub enum Item {
     Refused(No),
 }
 
-// Root's collection, the outer tag around it, and its own.
-#[derive(Clone, Copy)]
-pub enum Top {
-    Root(u64, Open, Tag),
-    Refused(No),
-}
-
 // Whether the listed member n of a set came before.
 fn is_marked(before: u64, n: u64) -> bool
     requires { n < 16 }

@@ -15,19 +15,8 @@ use glow_rows::Cell;
 use glow_rows::tags::TEXT;
 use glow_steps::{Item, Member};
 
-// The place after what was read, and the count of entries so far.
-#[derive(Clone, Copy)]
-pub enum Walked {
-    Read(usize, usize),
-    Refused(No),
-}
-
-// A whole message: Root's collection and the count of entries.
-#[derive(Clone, Copy)]
-pub enum Whole {
-    Read(u64, usize),
-    Refused(No),
-}
+// The place after what was read, and the count of entries so far; or a refusal.
+pub type Walked = Result<(usize, usize), No>;
 
 // Where the reader stands in a container: the place, what came before it, the count of the path's numbers and that of the
 // entries so far.
@@ -92,12 +81,7 @@ fn worded(number: u64, first: u64, len: usize) -> Cell
 }
 
 // What was read in an outer tag is the one thing that it holds.
-fn close(
-    s: &[u8],
-    outer: Open,
-    k: usize,
-    w: Result<(usize, usize), No>,
-) -> Result<(usize, usize), No>
+fn close(s: &[u8], outer: Open, k: usize, w: Walked) -> Walked
     ensures closes { Closes s.now outer k w result }
     ensures keeps { Keeps w result }
 {
@@ -122,7 +106,7 @@ fn on(place: usize, before: u64, above: usize, count: usize) -> Turn
 }
 
 // The cursor after a container that was gone into and closed.
-fn onward(before: u64, above: usize, w: Result<(usize, usize), No>) -> Turn
+fn onward(before: u64, above: usize, w: Walked) -> Turn
     ensures { onward_of before above w ≡ result }
 {
     match w {
@@ -132,7 +116,7 @@ fn onward(before: u64, above: usize, w: Result<(usize, usize), No>) -> Turn
 }
 
 // The end of a row's members, with the place after it: a required member may be missing.
-fn ended(row: u64, at: Cursor, next: usize) -> Result<(usize, usize), No>
+fn ended(row: u64, at: Cursor, next: usize) -> Walked
     ensures { ended_of row at next ≡ result }
 {
     if glow_steps::is_due(row, at.before, tags::PAST_ALL) {
@@ -190,7 +174,7 @@ fn contents(
     me: usize,
     at: Cursor,
     table: &mut [[u64; 50]],
-) -> Result<(usize, usize), No>
+) -> Walked
     requires { (me < at.count) × (at.count ≤ from) }
     ensures contents_fill { ContentsFill s.now o outer left row me at.above from at.count table.old table.new result }
     ensures walked_onward { WalkedOnward from at.count result }
@@ -213,7 +197,7 @@ fn list(
     parent: usize,
     at: Cursor,
     table: &mut [[u64; 50]],
-) -> Result<(usize, usize), No>
+) -> Walked
     requires { at.count ≤ from }
     ensures list_fill { ListFill s.now o outer left which parent at.above from at.count table.old table.new result }
     ensures walked_onward { WalkedOnward from at.count result }
@@ -235,7 +219,7 @@ fn entry(
     parent: usize,
     at: Cursor,
     table: &mut [[u64; 50]],
-) -> Result<(usize, usize), No>
+) -> Walked
     requires { at.count < from }
     ensures entry_fill { EntryFill s.now o outer left kind parent at.above from at.count table.old table.new result }
     ensures walked_onward { WalkedOnward from (at.count + 1) result }
@@ -331,7 +315,7 @@ fn element(
     above: usize,
     n: usize,
     table: &mut [[u64; 50]],
-) -> Result<(usize, usize), No>
+) -> Walked
     requires { (me < n) × (n ≤ from) }
     ensures members_fill { MembersFill s.now k o row me above from n table.old table.new result }
     ensures walked_onward { WalkedOnward from n result }
@@ -420,7 +404,7 @@ fn items(
     above: usize,
     n: usize,
     table: &mut [[u64; 50]],
-) -> Result<(usize, usize), No>
+) -> Walked
     requires { n ≤ from }
     ensures items_fill { ItemsFill s.now k o which parent above from n table.old table.new result }
     ensures walked_onward { WalkedOnward from n result }
@@ -442,7 +426,7 @@ fn items(
 }
 
 // Nothing is left after Root.
-fn finish(s: &[u8], which: u64, w: Result<(usize, usize), No>) -> Result<(u64, usize), No>
+fn finish(s: &[u8], which: u64, w: Walked) -> Result<(u64, usize), No>
     ensures { Finishes s.now which w result }
 {
     let (next, count) = w?;
