@@ -2,11 +2,12 @@
 #![tactic(auto)]
 
 ghost use Rattle.std.specs.Prelude.{◌≡◌, List, [], true, ℕ, ◌+◌, ◌*◌, ◌≤◌, ◌<◌, length, get_or};
+ghost use Rattle.std.specs.Result.{result_unwrap_or};
 ghost use Rattle.desk_crosspoints.specs.Figures.{cells_of};
 ghost use Rattle.desk_crosspoints.specs.Crosspoints.{clear, count, taken_from, with_row, legal};
 ghost use Rattle.desk_crosspoints.specs.Desk.{desk_at, answer};
 ghost use Rattle.desk_requests.specs.Request.{request, named, others, requested};
-ghost use Rattle.desk_requests.specs.Steps.{total_of};
+ghost use Rattle.desk_requests.specs.Steps.{total_of, number_told};
 ghost use Rattle.glow_reader.specs.Message.{read_result, read_at};
 ghost use Rattle.desk_calls.specs.Calls.{outcome, called, outcome_of, called_after};
 ghost use Rattle.desk_calls.specs.Steps.{asked_of, answered_at, served_in, Takes};
@@ -14,6 +15,7 @@ ghost use Rattle.desk_calls.specs.Steps.{asked_of, answered_at, served_in, Takes
 use base_casts::index;
 use desk_connections::asked_at;
 use desk_crosspoints::{Figures, ONE_TO_ONE, SIDE};
+use desk_requests::Refusal;
 use desk_sources::sources_of;
 use glow_paths::is_path;
 use glow_reader::Answer;
@@ -32,13 +34,6 @@ pub struct Called {
 pub struct ReadCalled {
     pub answer: Answer,
     pub called: Called,
-}
-
-// An answer, and the total after it (`desk_requests::total_of`).
-#[derive(Clone, Copy)]
-struct Answered {
-    number: u64,
-    total: u64,
 }
 
 // The place for the next answer, and the total.
@@ -105,30 +100,25 @@ fn ask(
     crosspoints: &mut [u8],
     row: &mut [u8],
     total: u64,
-) -> Answered
+) -> Result<u64, Refusal>
     requires crosspoints_value { legal f crosspoints.old ≡ true }
     requires row_len { length row.old ≡ f.sources }
     requires crosspoints_value_2 { total_of f crosspoints.old ≡ total }
     ensures operation_value { requested (desk_at f [] crosspoints.old) (request target sources.now operation)
-        ≡ answer result.number crosspoints.new }
-    ensures crosspoints_after { total_of f crosspoints.new ≡ result.total }
+        ≡ answer (number_told result) crosspoints.new }
+    ensures crosspoints_after { total_of f crosspoints.new ≡ result_unwrap_or result total }
 {
-    let told = desk_requests::judge(f, target, sources, operation, crosspoints, row, total);
-    if told.number != 0 {
-        return Answered {
-            number: told.number,
-            total,
-        };
-    }
-    free(f, sources, operation, told.ones, crosspoints);
-    put_row(crosspoints, target, row);
-    Answered {
-        number: 0,
-        total: told.total,
+    match desk_requests::judge(f, target, sources, operation, crosspoints, row, total) {
+        Ok(told) => {
+            free(f, sources, operation, told.ones, crosspoints);
+            put_row(crosspoints, target, row);
+            Ok(told.total)
+        }
+        Err(refusal) => Err(refusal),
     }
 }
 
-// One request on a legal desk: 41 to 44, or 1 for an operation that is none, leave the crosspoints as they were.
+// One request on a legal desk: the total after it. One that is refused, also for an operation that is none, leaves the crosspoints as they were.
 fn request_legal(
     f: Figures,
     target: u64,
@@ -136,12 +126,12 @@ fn request_legal(
     operation: u64,
     crosspoints: &mut [u8],
     total: u64,
-) -> Answered
+) -> Result<u64, Refusal>
     requires crosspoints_value { legal f crosspoints.old ≡ true }
     requires crosspoints_value_2 { total_of f crosspoints.old ≡ total }
     ensures operation_value { requested (desk_at f [] crosspoints.old) (request target sources.now operation)
-        ≡ answer result.number crosspoints.new }
-    ensures crosspoints_after { total_of f crosspoints.new ≡ result.total }
+        ≡ answer (number_told result) crosspoints.new }
+    ensures crosspoints_after { total_of f crosspoints.new ≡ result_unwrap_or result total }
 {
     let mut row = [0u8; SIDE];
     let w = index(f.sources);
@@ -173,7 +163,7 @@ pub fn request(
     }
     let total = desk_requests::total_of(f, crosspoints);
     let answered = request_legal(f, target, sources, operation, crosspoints, total);
-    answered.number
+    u64::from(number_of(answered))
 }
 
 // A request with the sources that octets name. The desk was judged before the first of them, and each leaves it legal.
@@ -184,11 +174,11 @@ fn ask_member(
     operation: u64,
     cells: &mut [u8],
     total: u64,
-) -> Answered
+) -> Result<u64, Refusal>
     requires cells_value { legal f cells.old ≡ true }
     requires cells_value_2 { total_of f cells.old ≡ total }
-    ensures operation_value { asked_of (desk_at f [] cells.old) target octets.now operation ≡ answer result.number cells.new }
-    ensures cells_after { total_of f cells.new ≡ result.total }
+    ensures operation_value { asked_of (desk_at f [] cells.old) target octets.now operation ≡ answer (number_told result) cells.new }
+    ensures cells_after { total_of f cells.new ≡ result_unwrap_or result total }
 {
     let mut list = [0u64; SIDE];
     let n = sources_of(octets, f.sources, &mut list);
@@ -205,15 +195,15 @@ fn answer_to(
     s: &[u8],
     cells: &mut [u8],
     total: u64,
-) -> Answered
+) -> Result<u64, Refusal>
     requires cells_value { (legal f cells.old ≡ true) × ((length path.now ≤ 16) × ((count ≤ length rows.now) × (i < count))) }
     requires cells_value_2 { total_of f cells.old ≡ total }
     ensures i_value { answered_at (desk_at f path.now cells.old) rows.now count s.now i
-        ≡ answer result.number cells.new }
-    ensures cells_after { total_of f cells.new ≡ result.total }
+        ≡ answer (number_told result) cells.new }
+    ensures cells_after { total_of f cells.new ≡ result_unwrap_or result total }
 {
     if !is_path(path, rows, count, s, word_at(rows, i, PARENT)) {
-        return Answered { number: 40, total };
+        return Err(Refusal::Matrix);
     }
     let asked = asked_at(rows, i, s);
     let start = asked.start;
@@ -228,11 +218,14 @@ fn answer_to(
     )
 }
 
-fn narrow(x: u64) -> u8
-    requires { x ≤ 255 }
-    ensures { result ≡ x }
+// The number of an answer, 0 where nothing is refused.
+fn number_of(answered: Result<u64, Refusal>) -> u8
+    ensures { number_told answered ≡ result }
 {
-    x as u8
+    match answered {
+        Ok(_) => 0,
+        Err(refusal) => refusal.number(),
+    }
 }
 
 // The entry at place i: a connection is answered at place n of the answers.
@@ -259,11 +252,11 @@ fn take_entry(
         return Taken { next: n, total };
     }
     let answered = answer_to(f, path, rows, count, i, s, cells, total);
-    answers[n] = narrow(answered.number);
+    answers[n] = number_of(answered);
     let next = n + 1;
     Taken {
         next,
-        total: answered.total,
+        total: answered.unwrap_or(total),
     }
 }
 

@@ -19,7 +19,9 @@ use Rattle.desk_crosspoints.proofs.Laws.{count-some, fit-counts, fit-sources-som
 use Rattle.desk_crosspoints.proofs.Under.{rows_apart, rows-le}
 use Rattle.desk_crosspoints.proofs.Legal.{legal-fit, legal-length}
 use Rattle.desk_requests.specs.Request.{Request, named, others, row_after, result_of, many, over_total, checks, judged, asked, requested}
-use Rattle.desk_requests.specs.Steps.{fits, told, total_of, total_after, judged_with, told_with}
+use Rattle.desk_requests.specs.declared.Refusal.{Refusal}
+use Rattle.desk_requests.specs.declared.Refusal.TheVariants.{Setup, Matrix, Target, Source, Many, Total}
+use Rattle.desk_requests.specs.Steps.{fits, told, total_of, total_after, judged_with, told_with, number_of}
 use Rattle.desk_requests.proofs.Parts.{first_below}
 use Rattle.desk_requests.proofs.Answers.{result-is, request-asked, request-none, asked-no, asked-yes}
 use Rattle.desk_requests.proofs.Totals.{total-le, total_kept, total-tells}
@@ -181,3 +183,12 @@ done-total d req total left w some new after e l o r a t =
 pub request-path : (d : Desk) (path : List ℕ) (req : Request) → requested d req ≡ requested (desk_at d.figures path d.crosspoints) req
 unfolding requested asked judged checks many over_total result_of row_after
 request-path d path req = refl
+
+-- a refusal has a number
+pub refusal-some : (r : Refusal) → number_of r ≡ 0 → ⊥
+refusal-some Setup h = omega arith
+refusal-some Matrix h = omega arith
+refusal-some Target h = omega arith
+refusal-some Source h = omega arith
+refusal-some Many h = omega arith
+refusal-some Total h = omega arith

@@ -1,11 +1,14 @@
 -- For the functions of this crate: parts of a request for a caller that knows the desk to be legal.
-use Rattle.std.specs.Prelude.{ℕ, ◌+◌, ◌-◌, Bool, length, leb, ltb, eqb}
+use Rattle.std.specs.Prelude.{ℕ, ◌+◌, ◌-◌, ◌≡◌, Bool, Result, Ok, Err, length, leb, ltb, eqb}
 use Rattle.base_choices.specs.Choices.{pick, both}
 use Rattle.desk_crosspoints.specs.declared.Figures.{Figures}
 use Rattle.desk_crosspoints.specs.Figures.{n_to_n, figures_fit, cells_of, most_total}
 use Rattle.desk_crosspoints.specs.Crosspoints.{Cells, count}
 use Rattle.desk_crosspoints.specs.Desk.{Desk}
-use Rattle.desk_requests.specs.Request.{Request, disconnect, row_before, row_after, first_of, checks_by, judged}
+use Rattle.desk_requests.specs.declared.Refusal.{Refusal}
+use Rattle.desk_requests.specs.declared.Refusal.TheVariants.{Setup, Matrix, Target, Source, Many, Total}
+use Rattle.desk_requests.specs.declared.Judged.{Judged}
+use Rattle.desk_requests.specs.Request.{Request, disconnect, named, row_before, row_after, first_of, checks_by, judged}
 
 -- n cells and a row of w are those of a desk with these figures
 unfoldable pub fits : Figures → ℕ → ℕ → Bool
@@ -39,3 +42,25 @@ unfoldable pub told_with : ℕ → Desk → Request → Cells → ℕ
 told_with total d r row =
     pick (both (fits d.figures (length d.crosspoints) (length row)) (both (leb total (length d.crosspoints)) (leb r.operation disconnect)))
     (judged_with total d r) 1
+
+-- ---- answers
+
+-- the number of each refusal
+abbrev pub number_of : Refusal → ℕ
+number_of Setup = 1
+number_of Matrix = 40
+number_of Target = 41
+number_of Source = 42
+number_of Many = 43
+number_of Total = 44
+
+-- .. and of an answer, 0 where nothing is refused
+abbrev pub number_told : {A : Type 0} → Result A Refusal → ℕ
+number_told (Ok x) = 0
+number_told (Err r) = number_of r
+
+-- how many sources are named, the target's cells after the request, and the total after it
+pub record Becomes (total : ℕ) (d : Desk) (r : Request) (j : Judged) (row : Cells) : Type 0 where
+  pub ones : count (named d.figures.sources r.sources) ≡ j.ones
+  pub row_is : row ≡ row_after d r
+  pub total_is : total_after total d r ≡ j.total

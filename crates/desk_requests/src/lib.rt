@@ -2,13 +2,13 @@
 // first, is in desk_calls.
 #![tactic(auto)]
 
-ghost use Rattle.std.specs.Prelude.{◌≡◌, [], true, ◌+◌, ◌-◌, ◌*◌, ◌≤◌, ltb, eqb, length, set};
+ghost use Rattle.std.specs.Prelude.{◌≡◌, [], true, ◌+◌, ◌-◌, ◌*◌, ◌≤◌, ltb, eqb, length, set, IfOk};
 ghost use Rattle.base_choices.specs.Choices.{pick, both};
 ghost use Rattle.desk_crosspoints.specs.Figures.{n_to_n, side, most_cells, cells_of, most_each, most_total};
 ghost use Rattle.desk_crosspoints.specs.Crosspoints.{count, row_at};
 ghost use Rattle.desk_crosspoints.specs.Desk.{desk_at};
-ghost use Rattle.desk_requests.specs.Request.{request, disconnect, marked, named, becomes, all_below, row_after};
-ghost use Rattle.desk_requests.specs.Steps.{fits, heeded, total_of, total_after, judged_with, told_with};
+ghost use Rattle.desk_requests.specs.Request.{request, disconnect, marked, named, becomes, all_below};
+ghost use Rattle.desk_requests.specs.Steps.{fits, heeded, total_of, judged_with, told_with, number_of, number_told, Becomes};
 
 use base_casts::index;
 use desk_crosspoints::{Figures, N_TO_N};
@@ -18,10 +18,37 @@ pub const CONNECT: u64 = 1;
 
 pub const DISCONNECT: u64 = 2;
 
-// The number of the first check that fails, 0 where none does; then how many sources are named, and the total after the request.
+// The first check that fails: lengths, a desk or an operation that is none; a connection of another matrix; a target or a source out of range; the target's
+// limit; the total limit.
+#[derive(Clone, Copy, PartialEq, Eq, Debug)]
+pub enum Refusal {
+    Setup,
+    Matrix,
+    Target,
+    Source,
+    Many,
+    Total,
+}
+
+impl Refusal {
+    // Its number among those answered.
+    pub fn number(self) -> u8
+        ensures { number_of self ≡ result }
+    {
+        match self {
+            Refusal::Setup => 1,
+            Refusal::Matrix => 40,
+            Refusal::Target => 41,
+            Refusal::Source => 42,
+            Refusal::Many => 43,
+            Refusal::Total => 44,
+        }
+    }
+}
+
+// A request that is not refused: how many sources are named, and the total after it.
 #[derive(Clone, Copy)]
 pub struct Judged {
-    pub number: u64,
     pub ones: u64,
     pub total: u64,
 }
@@ -100,21 +127,21 @@ fn is_many(f: Figures, ones: u64, set: u64) -> bool
     1 < ones
 }
 
-// 0, 43 or 44 where a target will have `set` cells set and the desk `total`; `ones` counts the sources named.
-fn limit_told(f: Figures, operation: u64, ones: u64, set: u64, total: u64) -> u64
+// Whether a target may have `set` cells set and the desk `total`; `ones` counts the sources named.
+fn limit_told(f: Figures, operation: u64, ones: u64, set: u64, total: u64) -> Result<(), Refusal>
     ensures { pick (eqb operation disconnect) 0
-        (pick (pick (eqb f.kind n_to_n) (ltb (most_each f) set) (ltb 1 ones)) 43 (pick (ltb (most_total f) total) 44 0)) ≡ result }
+        (pick (pick (eqb f.kind n_to_n) (ltb (most_each f) set) (ltb 1 ones)) 43 (pick (ltb (most_total f) total) 44 0)) ≡ number_told result }
 {
     if DISCONNECT == operation {
-        return 0;
+        return Ok(());
     }
     if is_many(f, ones, set) {
-        return 43;
+        return Err(Refusal::Many);
     }
     if desk_crosspoints::in_total(f, total) {
-        return 0;
+        return Ok(());
     }
-    44
+    Err(Refusal::Total)
 }
 
 // The total as `judge` takes it: how many crosspoints are set on N:N, which alone heeds it; 0 on the others, which need no count.
@@ -151,7 +178,7 @@ fn get_row(row: &mut [u8], cells: &[u8], target: u64)
     row.copy_from_slice(&cells[from..to]);
 }
 
-// 0, 43 or 44 for a target's cells after the request, which `row` then holds; `ones` counts the sources named.
+// The limits held against a target's cells after the request, which `row` then holds; `ones` counts the sources named.
 fn judge_limits(
     f: Figures,
     target: u64,
@@ -161,7 +188,7 @@ fn judge_limits(
     cells: &[u8],
     row: &mut [u8],
     total: u64,
-) -> Judged
+) -> Result<Judged, Refusal>
     requires targets_le_side { (f.targets ≤ side) × (f.sources ≤ side) }
     requires cells_len { length cells.now ≡ cells_of f }
     requires row_len { length row.old ≡ f.sources }
@@ -169,22 +196,16 @@ fn judge_limits(
     requires sources_value { all_below f.sources sources.now ≡ true }
     requires sources_value_2 { count (named f.sources sources.now) ≡ ones }
     requires total_in_bounds { total ≤ length cells.now }
-    ensures operation_value { judged_with total (desk_at f [] cells.now) (request target sources.now operation) ≡ result.number }
-    ensures sources_value_3 { (count (named f.sources sources.now) ≡ result.ones)
-        × ((row.new ≡ row_after (desk_at f [] cells.now) (request target sources.now operation))
-        × (total_after total (desk_at f [] cells.now) (request target sources.now operation) ≡ result.total)) }
+    ensures operation_value { judged_with total (desk_at f [] cells.now) (request target sources.now operation) ≡ number_told result }
+    ensures sources_value_3 { IfOk result (λ j. Becomes total (desk_at f [] cells.now) (request target sources.now operation) j row.new) }
 {
     get_row(row, cells, target);
     let before = desk_crosspoints::count(row);
     become_row(f, sources, operation, ones, row);
     let after = desk_crosspoints::count(row);
     let left = total_after(f, total, before, after);
-    let number = limit_told(f, operation, ones, after, left);
-    Judged {
-        number,
-        ones,
-        total: left,
-    }
+    limit_told(f, operation, ones, after, left)?;
+    Ok(Judged { ones, total: left })
 }
 
 // Whether n cells and a row of w are those of a desk with these figures.
@@ -201,19 +222,8 @@ fn is_fit(f: Figures, n: usize, w: usize) -> bool
     w == index(f.sources)
 }
 
-// A request that is refused.
-fn refused(number: u64) -> Judged
-    ensures { number ≡ result.number }
-{
-    Judged {
-        number,
-        ones: 0,
-        total: 0,
-    }
-}
-
-// The checks of a request in their order, with the total that the caller keeps (`total_of`): 41 to 44, or 1 for lengths that are not the desk's, for a total
-// over its cells and for an operation that is none. Where the number is 0, `row`, else scratch, holds the target's cells after the request.
+// The checks of a request in their order, with the total that the caller keeps (`total_of`): refused are lengths that are not the desk's, a total over its
+// cells and an operation that is none (`Setup`), and what the desk's checks refuse. After `Ok`, `row`, else scratch, holds the target's cells after the request.
 pub fn judge(
     f: Figures,
     target: u64,
@@ -222,26 +232,24 @@ pub fn judge(
     cells: &[u8],
     row: &mut [u8],
     total: u64,
-) -> Judged
-    ensures row_value { told_with total (desk_at f [] cells.now) (request target sources.now operation) row.old ≡ result.number }
-    ensures sources_value { result.number ≡ 0 → (count (named f.sources sources.now) ≡ result.ones)
-        × ((row.new ≡ row_after (desk_at f [] cells.now) (request target sources.now operation))
-        × (total_after total (desk_at f [] cells.now) (request target sources.now operation) ≡ result.total)) }
+) -> Result<Judged, Refusal>
+    ensures row_value { told_with total (desk_at f [] cells.now) (request target sources.now operation) row.old ≡ number_told result }
+    ensures sources_value { IfOk result (λ j. Becomes total (desk_at f [] cells.now) (request target sources.now operation) j row.new) }
 {
     if !is_fit(f, cells.len(), row.len()) {
-        return refused(1);
+        return Err(Refusal::Setup);
     }
     if cells.len() < index(total) {
-        return refused(1);
+        return Err(Refusal::Setup);
     }
     if DISCONNECT < operation {
-        return refused(1);
+        return Err(Refusal::Setup);
     }
     if f.targets <= target {
-        return refused(41);
+        return Err(Refusal::Target);
     }
     if !all_below(f.sources, sources) {
-        return refused(42);
+        return Err(Refusal::Source);
     }
     list_row(row, sources);
     let ones = desk_crosspoints::count(row);

@@ -1,6 +1,7 @@
-use mathlib.Core.Path.{◌∙◌}
+use mathlib.Core.Path.{sym, ◌∙◌}
 use Rattle.desk_requests.proofs.Answers.{request-legal-not}
 use Rattle.desk_requests.proofs.Steps.{request-path}
+use Rattle.desk_calls.proofs.Served.{answer-same}
 use Rattle.desk_calls.proofs.request.Goals as goal
 
 pub returns-then-not-is_legal : goal.returns-then-not-is_legal
@@ -18,5 +19,4 @@ request_legal-answered-requires c =
 
 pub returns : goal.returns
 returns c =
-    let the-request-legal = c.request_legal-answered in
-    λ path. request-path _ _ _ ∙ the-request-legal.ensures.operation_value
+    λ path. answer-same _ _ _ _ (request-path _ _ _ ∙ c.request_legal-answered.ensures.operation_value) (c.from.ensures ∙ sym c.number_of.ensures)
