@@ -134,12 +134,7 @@ pub fn write_oid(ns: &[u64], out: &mut [u8], at: usize) -> Option<usize>
         return None;
     }
     let n = oid_size(ns);
-    if out.len() < n {
-        return None;
-    }
-    if out.len() - n < at {
-        return None;
-    }
+    ber_integers::held(out, at, n)?;
     let end = at + n;
     let mut p = end;
     for n in ns.iter().rev() {

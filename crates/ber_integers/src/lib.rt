@@ -105,12 +105,7 @@ pub fn read_int(s: &[u8], at: usize, n: usize) -> Option<i64>
 pub fn write_octets(v: u64, n: usize, out: &mut [u8], at: usize) -> Option<usize>
     ensures { put out.old at (digits 256 n v) ≡ outcome result out.new }
 {
-    if out.len() < n {
-        return None;
-    }
-    if out.len() - n < at {
-        return None;
-    }
+    held(out, at, n)?;
     let mut r = v;
     for i in (0..n).rev() {
         out[at + i] = low(r);

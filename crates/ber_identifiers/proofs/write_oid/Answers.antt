@@ -32,16 +32,16 @@ turn at p k n r done ns e h z =
 pub returns-then-not-in_range : goal.returns-then-not-in_range
 returns-then-not-in_range c = put-range _ _ _ (sym c.in_range.ensures ∙ c.if-not-in_range.true)
 
-pub returns-then-out-n : goal.returns-then-out-n
-returns-then-out-n c = put-oid _ _ _ (sym c.in_range.ensures ∙ c.if-not-in_range.false) ∙ put-out _ _ _ (omega arith)
-
-pub returns-then-out-n-2 : goal.returns-then-out-n-2
-returns-then-out-n-2 c = put-oid _ _ _ (sym c.in_range.ensures ∙ c.if-not-in_range.false) ∙ put-out _ _ _ (omega arith)
+pub returns-in_err-held : goal.returns-in_err-held
+returns-in_err-held c =
+    rw c.from_residual.ensures
+    (put-oid _ _ _ (sym c.in_range.ensures ∙ c.if-not-in_range.false) ∙ put-out _ _ _ (omega (arith, c.in_err-held.ensures, c.oid_size-n.ensures)))
 
 pub loop-n-init : goal.loop-n-init
 loop-n-init c =
     let i : c.into_iter-n-iterator.result.iter.rest.now ≡ c.args.ns.now = cc in
     let z : length (oid_octets []) ≡ 0 = ap length octets-none in
+    let w = c.in_ok-held.ensures.0 in
     record {
       done = [];
       split = append-nil _ ∙ i;
