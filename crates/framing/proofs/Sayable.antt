@@ -8,7 +8,8 @@ use lib.Bits.{bit_xor}
 use lib.Dec.{leb, ltb, eqb}
 use lib.ListN.{length, take}
 use Rattle.framing_content.specs.declared.Content.{Content}
-use Rattle.framing_content.specs.declared.Content.TheVariants.{Refused, Request, Response, Piece}
+use Rattle.framing_content.specs.declared.Content.TheVariants.{Request, Response, Piece}
+use Rattle.std.specs.Prelude.{Result, Ok, Err}
 use Rattle.framing_session.specs.declared.Event.{Event}
 use Rattle.framing_session.specs.declared.Event.TheVariants as ev
 use Rattle.framing_content.specs.declared.Fault.{Fault}
@@ -58,11 +59,11 @@ says-pieces false last p none = says-refuses Orphan outside none
 says-pieces false last p (part xs) =
     pick-by Says (leb (length xs + length p) message_limit) (λ t. says-joins last false (xs ++ p)) (λ t. says-refuses Big outside (part xs))
 
-says-reads : (c : Content) (p : List ℕ) (m : Message) → Says (reads c p m)
-says-reads (Refused f) p m = says-refuses f outside m
-says-reads Request p m = record { event = ev.Request; says = λ u h. refl; other = refl }
-says-reads Response p m = record { event = ev.Response; says = λ u h. refl; other = refl }
-says-reads (Piece first last) p m = says-pieces first last p m
+says-reads : (c : Result Content Fault) (p : List ℕ) (m : Message) → Says (reads c p m)
+says-reads (Err f) p m = says-refuses f outside m
+says-reads (Ok Request) p m = record { event = ev.Request; says = λ u h. refl; other = refl }
+says-reads (Ok Response) p m = record { event = ev.Response; says = λ u h. refl; other = refl }
+says-reads (Ok (Piece first last)) p m = says-pieces first last p m
 
 says-faulted : (f : Fault) (p : Place) (m : Message) (b : ℕ) → Says (faulted f p m b)
 unfolding faulted

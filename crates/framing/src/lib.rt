@@ -17,6 +17,7 @@ fn runs(session: Session, store: &mut [u8], chunk: &[u8]) -> Fed
 {
     let mut s = session;
     let mut i = 0;
+    // Counted: a turn takes a byte and then as many as a stride does.
     while i < chunk.len() {
         let t = framing_steps::step(s, chunk[i], store);
         i += 1;

@@ -1,17 +1,16 @@
 -- Laws of the definitions, at plain variables.
-use Prim.Native.Nat.{ℕ, min}
-use mathlib.Core.Path.{◌≡◌, refl, sym, subst, ◌∙◌}
-use mathlib.Core.Bool.{Bool, true, false, cond}
-use mathlib.Core.List.{List, [], ◌∷◌}
+use Prim.Native.Nat.{ℕ}
+use mathlib.Core.Path.{◌≡◌, refl, sym, subst}
+use mathlib.Core.Bool.{Bool, true, false}
+use mathlib.Core.List.{List}
 use native.Mathlib.Omega.{arith}
 use borrow.Author.Tests.{eqb-true, eq-eqb}
 use lib.Dec.{eqb}
-use lib.ListN.{length, set}
+use lib.ListN.{length}
 use Rattle.base_choices.specs.Choices.{pick}
 use Rattle.framing_session.specs.declared.Event.{Event}
 use Rattle.framing_session.specs.declared.Session.{Session}
-use Rattle.framing_session.specs.Session.{said_by, legal}
-use Rattle.framing_events.specs.Events.{length_of}
+use Rattle.framing_session.specs.Session.{legal}
 use Rattle.framing_words.specs.Words.{words_of, session_at, is_session}
 use Rattle.framing_words.proofs.Laws.{words_back, words-session, session-length}
 use Rattle.framing_answers.specs.Answers.{accepts, answer_of, answer_put}
@@ -58,18 +57,6 @@ accepts-answer ws n k h = by (eqb k 3) refl h
 
 -- ---- the answer
 
-pub set-three : (l : List ℕ) (a b c : ℕ) → length l ≡ 3 → set (set (set l 0 a) 1 b) 2 c ≡ a ∷ b ∷ c ∷ []
-set-three (x ∷ y ∷ z ∷ []) a b c h = refl
-set-three [] a b c h = absurd (omega arith)
-set-three (x ∷ []) a b c h = absurd (omega arith)
-set-three (x ∷ y ∷ []) a b c h = absurd (omega arith)
-set-three (x ∷ y ∷ z ∷ w ∷ l) a b c h = absurd (omega arith)
-
 pub put_three : (a : List ℕ) (e : Event) (n m : ℕ) → length a ≡ 3 → answer_put a e n m ≡ answer_of e n m
 unfolding answer_put
 put_three a e n m h = rw (eq-eqb (length a) 3 h)
-
--- the three words as the code puts them
-pub three-put : (a : List ℕ) (e : Event) (n m : ℕ) (b : Bool) (d i k : ℕ) → length a ≡ 3 → d ≡ cond b 1 0 → b ≡ (said_by e []).discarded → i ≡ n
-    → k ≡ min (length_of e) m → set (set (set a 0 d) 1 i) 2 k ≡ answer_put a e n m
-three-put a e n m b d i k h x y w z = set-three a d i k h ∙ rw (x, y, w, z) (sym (put_three a e n m h))

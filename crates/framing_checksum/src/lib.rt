@@ -6,52 +6,27 @@
 ghost use Rattle.std.specs.Prelude.{◌≡◌, ◌+◌, ◌-◌, ◌*◌, [], ◌∷◌};
 ghost use Rattle.framing_checksum.specs.Checksum.{crc_step, crc_from, checksum};
 
-fn wide(x: u8) -> u16
-    ensures { result ≡ x }
-{
-    x as u16
-}
-
-fn long(x: u8) -> u32
-    ensures { result ≡ x }
-{
-    x as u32
-}
-
 // One byte of data, q its quotient.
 fn crc_step(crc: u16, b: u8) -> u16
     ensures { result ≡ crc_step crc b }
 {
-    let x = (crc ^ wide(b)) % 256;
+    let x = (crc ^ u16::from(b)) % 256;
     let q = (x ^ (x << 4)) % 256;
     (crc >> 8) ^ ((q << 8) ^ (q << 3) ^ (q >> 4))
-}
-
-// The data of a slice, byte by byte.
-fn crc_bytes(crc: u16, s: &[u8]) -> u16
-    ensures { result ≡ crc_from crc s.now }
-{
-    let mut c = crc;
-    let mut i = 0;
-    while i < s.len() {
-        c = crc_step(c, s[i]);
-        i += 1;
-    }
-    c
 }
 
 // Four bytes as one number, the low one first.
 fn word(a: u8, b: u8, c: u8, d: u8) -> u32
     ensures { result ≡ a + (b + (c + d * 256) * 256) * 256 }
 {
-    long(a) + (long(b) + (long(c) + long(d) * 256) * 256) * 256
+    u32::from_le_bytes([a, b, c, d])
 }
 
 // Four bytes of data at once. The polynomial is x^16 (1 + a) with a = x^-4 + x^-11 + x^-16, and the quotient q is v (1 + a) (1 + a^2) (1 + a^4).
 fn crc_four(crc: u16, a: u8, b: u8, c: u8, d: u8) -> u16
     ensures { result ≡ crc_from crc (a ∷ b ∷ c ∷ d ∷ []) }
 {
-    let v = (crc as u32) ^ word(a, b, c, d);
+    let v = u32::from(crc) ^ word(a, b, c, d);
     let x = v ^ (v << 4) ^ (v << 11) ^ (v << 16);
     let y = x ^ (x << 8) ^ (x << 22);
     let q = y ^ (y << 16);
@@ -62,13 +37,13 @@ fn crc_four(crc: u16, a: u8, b: u8, c: u8, d: u8) -> u16
 pub fn crc_from(crc: u16, s: &[u8]) -> u16
     ensures { result ≡ crc_from crc s.now }
 {
-    let mut c = crc;
-    let mut i = 0;
-    while 4 <= s.len() - i {
-        c = crc_four(c, s[i], s[i + 1], s[i + 2], s[i + 3]);
-        i += 4;
+    let mut left = crc;
+    let mut rest = s;
+    while let [a, b, c, d, more @ ..] = rest {
+        left = crc_four(left, *a, *b, *c, *d);
+        rest = more;
     }
-    crc_bytes(c, &s[i..])
+    rest.iter().fold(left, |crc, b| crc_step(crc, *b))
 }
 
 // The checksum of a slice.
@@ -83,5 +58,5 @@ pub fn of(s: &[u8]) -> u16
 pub fn joined(low: u8, high: u8) -> u16
     ensures { result ≡ low + high * 256 }
 {
-    wide(low) + wide(high) * 256
+    u16::from_le_bytes([low, high])
 }

@@ -3,31 +3,10 @@
 #![tactic(auto)]
 
 ghost use Rattle.std.specs.Prelude.{◌≡◌, []};
-ghost use Rattle.framing_content.specs.Numbers.{number as fault_number};
 ghost use Rattle.framing_session.specs.Session.{said_by};
 ghost use Rattle.framing_events.specs.Events.{length_of};
 
-use framing_content::Fault;
 use framing_session::Event;
-
-fn fault_number(fault: Fault) -> u64
-    ensures { result ≡ fault_number fault }
-{
-    match fault {
-        Fault::Stray => 10,
-        Fault::Cut => 11,
-        Fault::Byte => 12,
-        Fault::Long => 13,
-        Fault::Escape => 14,
-        Fault::Short => 15,
-        Fault::Crc => 16,
-        Fault::Header => 20,
-        Fault::Flags => 21,
-        Fault::Dtd => 22,
-        Fault::Orphan => 23,
-        Fault::Big => 24,
-    }
-}
 
 // The event's number, as in document 01.
 pub fn number(event: Event) -> u64
@@ -36,17 +15,11 @@ pub fn number(event: Event) -> u64
     match event {
         Event::More => 0,
         Event::Setup => 1,
-        Event::Piece { discarded: _ } => 2,
-        Event::Message {
-            length: _,
-            discarded: _,
-        } => 3,
+        Event::Piece { .. } => 2,
+        Event::Message { .. } => 3,
         Event::Request => 4,
         Event::Response => 5,
-        Event::Refused {
-            fault,
-            discarded: _,
-        } => fault_number(fault),
+        Event::Refused { fault, .. } => fault as u64,
     }
 }
 
@@ -55,19 +28,10 @@ pub fn is_discarded(event: Event) -> bool
     ensures { result ≡ (said_by event []).discarded }
 {
     match event {
-        Event::More => false,
-        Event::Setup => false,
-        Event::Piece { discarded } => discarded,
-        Event::Message {
-            length: _,
-            discarded,
-        } => discarded,
-        Event::Request => false,
-        Event::Response => false,
-        Event::Refused {
-            fault: _,
-            discarded,
-        } => discarded,
+        Event::Piece { discarded }
+        | Event::Message { discarded, .. }
+        | Event::Refused { discarded, .. } => discarded,
+        Event::More | Event::Setup | Event::Request | Event::Response => false,
     }
 }
 
@@ -76,18 +40,7 @@ pub fn message_length(event: Event) -> usize
     ensures { result ≡ length_of event }
 {
     match event {
-        Event::More => 0,
-        Event::Setup => 0,
-        Event::Piece { discarded: _ } => 0,
-        Event::Message {
-            length,
-            discarded: _,
-        } => length,
-        Event::Request => 0,
-        Event::Response => 0,
-        Event::Refused {
-            fault: _,
-            discarded: _,
-        } => 0,
+        Event::Message { length, .. } => length,
+        _ => 0,
     }
 }

@@ -21,23 +21,21 @@ fn put_hex(out: &mut [u8], at: usize, s: &[u8]) -> usize
     ensures upper_bound { result ≤ at + 2 * length s.now }
 {
     let mut next = at;
-    let mut i = 0;
-    while i < s.len() {
-        let b = s[i];
-        next = put(out, next, base_hex::high(b));
-        next = put(out, next, base_hex::low(b));
-        i += 1;
+    for b in s {
+        next = put(out, next, base_hex::high(*b));
+        next = put(out, next, base_hex::low(*b));
     }
     next
 }
 
 // The digits, or '-' for no bytes.
+#[tactic(auto, unfolding(crate::specs::Text::word_text))]
 fn put_word(out: &mut [u8], at: usize, s: &[u8]) -> usize
     requires { at + 2 * length s.now + 1 ≤ length out.old }
     ensures s_value { wrote out.old at (word_text s.now) ≡ record { next = result; output = out.new } }
     ensures upper_bound { result ≤ at + 2 * length s.now + 1 }
 {
-    if s.len() == 0 {
+    if s.is_empty() {
         return put(out, at, b'-');
     }
     put_hex(out, at, s)
@@ -53,10 +51,10 @@ fn put_digits(out: &mut [u8], at: usize, n: u64, k: usize) -> usize
         return at;
     }
     if n < 10 {
-        return put(out, at, 48 + n as u8);
+        return put(out, at, b'0' + n as u8);
     }
     let next = put_digits(out, at, n / 10, k - 1);
-    put(out, next, 48 + (n % 10) as u8)
+    put(out, next, b'0' + (n % 10) as u8)
 }
 
 // A number of 64 bits has at most 20 decimal digits.
@@ -66,19 +64,6 @@ fn put_decimal(out: &mut [u8], at: usize, n: u64) -> usize
     ensures upper_bound { result ≤ at + 20 }
 {
     put_digits(out, at, n, 20)
-}
-
-fn least(a: usize, b: usize) -> usize
-    ensures upper_bound { (result ≤ a) × (result ≤ b) }
-    ensures value { result ≡ min a b }
-{
-    if a < b { a } else { b }
-}
-
-fn bit(on: bool) -> u8
-    ensures { result ≡ cond on 49 48 }
-{
-    if on { 49 } else { 48 }
 }
 
 // The offset, the number and whether a message was thrown away.
@@ -91,7 +76,7 @@ fn put_head(out: &mut [u8], at: usize, offset: u64, number: u64, discarded: bool
     let number_at = put(out, offset_end, b' ');
     let number_end = put_decimal(out, number_at, number);
     let bit_at = put(out, number_end, b' ');
-    put(out, bit_at, bit(discarded))
+    put(out, bit_at, b'0' + u8::from(discarded))
 }
 
 // The first n bytes of the store as a word, after a space.
@@ -100,7 +85,7 @@ fn put_message(out: &mut [u8], at: usize, n: usize, store: &[u8]) -> usize
     ensures store_value { wrote out.old at (space ++ word_text (take n store.now)) ≡ record { next = result; output = out.new } }
     ensures upper_bound { result ≤ at + 2 * length store.now + 2 }
 {
-    let count = least(n, store.len());
+    let count = n.min(store.len());
     let word_at = put(out, at, b' ');
     put_word(out, word_at, &store[..count])
 }
@@ -131,37 +116,32 @@ fn put_bytes(out: &mut [u8], at: usize, s: &[u8]) -> usize
     ensures upper_bound { result ≤ at + length s.now }
 {
     let mut next = at;
-    let mut i = 0;
-    while i < s.len() {
-        next = put(out, next, s[i]);
-        i += 1;
+    for b in s {
+        next = put(out, next, *b);
     }
     next
 }
 
-// The length of the open frame's content, or '-'.
-fn put_frame(out: &mut [u8], at: usize, frame: Frame) -> usize
-    requires { at + 20 ≤ length out.old }
-    ensures frame_value { wrote out.old at (frame_text frame) ≡ record { next = result; output = out.new } }
-    ensures upper_bound { result ≤ at + 20 }
+// The length of the open frame's content, if one is open.
+fn open_length(frame: Frame) -> Option<usize>
+    ensures { pending_text result ≡ frame_text frame }
 {
     match frame {
-        Frame::Outside => put(out, at, b'-'),
-        Frame::Stray => put(out, at, b'-'),
-        Frame::Inside { length } => put_decimal(out, at, length as u64),
-        Frame::Escaped { length } => put_decimal(out, at, length as u64),
-        Frame::BadByte { length } => put_decimal(out, at, length as u64),
-        Frame::TooLong { length } => put_decimal(out, at, length as u64),
+        Frame::Outside | Frame::Stray => None,
+        Frame::Inside { length }
+        | Frame::Escaped { length }
+        | Frame::BadByte { length }
+        | Frame::TooLong { length } => Some(length),
     }
 }
 
-// The length of the open message, or '-'.
-fn put_pending(out: &mut [u8], at: usize, message: Option<usize>) -> usize
+// The length of the open frame or message, or '-'.
+fn put_open(out: &mut [u8], at: usize, size: Option<usize>) -> usize
     requires { at + 20 ≤ length out.old }
-    ensures message_value { wrote out.old at (pending_text message) ≡ record { next = result; output = out.new } }
+    ensures size_value { wrote out.old at (pending_text size) ≡ record { next = result; output = out.new } }
     ensures upper_bound { result ≤ at + 20 }
 {
-    match message {
+    match size {
         None => put(out, at, b'-'),
         Some(length) => put_decimal(out, at, length as u64),
     }
@@ -173,14 +153,12 @@ fn put_end_line(out: &mut [u8], at: usize, offset: u64, session: Session) -> usi
     ensures session_value { wrote out.old at (end_text offset session) ≡ record { next = result; output = out.new } }
     ensures upper_bound { result ≤ at + line_room }
 {
-    let frame = session.frame;
-    let message = session.message;
     let offset_at = put_bytes(out, at, b"end ");
     let offset_end = put_decimal(out, offset_at, offset);
     let frame_at = put(out, offset_end, b' ');
-    let frame_end = put_frame(out, frame_at, frame);
+    let frame_end = put_open(out, frame_at, open_length(session.frame));
     let message_at = put(out, frame_end, b' ');
-    let message_end = put_pending(out, message_at, message);
+    let message_end = put_open(out, message_at, session.message);
     put(out, message_end, b'\n')
 }
 
@@ -188,13 +166,7 @@ fn put_end_line(out: &mut [u8], at: usize, offset: u64, session: Session) -> usi
 fn has_room(length: usize, at: usize) -> bool
     ensures { result ≡ leb (at + line_room) length }
 {
-    if length < LINE_ROOM {
-        return false;
-    }
-    if length - LINE_ROOM < at {
-        return false;
-    }
-    true
+    LINE_ROOM <= length && at <= length - LINE_ROOM
 }
 
 // An event's line, where there is room for any and the store is no longer than a session's; elsewhere nothing.

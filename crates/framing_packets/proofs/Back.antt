@@ -9,7 +9,8 @@ use lib.Dec.{leb, eqb}
 use lib.ListN.{length, get_or, take, drop, length-append, length-take, length-drop, take-append-drop}
 use lib.Seq.{take_at, get_or_at, get_or-append-add}
 use Rattle.framing_content.specs.declared.Content.{Content}
-use Rattle.framing_content.specs.declared.Content.TheVariants.{Refused, Request, Response, Piece}
+use Rattle.framing_content.specs.declared.Content.TheVariants.{Request, Response, Piece}
+use Rattle.std.specs.Prelude.{Result, Ok, Err}
 use Rattle.framing_content.specs.declared.Fault.{Fault}
 use Rattle.framing_content.specs.declared.Fault.TheVariants.{Short, Big}
 use Rattle.framing_session.proofs.Laws.{number-not-zero}
@@ -77,7 +78,7 @@ module _ (xs : List ℕ) where
       let q : crc_of (sealed xs) ≡ checksum (body (sealed xs)) = sealed-crc ∙ ap checksum (sym b) in
       simp (le-ltb _ _ l, eq-eqb _ _ q) (ap body_of b)
 
-  pub content-short : length xs < 4 → content_of (sealed xs) ≡ Refused Short
+  pub content-short : length xs < 4 → content_of (sealed xs) ≡ Err Short
   unfolding content_of
   content-short h = let e = sealed-length in let l : length (sealed xs) < 6 = omega arith in simp (lt-ltb _ _ l)
 
@@ -103,11 +104,11 @@ pieces-ended false last p (part xs) = either (leb (length xs + length p) message
     either true = joins-ended last false (xs ++ p)
     either false = (refl, refl)
 
-reads-ended : (c : Content) (p : List ℕ) (m : Message) → Ended (reads c p m)
-reads-ended (Refused f) p m = refuses-ended f m
-reads-ended Request p m = (refl, refl)
-reads-ended Response p m = (refl, refl)
-reads-ended (Piece first last) p m = pieces-ended first last p m
+reads-ended : (c : Result Content Fault) (p : List ℕ) (m : Message) → Ended (reads c p m)
+reads-ended (Err f) p m = refuses-ended f m
+reads-ended (Ok Request) p m = (refl, refl)
+reads-ended (Ok Response) p m = (refl, refl)
+reads-ended (Ok (Piece first last)) p m = pieces-ended first last p m
 
 module _ (xs : List ℕ) (m : Message) where
   ended : Ended (ends xs m)
@@ -139,11 +140,11 @@ module _ (xs : List ℕ) (h : Bytes xs) (l : length xs ≤ body_limit) (s : Stat
       (gives-event _ _ EOF (step_end (sealed xs) s.message ∙ q) (ap (λ (u : Step). eqb u.said.number 0) (sym q) ∙ (ended (sealed xs) s.message).0)))
 
   -- .. which from four bytes on is what its body says
-  pub body_back : {c : Content} {t : Step} → 4 ≤ length xs → body_of xs ≡ c → reads c (payload (sealed xs)) s.message ≡ t
+  pub body_back : {c : Result Content Fault} {t : Step} → 4 ≤ length xs → body_of xs ≡ c → reads c (payload (sealed xs)) s.message ≡ t
       → Gives s n (frame xs) (record { offset = n + length (frame xs); said = t.said } ∷ []) t.next
   unfolding ends
   body_back k e q =
-      frame_back (ap (λ (c : Content). reads c (payload (sealed xs)) s.message) (content-read xs k ∙ e) ∙ q)
+      frame_back (ap (λ (c : Result Content Fault). reads c (payload (sealed xs)) s.message) (content-read xs k ∙ e) ∙ q)
 
 -- ---- the keep-alives
 
@@ -177,14 +178,14 @@ empty-read n (suc k) e =
     ap (λ (t : Bool). pick {X = ℕ} t 1 0) (ne_eqb n 9 (λ q. omega arith) ∙ sym (ne_eqb (suc k) 0 (λ q. omega arith)))
 
 module _ (first last : Bool) (p : List ℕ) where
-  piece-read : body_of (packet_body first last p) ≡ Piece first last
+  piece-read : body_of (packet_body first last p) ≡ Ok (Piece first last)
   unfolding body_of command_of packet_of
   piece-read =
       let r = flags-read first last (eqb (length p) 0) {f = flags first last (length p)} refl in
       let e = empty-read (length (packet_body first last p)) (length p) (omega arith) in
       let l : 9 ≤ length (packet_body first last p) = omega arith in
       simp (le-ltb _ _ l, eq-eqb _ _ r.1.0, eq-eqb _ _ (r.1.1.0 ∙ sym e))
-      (ap (λ (a : Bool). Piece a (is_last (flags first last (length p)))) r.1.1.1.0 ∙ ap (λ (b : Bool). Piece first b) r.1.1.1.1)
+      (ap (λ (a : Bool). Ok (Piece a (is_last (flags first last (length p))))) r.1.1.1.0 ∙ ap (λ (b : Bool). Ok (Piece first b)) r.1.1.1.1)
 
   payload-read : payload (sealed (packet_body first last p)) ≡ p
   payload-read = ap (λ (ys : List ℕ). drop 9 ys) (sealed-body (packet_body first last p))

@@ -10,7 +10,7 @@ use borrow.Author.Tests.{le-leb, lt-leb, leb-true}
 use lib.Dec.{leb}
 use lib.Bits.{bit_xor}
 use lib.ListN.{length, get_or, take, drop, length-drop, drop_of_length-le}
-use lib.Seq.{take_all, take-append_seam, drop-cons, drop-drop}
+use lib.Seq.{take-append_seam, drop-cons}
 use Rattle.framing_checksum.specs.Checksum.{crc_step, crc_from, checksum}
 use Rattle.base_choices.specs.Choices.{pick}
 use Rattle.base_output.specs.Output.{Wrote, wrote}
@@ -61,35 +61,17 @@ pub packet-frame : (first last : Bool) (p : List ℕ) {f : ℕ} → f ≡ flags 
 unfolding packet
 packet-frame first last p e = rw e
 
-packets-last : (first : Bool) (m : List ℕ) → length m ≤ payload_limit → packets (earlier (length m)) first m ≡ packet first true m
+pub packets-last : (first : Bool) (m : List ℕ) → length m ≤ payload_limit → packets (earlier (length m)) first m ≡ packet first true m
 unfolding packets
 packets-last first m h = let e : earlier (length m) ≡ 0 = omega arith in rw e
 
-packets-more : (first : Bool) (m : List ℕ) → payload_limit < length m
-    → packets (earlier (length m)) first m
-    ≡ packet first false (take payload_limit m) ++ packets (earlier (length (drop payload_limit m))) false (drop payload_limit m)
+pub packets-more : (first : Bool) (m : List ℕ) {p q : List ℕ} → payload_limit < length m → p ≡ take payload_limit m → q ≡ drop payload_limit m
+    → packets (earlier (length m)) first m ≡ packet first false p ++ packets (earlier (length q)) false q
 unfolding packets
-packets-more first m h =
+packets-more first m h i j =
     let d : length (drop payload_limit m) ≡ length m - payload_limit = length-drop payload_limit m in
     let e : earlier (length m) ≡ suc (earlier (length (drop payload_limit m))) = omega arith in
-    rw e
-
--- the same from a place of the message on, its parts as the code takes them
-module _ (first : Bool) (m : List ℕ) (from : ℕ) where
-  pub packets-rest : length m - from ≤ payload_limit
-      → packets (earlier (length (drop from m))) first (drop from m) ≡ packet first true (take (length m - from) (drop from m))
-  packets-rest h =
-      let l : length (drop from m) ≡ length m - from = length-drop from m in
-      rw (take_all (length m - from) (drop from m) (omega arith)) (packets-last first (drop from m) (omega arith))
-
-  pub packets-next : payload_limit < length m - from
-      → packets (earlier (length (drop from m))) first (drop from m)
-      ≡ packet first false (take (from + payload_limit - from) (drop from m))
-      ++ packets (earlier (length (drop (from + payload_limit) m))) false (drop (from + payload_limit) m)
-  packets-next h =
-      let l : length (drop from m) ≡ length m - from = length-drop from m in
-      let k : from + payload_limit - from ≡ payload_limit = omega arith in
-      rw (k, ← (drop-drop payload_limit from m)) (packets-more first (drop from m) (omega arith))
+    rw (i, j, e)
 
 -- ---- answers
 

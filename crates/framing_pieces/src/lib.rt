@@ -4,10 +4,10 @@
 ghost use Rattle.std.specs.Prelude.{◌≡◌, ◌+◌, ◌≤◌};
 ghost use lib.ListN.{length, take, drop};
 ghost use Rattle.std.proofs.lemmas.List.Edits.{sets};
-ghost use Rattle.framing_content.specs.Numbers.{content_limit, message_limit, store_length, content_start};
+ghost use Rattle.framing_content.specs.Numbers.{content_start};
 ghost use Rattle.framing_session.specs.Rules.{pieces as rule_pieces, ends as rule_ends};
-ghost use Rattle.framing_session.specs.Session.{message_length, content_in, message_of, keeps};
-ghost use Rattle.framing_session.specs.Steps.{gives, is_part, staying, refusing, joining, inside_of, unless_setup};
+ghost use Rattle.framing_session.specs.Session.{Legal, content_in, message_of, keeps};
+ghost use Rattle.framing_session.specs.Steps.{gives, staying, refusing, joining, inside_of, unless_setup};
 
 use framing_content::{Content, Fault};
 use framing_session::{CONTENT_START, Event, Frame, MESSAGE_LIMIT, Session, Stepped};
@@ -15,20 +15,11 @@ use framing_session::{CONTENT_START, Event, Frame, MESSAGE_LIMIT, Session, Stepp
 // The payload of a piece: past the nine bytes of its header.
 const PAYLOAD_START: usize = 16393;
 
-fn is_part(message: Option<usize>) -> bool
-    ensures { result ≡ is_part message }
-{
-    match message {
-        None => false,
-        Some(_) => true,
-    }
-}
-
 // A refusal throws the unfinished message away.
 pub fn refuses(fault: Fault, frame: Frame, message: Option<usize>) -> Stepped
     ensures { result ≡ refusing fault frame message }
 {
-    let discarded = is_part(message);
+    let discarded = message.is_some();
     Stepped {
         event: Event::Refused { fault, discarded },
         session: Session {
@@ -56,13 +47,7 @@ fn copies(store: &mut [u8], at: usize, n: usize)
     requires { (at + n ≤ content_start) × (content_start + 9 + n ≤ length store.old) }
     ensures { store.new ≡ sets store.old at (take n (drop (content_start + 9) store.old)) }
 {
-    let mut i = 0;
-    while i < n {
-        let to = at + i;
-        let from = PAYLOAD_START + i;
-        store[to] = store[from];
-        i += 1;
-    }
+    store.copy_within(PAYLOAD_START..PAYLOAD_START + n, at);
 }
 
 // The answer to a piece: the message is finished at this length, or goes on.
@@ -89,13 +74,13 @@ fn joins(last: bool, discarded: bool, length: usize) -> Stepped
 
 // A piece whose payload is the n bytes after the header.
 fn pieces(first: bool, last: bool, n: usize, message: Option<usize>, store: &mut [u8]) -> Stepped
-    requires { (lib.ListN.length store.old ≡ store_length) × ((n + 11 ≤ content_limit) × (message_length message ≤ message_limit)) }
+    requires { Legal (inside_of (n + 11) message) store.old }
     ensures { keeps
         (rule_pieces first last (take n (drop (content_start + 9) store.old)) (message_of message store.old)) store.old
         ≡ gives result store.new }
 {
     if first {
-        let discarded = is_part(message);
+        let discarded = message.is_some();
         copies(store, 0, n);
         return joins(last, discarded, n);
     }
@@ -114,17 +99,17 @@ fn pieces(first: bool, last: bool, n: usize, message: Option<usize>, store: &mut
 
 // EOF in a frame that has no fault.
 fn ends(length: usize, message: Option<usize>, store: &mut [u8]) -> Stepped
-    requires { (lib.ListN.length store.old ≡ store_length) × ((length ≤ content_limit) × (message_length message ≤ message_limit)) }
+    requires { Legal (inside_of length message) store.old }
     ensures { keeps (rule_ends (content_in length store.old) (message_of message store.old)) store.old
         ≡ gives result store.new }
 {
     let end = CONTENT_START + length;
     let content = framing_content::content_of(&store[CONTENT_START..end]);
     match content {
-        Content::Refused { fault } => refuses(fault, Frame::Outside, message),
-        Content::Request => keep_alive(Event::Request, message),
-        Content::Response => keep_alive(Event::Response, message),
-        Content::Piece { first, last } => {
+        Err(fault) => refuses(fault, Frame::Outside, message),
+        Ok(Content::Request) => keep_alive(Event::Request, message),
+        Ok(Content::Response) => keep_alive(Event::Response, message),
+        Ok(Content::Piece { first, last }) => {
             let n = length - 11;
             pieces(first, last, n, message, store)
         }

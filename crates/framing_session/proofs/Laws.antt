@@ -18,7 +18,8 @@ use Rattle.framing_session.specs.declared.Event.TheVariants as ev
 use Rattle.framing_content.specs.declared.Fault.{Fault}
 use Rattle.framing_content.specs.declared.Fault.TheVariants.{Cut, Byte, Long, Escape, Short, Crc, Header, Flags, Dtd, Orphan, Big}
 use Rattle.framing_content.specs.declared.Content.{Content}
-use Rattle.framing_content.specs.declared.Content.TheVariants.{Refused, Request, Response, Piece}
+use Rattle.framing_content.specs.declared.Content.TheVariants.{Request, Response, Piece}
+use Rattle.std.specs.Prelude.{Result, Ok, Err}
 use Rattle.framing_session.specs.declared.Frame.{Frame}
 use Rattle.framing_session.specs.declared.Frame.TheVariants.{Outside, Stray, Inside, Escaped, BadByte, TooLong}
 use Rattle.framing_session.specs.declared.Session.{Session}
@@ -193,11 +194,11 @@ module _ (t : List ℕ) (room : length t ≡ store_length) where
 
 -- ---- a piece has its header and checksum whole
 
-NotPiece : Content → Type 0
-NotPiece (Refused f) = Unit {0}
-NotPiece Request = Unit {0}
-NotPiece Response = Unit {0}
-NotPiece (Piece f l) = ⊥
+NotPiece : Result Content Fault → Type 0
+NotPiece (Err f) = Unit {0}
+NotPiece (Ok Request) = Unit {0}
+NotPiece (Ok Response) = Unit {0}
+NotPiece (Ok (Piece f l)) = ⊥
 
 no-piece : (xs : List ℕ) → length xs < 11 → NotPiece (content_of xs)
 unfolding content_of body_of command_of packet_of NotPiece
@@ -216,7 +217,7 @@ no-piece xs h =
     (λ t. tt)))
     (λ t. tt)) (λ t. tt)) (λ t. tt)) (λ t. tt))
 
-pub piece-long : (xs : List ℕ) (first last : Bool) → content_of xs ≡ Piece first last → 11 ≤ length xs
+pub piece-long : (xs : List ℕ) (first last : Bool) → content_of xs ≡ Ok (Piece first last) → 11 ≤ length xs
 unfolding NotPiece
 piece-long xs first last e = go (leb 11 (length xs)) refl
   where
@@ -374,11 +375,11 @@ within-pieces false last p (part xs) hp hm =
     (λ t. within-joins last false (xs ++ p) (simp length-append (leb-true (length xs + length p) message_limit t)))
     (λ t. within-refuses (part xs) hm Big outside (omega arith))
 
-within-reads : (c : Content) (p : List ℕ) (m : Message) → length p ≤ content_limit → length (held m []) ≤ message_limit → Within (reads c p m)
-within-reads (Refused f) p m hp hm = within-refuses m hm f outside (omega arith)
-within-reads Request p m hp hm = within-makes m hm outside 4 (omega arith)
-within-reads Response p m hp hm = within-makes m hm outside 5 (omega arith)
-within-reads (Piece first last) p m hp hm = within-pieces first last p m hp hm
+within-reads : (c : Result Content Fault) (p : List ℕ) (m : Message) → length p ≤ content_limit → length (held m []) ≤ message_limit → Within (reads c p m)
+within-reads (Err f) p m hp hm = within-refuses m hm f outside (omega arith)
+within-reads (Ok Request) p m hp hm = within-makes m hm outside 4 (omega arith)
+within-reads (Ok Response) p m hp hm = within-makes m hm outside 5 (omega arith)
+within-reads (Ok (Piece first last)) p m hp hm = within-pieces first last p m hp hm
 
 within-place : (p : Place) (m : Message) (b : ℕ) → length (content p) ≤ content_limit → length (held m []) ≤ message_limit → Within (in_place p m b)
 unfolding in_place ends

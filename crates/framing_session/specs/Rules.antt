@@ -1,11 +1,11 @@
 -- The rules of the stream, byte by byte (document 01, "Framing"). They know no chunk, no session and no store. A name stands before its use: pieces and
 -- messages, then frames, then the stream.
-use Rattle.std.specs.Prelude.{ℕ, ◌+◌, Bool, true, false, List, [], ◌∷◌, ◌++◌, leb, ltb, eqb, length}
+use Rattle.std.specs.Prelude.{ℕ, ◌+◌, Bool, true, false, List, [], ◌∷◌, ◌++◌, leb, ltb, eqb, length, Result, Ok, Err}
 use Rattle.std.specs.Int.Bits.{bit_xor}
 use Rattle.framing_content.specs.declared.Fault.{Fault}
 use Rattle.framing_content.specs.declared.Fault.TheVariants.{Stray, Cut, Byte, Long, Escape, Orphan, Big}
 use Rattle.framing_content.specs.declared.Content.{Content}
-use Rattle.framing_content.specs.declared.Content.TheVariants.{Refused, Request, Response, Piece}
+use Rattle.framing_content.specs.declared.Content.TheVariants.{Request, Response, Piece}
 use Rattle.framing_content.specs.Content.{content_of, payload}
 use Rattle.base_choices.specs.Choices.{pick}
 use Rattle.framing_content.specs.Numbers.{BOF, EOF, CE, content_limit, message_limit, number}
@@ -79,11 +79,11 @@ pieces false last p (part xs) =
     pick (leb (length xs + length p) message_limit) (joins last false (xs ++ p)) (refuses Big outside (part xs))
 
 -- "A keep-alive disturbs nothing."
-abbrev pub reads : Content → List ℕ → Message → Step
-reads (Refused f) p m = refuses f outside m
-reads Request p m = makes outside m 4 false []
-reads Response p m = makes outside m 5 false []
-reads (Piece first last) p m = pieces first last p m
+abbrev pub reads : Result Content Fault → List ℕ → Message → Step
+reads (Err f) p m = refuses f outside m
+reads (Ok Request) p m = makes outside m 4 false []
+reads (Ok Response) p m = makes outside m 5 false []
+reads (Ok (Piece first last)) p m = pieces first last p m
 
 -- EOF ends a frame that has no fault: what its content is decides.
 unfoldable pub ends : List ℕ → Message → Step

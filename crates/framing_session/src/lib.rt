@@ -83,12 +83,11 @@ pub fn frame_length(frame: Frame) -> usize
     ensures { result ≡ frame_length frame }
 {
     match frame {
-        Frame::Outside => 0,
-        Frame::Stray => 0,
-        Frame::Inside { length } => length,
-        Frame::Escaped { length } => length,
-        Frame::BadByte { length } => length,
-        Frame::TooLong { length } => length,
+        Frame::Outside | Frame::Stray => 0,
+        Frame::Inside { length }
+        | Frame::Escaped { length }
+        | Frame::BadByte { length }
+        | Frame::TooLong { length } => length,
     }
 }
 
@@ -96,10 +95,7 @@ pub fn frame_length(frame: Frame) -> usize
 pub fn message_length(message: Option<usize>) -> usize
     ensures { result ≡ message_length message }
 {
-    match message {
-        None => 0,
-        Some(length) => length,
-    }
+    message.unwrap_or(0)
 }
 
 fn rebuilt_frame(frame: Frame) -> Frame
@@ -115,25 +111,14 @@ fn rebuilt_frame(frame: Frame) -> Frame
     }
 }
 
-fn rebuilt_message(message: Option<usize>) -> Option<usize>
-    ensures { result ≡ message }
-{
-    match message {
-        None => None,
-        Some(length) => Some(length),
-    }
-}
-
 // The same session, built from its cases and lengths. A loop that hands on a session as it came copies the unused bytes of its enums at each turn, and
 // waits for them; one that hands on a rebuilt one copies none.
 pub fn rebuilt(session: Session) -> Session
     ensures { result ≡ session }
 {
-    let frame = session.frame;
-    let message = session.message;
     Session {
-        frame: rebuilt_frame(frame),
-        message: rebuilt_message(message),
+        frame: rebuilt_frame(session.frame),
+        message: session.message,
     }
 }
 
@@ -141,13 +126,7 @@ pub fn rebuilt(session: Session) -> Session
 pub fn is_legal(session: Session, n: usize) -> bool
     ensures { result ≡ legal session n }
 {
-    if n != STORE_LENGTH {
-        return false;
-    }
-    let frame = session.frame;
-    let message = session.message;
-    if CONTENT_LIMIT < frame_length(frame) {
-        return false;
-    }
-    message_length(message) <= MESSAGE_LIMIT
+    n == STORE_LENGTH
+        && frame_length(session.frame) <= CONTENT_LIMIT
+        && message_length(session.message) <= MESSAGE_LIMIT
 }

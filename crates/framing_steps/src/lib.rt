@@ -1,12 +1,10 @@
 // What one byte does to a session and its store.
 #![tactic(auto)]
 
-ghost use Rattle.std.specs.Prelude.{◌≡◌, ◌+◌, ◌≤◌};
-ghost use lib.ListN.{length};
-ghost use Rattle.framing_content.specs.Numbers.{content_limit, message_limit, store_length};
+ghost use Rattle.std.specs.Prelude.{◌≡◌};
 ghost use Rattle.framing_session.specs.Rules.{adds as rule_adds, in_place, step as rule_step, inside as inside_place, escaped as escaped_place};
-ghost use Rattle.framing_session.specs.Session.{frame_length, message_length, content_in, message_of, state_of, keeps};
-ghost use Rattle.framing_session.specs.Steps.{gives, going, past_fault, unless_setup};
+ghost use Rattle.framing_session.specs.Session.{Legal, content_in, message_of, state_of, keeps};
+ghost use Rattle.framing_session.specs.Steps.{gives, going, past_fault, unless_setup, inside_of};
 
 use framing_content::Fault;
 use framing_session::{BOF, CE, CONTENT_LIMIT, CONTENT_START, EOF, Event, Frame, Session, Stepped};
@@ -23,7 +21,7 @@ fn goes(frame: Frame, message: Option<usize>) -> Stepped
 
 // A byte of content.
 fn adds(length: usize, x: u8, message: Option<usize>, store: &mut [u8]) -> Stepped
-    requires { (lib.ListN.length store.old ≡ store_length) × ((length ≤ content_limit) × (message_length message ≤ message_limit)) }
+    requires { Legal (inside_of length message) store.old }
     ensures { keeps (rule_adds (content_in length store.old) x (message_of message store.old)) store.old
         ≡ gives result store.new }
 {
@@ -38,7 +36,7 @@ fn adds(length: usize, x: u8, message: Option<usize>, store: &mut [u8]) -> Stepp
 
 // In a frame, no escape begun, no fault.
 fn inside(length: usize, b: u8, message: Option<usize>, store: &mut [u8]) -> Stepped
-    requires { (lib.ListN.length store.old ≡ store_length) × ((length ≤ content_limit) × (message_length message ≤ message_limit)) }
+    requires { Legal (inside_of length message) store.old }
     ensures { keeps (in_place (inside_place (content_in length store.old)) (message_of message store.old) b) store.old
         ≡ gives result store.new }
 {
@@ -62,7 +60,7 @@ fn inside(length: usize, b: u8, message: Option<usize>, store: &mut [u8]) -> Ste
 
 // In a frame, after CE.
 fn escaped(length: usize, b: u8, message: Option<usize>, store: &mut [u8]) -> Stepped
-    requires { (lib.ListN.length store.old ≡ store_length) × ((length ≤ content_limit) × (message_length message ≤ message_limit)) }
+    requires { Legal (inside_of length message) store.old }
     ensures { keeps (in_place (escaped_place (content_in length store.old)) (message_of message store.old) b) store.old
         ≡ gives result store.new }
 {
@@ -96,7 +94,7 @@ fn faulted(fault: Fault, frame: Frame, b: u8, message: Option<usize>) -> Stepped
 
 // A byte, with a legal session and store.
 fn takes(session: Session, b: u8, store: &mut [u8]) -> Stepped
-    requires { (length store.old ≡ store_length) × ((frame_length session.frame ≤ content_limit) × (message_length session.message ≤ message_limit)) }
+    requires { Legal session store.old }
     ensures { keeps (rule_step (state_of session store.old) b) store.old ≡ gives result store.new }
 {
     let frame = session.frame;

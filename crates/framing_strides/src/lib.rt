@@ -1,7 +1,7 @@
 // What bytes do that make no event, taken many at a time: content, the rest of a frame that has a fault, a stray run.
 #![tactic(auto)]
 
-ghost use Rattle.std.specs.Prelude.{◌≡◌, ℕ, ◌≤◌, List};
+ghost use Rattle.std.specs.Prelude.{◌≡◌, ◌≢◌, ℕ, ◌≤◌, ◌<◌, List, slice_index};
 ghost use lib.ListN.{length};
 ghost use Rattle.framing_session.specs.Session.{Legal};
 ghost use Rattle.framing_session.specs.Steps.{Reaches, Stays};
@@ -42,6 +42,7 @@ fn fills(
 {
     let mut n = length;
     let mut i = from;
+    // Counted: `while let` over slice patterns took full packets from 2.07 of plain's speed to 1.59, under its floor.
     while i < chunk.len() {
         let b = chunk[i];
         if CONTENT_LIMIT <= n {
@@ -75,23 +76,23 @@ fn fills(
     arrives(n, message, i)
 }
 
+// How many bytes stand before the first that is BOF or one other.
+fn run_of(other: u8, bytes: &[u8]) -> usize
+    ensures inside { result ≤ length bytes.now }
+    ensures apart { (k : ℕ) → k < result → (slice_index bytes.now k ≢ 254) × (slice_index bytes.now k ≢ other) }
+{
+    bytes
+        .iter()
+        .position(|b| *b == BOF || *b == other)
+        .unwrap_or(bytes.len())
+}
+
 // Passes over bytes that change nothing: all but BOF and one other.
 fn skips(session: Session, other: u8, from: usize, chunk: &[u8]) -> usize
     requires { Stays session other × (from ≤ length chunk.now) }
     ensures { (t : List ℕ) → Legal session t → Reaches chunk.now from session t result session t }
 {
-    let mut at = from;
-    while at < chunk.len() {
-        let b = chunk[at];
-        if b == BOF {
-            return at;
-        }
-        if b == other {
-            return at;
-        }
-        at += 1;
-    }
-    at
+    from + run_of(other, &chunk[from..])
 }
 
 // Goes on as far as no event can be made, with a legal session and store.

@@ -1,13 +1,13 @@
 -- Laws of the definitions, at plain variables; and that words and sessions are each other's.
 use Rattle.std.specs.Prelude.{Option, Some, None}
-use Prim.Native.Nat.{ℕ, zero, suc, ◌≤◌}
-use mathlib.Core.Path.{◌≡◌, refl, ◌∙◌}
+use Prim.Native.Nat.{ℕ}
+use mathlib.Core.Path.{◌≡◌, refl}
 use mathlib.Core.Bool.{Bool, true, false}
-use mathlib.Core.List.{List, [], ◌∷◌}
+use mathlib.Core.List.{List}
 use native.Mathlib.Omega.{arith}
 use borrow.Author.Tests.{eqb-true, eq-eqb}
 use lib.Dec.{eqb}
-use lib.ListN.{length, get_or, set}
+use lib.ListN.{length, get_or}
 use Rattle.framing_session.specs.declared.Frame.{Frame}
 use Rattle.framing_session.specs.declared.Frame.TheVariants.{Outside, Stray, Inside, Escaped, BadByte, TooLong}
 use Rattle.framing_session.specs.declared.Session.{Session}
@@ -67,24 +67,6 @@ session-length ws h = by (eqb (length ws) 4) refl h
 
 -- ---- words of a lent slice
 
-pub word-past : (ws : List ℕ) (i : ℕ) → length ws ≤ i → 0 ≡ get_or ws i 0
-word-past [] i h = refl
-word-past (w ∷ ws) zero h = absurd (omega arith)
-word-past (w ∷ ws) (suc i) h = word-past ws i (omega arith)
-
-set-four : (l : List ℕ) (a b c d : ℕ) → length l ≡ 4 → set (set (set (set l 0 a) 1 b) 2 c) 3 d ≡ a ∷ b ∷ c ∷ d ∷ []
-set-four (x ∷ y ∷ z ∷ w ∷ []) a b c d h = refl
-set-four [] a b c d h = absurd (omega arith)
-set-four (x ∷ []) a b c d h = absurd (omega arith)
-set-four (x ∷ y ∷ []) a b c d h = absurd (omega arith)
-set-four (x ∷ y ∷ z ∷ []) a b c d h = absurd (omega arith)
-set-four (x ∷ y ∷ z ∷ w ∷ v ∷ l) a b c d h = absurd (omega arith)
-
 pub put_four : (ws : List ℕ) (s : Session) → length ws ≡ 4 → session_put ws s ≡ words_of s
 unfolding session_put
 put_four ws s h = rw (eq-eqb _ _ h)
-
-pub put_as : (ws : List ℕ) (s : Session) {a b c d : ℕ} → length ws ≡ 4
-    → a ≡ place_word s.frame → b ≡ frame_length s.frame → c ≡ open_word s.message → d ≡ message_length s.message
-    → set (set (set (set ws 0 a) 1 b) 2 c) 3 d ≡ session_put ws s
-put_as ws s h i j k l = set-four ws _ _ _ _ h ∙ (rw (i, j, k, l, put_four ws s h))

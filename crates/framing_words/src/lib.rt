@@ -4,7 +4,6 @@
 ghost use Rattle.std.specs.Prelude.{◌≡◌, get_or};
 ghost use Rattle.framing_words.specs.Words.{place_word, open_word, frame_at, pending_at, session_at, is_frame, is_pending, is_session, session_put};
 
-use base_casts::{index, word};
 use framing_session::{Frame, Session};
 
 fn place_word(frame: Frame) -> u64
@@ -13,48 +12,37 @@ fn place_word(frame: Frame) -> u64
     match frame {
         Frame::Outside => 0,
         Frame::Stray => 1,
-        Frame::Inside { length: _ } => 2,
-        Frame::Escaped { length: _ } => 3,
-        Frame::BadByte { length: _ } => 4,
-        Frame::TooLong { length: _ } => 5,
+        Frame::Inside { .. } => 2,
+        Frame::Escaped { .. } => 3,
+        Frame::BadByte { .. } => 4,
+        Frame::TooLong { .. } => 5,
     }
 }
 
 fn open_word(message: Option<usize>) -> u64
     ensures { result ≡ open_word message }
 {
-    match message {
-        None => 0,
-        Some(_) => 1,
-    }
+    u64::from(message.is_some())
 }
 
 // A word of a lent slice, 0 past its end.
 pub fn word_at(words: &[u64], i: usize) -> u64
     ensures { result ≡ get_or words.now i 0 }
 {
-    if i < words.len() {
-        return words[i];
-    }
-    0
+    words.get(i).copied().unwrap_or(0)
 }
 
 #[tactic(auto, unfolding(crate::specs::Words::frame_at))]
 fn frame_at(place: u64, length: usize) -> Frame
     ensures { result ≡ frame_at place length }
 {
-    if place == 0 {
-        Frame::Outside
-    } else if place == 1 {
-        Frame::Stray
-    } else if place == 2 {
-        Frame::Inside { length }
-    } else if place == 3 {
-        Frame::Escaped { length }
-    } else if place == 4 {
-        Frame::BadByte { length }
-    } else {
-        Frame::TooLong { length }
+    match place {
+        0 => Frame::Outside,
+        1 => Frame::Stray,
+        2 => Frame::Inside { length },
+        3 => Frame::Escaped { length },
+        4 => Frame::BadByte { length },
+        _ => Frame::TooLong { length },
     }
 }
 
@@ -69,10 +57,7 @@ fn pending_at(pending: u64, length: usize) -> Option<usize>
 fn is_frame(place: u64, length: u64) -> bool
     ensures { result ≡ is_frame place length }
 {
-    if place < 2 {
-        return length == 0;
-    }
-    place <= 5
+    if place < 2 { length == 0 } else { place <= 5 }
 }
 
 #[tactic(auto, unfolding(crate::specs::Words::is_pending))]
@@ -80,22 +65,21 @@ fn is_pending(pending: u64, length: u64) -> bool
     ensures { result ≡ is_pending pending length }
 {
     if pending == 0 {
-        return length == 0;
+        length == 0
+    } else {
+        pending == 1
     }
-    pending == 1
 }
 
 // Whether the words are a session's.
+#[tactic(auto, unfolding(crate::specs::Words::is_session))]
 pub fn is_session(words: &[u64]) -> bool
     ensures { result ≡ is_session words.now }
 {
-    if words.len() != 4 {
-        return false;
+    match words {
+        [place, n, pending, m] => is_frame(*place, *n) && is_pending(*pending, *m),
+        _ => false,
     }
-    if is_frame(words[0], words[1]) {
-        return is_pending(words[2], words[3]);
-    }
-    false
 }
 
 // The session that the words are; a word that is not there counts as 0.
@@ -103,22 +87,24 @@ pub fn session_at(words: &[u64]) -> Session
     ensures { result ≡ session_at words.now }
 {
     Session {
-        frame: frame_at(word_at(words, 0), index(word_at(words, 1))),
-        message: pending_at(word_at(words, 2), index(word_at(words, 3))),
+        frame: frame_at(word_at(words, 0), word_at(words, 1) as usize),
+        message: pending_at(word_at(words, 2), word_at(words, 3) as usize),
     }
 }
 
 // Any slice but one of four words stays as it was.
+#[tactic(auto, unfolding(crate::specs::Words::session_put))]
 pub fn put_session(words: &mut [u64], session: Session)
     ensures { words.new ≡ session_put words.old session }
 {
-    if words.len() != 4 {
-        return;
-    }
     let frame = session.frame;
     let message = session.message;
-    words[0] = place_word(frame);
-    words[1] = word(framing_session::frame_length(frame));
-    words[2] = open_word(message);
-    words[3] = word(framing_session::message_length(message));
+    if words.len() == 4 {
+        words.copy_from_slice(&[
+            place_word(frame),
+            framing_session::frame_length(frame) as u64,
+            open_word(message),
+            framing_session::message_length(message) as u64,
+        ]);
+    }
 }

@@ -33,24 +33,10 @@ fn emit_slice(out: &mut [u8], at: usize, s: &[u8]) -> usize
     ensures upper_bound { result ≤ at + 2 * length s.now }
 {
     let mut next = at;
-    let mut i = 0;
-    while i < s.len() {
-        next = emit_escaped(out, next, s[i]);
-        i += 1;
+    for b in s {
+        next = emit_escaped(out, next, *b);
     }
     next
-}
-
-fn low(n: u16) -> u8
-    ensures { result ≡ n % 256 }
-{
-    (n % 256) as u8
-}
-
-fn high(n: u16) -> u8
-    ensures { result ≡ n / 256 }
-{
-    (n / 256) as u8
 }
 
 // A frame whose content is in two parts.
@@ -60,24 +46,19 @@ fn emit_frame(out: &mut [u8], at: usize, head: &[u8], rest: &[u8]) -> usize
     ensures upper_bound { result ≤ at + 2050 }
 {
     let crc = 0xffff - framing_checksum::crc_from(framing_checksum::crc_from(0xffff, head), rest);
+    let [low, high] = crc.to_le_bytes();
     let opened = put(out, at, BOF);
     let headed = emit_slice(out, opened, head);
     let filled = emit_slice(out, headed, rest);
-    let first = emit_escaped(out, filled, low(crc));
-    let second = emit_escaped(out, first, high(crc));
+    let first = emit_escaped(out, filled, low);
+    let second = emit_escaped(out, first, high);
     put(out, second, EOF)
-}
-
-fn bit(on: bool, value: u8) -> u8
-    ensures { result ≡ pick on value 0 }
-{
-    if on { value } else { 0 }
 }
 
 fn packet_flags(first: bool, last: bool, length: usize) -> u8
     ensures { result ≡ flags first last length }
 {
-    bit(first, 0x80) + bit(last, 0x40) + bit(length == 0, 0x20)
+    0x80 * u8::from(first) + 0x40 * u8::from(last) + 0x20 * u8::from(length == 0)
 }
 
 fn emit_packet(out: &mut [u8], at: usize, first: bool, last: bool, payload: &[u8]) -> usize
@@ -95,15 +76,15 @@ fn emit_message(out: &mut [u8], message: &[u8]) -> usize
     ensures { wrote out.old 0 (in_packets message.now) ≡ record { next = result; output = out.new } }
 {
     let mut at = 0;
-    let mut from = 0;
     let mut first = true;
-    while PAYLOAD_LIMIT < message.len() - from {
-        let to = from + PAYLOAD_LIMIT;
-        at = emit_packet(out, at, first, false, &message[from..to]);
-        from = to;
+    let mut rest = message;
+    while PAYLOAD_LIMIT < rest.len() {
+        let (payload, later) = rest.split_at(PAYLOAD_LIMIT);
+        at = emit_packet(out, at, first, false, payload);
         first = false;
+        rest = later;
     }
-    emit_packet(out, at, first, true, &message[from..])
+    emit_packet(out, at, first, true, rest)
 }
 
 // A frame around a body: content without its CRC.

@@ -9,7 +9,9 @@ use lib.Dec.{leb, eqb}
 use Rattle.base_choices.specs.Choices.{pick}
 use Rattle.framing_content.specs.declared.Fault.TheVariants.{Big}
 use Rattle.framing_content.specs.declared.Content.{Content}
-use Rattle.framing_content.specs.declared.Content.TheVariants.{Refused, Request, Response, Piece}
+use Rattle.framing_content.specs.declared.Fault.{Fault}
+use Rattle.framing_content.specs.declared.Content.TheVariants.{Request, Response, Piece}
+use Rattle.std.specs.Prelude.{Result, Ok, Err}
 use Rattle.framing_content.specs.Content.{content_of, payload}
 use Rattle.framing_content.specs.Numbers.{message_limit}
 use Rattle.framing.specs.Offers.{joined}
@@ -45,11 +47,11 @@ pieces-out false last' p (part xs) = either (leb (length xs + length p) message_
     either true = joins-out last' false (xs ++ p)
     either false = refl
 
-reads-out : (c : Content) (p : List ℕ) (m : Message) → Out (reads c p m)
-reads-out (Refused f) p m = refl
-reads-out Request p m = refl
-reads-out Response p m = refl
-reads-out (Piece first last') p m = pieces-out first last' p m
+reads-out : (c : Result Content Fault) (p : List ℕ) (m : Message) → Out (reads c p m)
+reads-out (Err f) p m = refl
+reads-out (Ok Request) p m = refl
+reads-out (Ok Response) p m = refl
+reads-out (Ok (Piece first last')) p m = pieces-out first last' p m
 
 ends-out : (xs : List ℕ) (m : Message) → Out (ends xs m)
 unfolding ends

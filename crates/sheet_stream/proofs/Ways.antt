@@ -12,7 +12,8 @@ use lib.ListN.{length}
 use Rattle.base_choices.specs.Choices.{pick}
 use Rattle.base_choices.proofs.Laws.{pick-by}
 use Rattle.framing_content.specs.declared.Content.{Content}
-use Rattle.framing_content.specs.declared.Content.TheVariants.{Refused, Request, Response, Piece}
+use Rattle.framing_content.specs.declared.Content.TheVariants.{Request, Response, Piece}
+use Rattle.std.specs.Prelude.{Result, Ok, Err}
 use Rattle.framing_content.specs.declared.Fault.{Fault}
 use Rattle.framing_content.specs.declared.Fault.TheVariants.{Stray, Cut, Byte, Long, Escape, Orphan, Big}
 use Rattle.framing_content.specs.Content.{content_of, payload}
@@ -62,11 +63,11 @@ w-pieces false last p none = w-refuses none Orphan outside
 w-pieces false last p (part xs) =
     pick-by (Way (part xs)) (leb (length xs + length p) message_limit) (λ t. w-joins (part xs) last false (xs ++ p)) (λ t. w-refuses (part xs) Big outside)
 
-w-reads : (c : Content) (p : List ℕ) (m : Message) → Way m (reads c p m)
-w-reads (Refused f) p m = w-refuses m f outside
-w-reads Request p m = w-makes m outside 4
-w-reads Response p m = w-makes m outside 5
-w-reads (Piece first last) p m = w-pieces first last p m
+w-reads : (c : Result Content Fault) (p : List ℕ) (m : Message) → Way m (reads c p m)
+w-reads (Err f) p m = w-refuses m f outside
+w-reads (Ok Request) p m = w-makes m outside 4
+w-reads (Ok Response) p m = w-makes m outside 5
+w-reads (Ok (Piece first last)) p m = w-pieces first last p m
 
 w-place : (p : Place) (m : Message) (b : ℕ) → Way m (in_place p m b)
 unfolding in_place ends

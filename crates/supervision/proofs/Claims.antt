@@ -1,5 +1,5 @@
 -- What the rules come to, for every link and every showing: requests are answered, a silence asks once, dead is for good, an event counts first.
-use Rattle.std.proofs.Common.{◌≡◌, ℕ, ◌+◌, ◌≤◌, false, List, [], ◌∷◌, map, refl, ◌∙◌, arith}
+use Rattle.std.proofs.Common.{◌≡◌, ℕ, ◌+◌, ◌≤◌, false, List, [], ◌∷◌, map, refl, ◌∙◌, arith, Ok}
 use Rattle.framing_content.specs.declared.Content.TheVariants as content
 use Rattle.framing_session.specs.declared.Event.{Event as SessionEvent}
 use Rattle.framing_session.specs.declared.Event.TheVariants as ev
@@ -40,7 +40,7 @@ request-shown e t h = rw (number_same e t ∙ h)
     number_same (ev.Refused f d) t = refl
 
 -- A frame whose content is a request, at its end: with any unfinished message it makes event 4 and leaves that message as it was.
-pub request-unfinished : (xs : List ℕ) (m : Message) → content_of xs ≡ content.Request
+pub request-unfinished : (xs : List ℕ) (m : Message) → content_of xs ≡ Ok content.Request
     → ((byte (record { place = inside xs; message = m }) EOF).said.number ≡ 4) × ((byte (record { place = inside xs; message = m }) EOF).next.message ≡ m)
 unfolding byte in_place ends
 request-unfinished xs m e = (rw e, rw e)

@@ -57,7 +57,7 @@ pub fn start(tick: u32) -> Link
 fn gap(since: u32, tick: u32) -> u32
     ensures { result ≡ elapsed since tick }
 {
-    std::num::wrapping_sub_u32(tick, since)
+    tick.wrapping_sub(since)
 }
 
 fn gives(answer: Answer, link: Link) -> Shown
@@ -99,8 +99,7 @@ fn hear(link: Link, tick: u32) -> Link
     ensures { result ≡ heard link tick }
 {
     match link {
-        Link::Silent { since: _ } => Link::Silent { since: tick },
-        Link::Asked { since: _ } => Link::Silent { since: tick },
+        Link::Silent { .. } | Link::Asked { .. } => Link::Silent { since: tick },
         Link::Dead => Link::Dead,
     }
 }
@@ -127,19 +126,11 @@ pub fn happening(event: Event) -> Happened
     ensures { result ≡ happened_by (said_by event []).number }
 {
     match event {
-        Event::More => Happened::Nothing,
-        Event::Setup => Happened::Nothing,
-        Event::Piece { discarded: _ } => Happened::Event,
-        Event::Message {
-            length: _,
-            discarded: _,
-        } => Happened::Event,
+        Event::More | Event::Setup => Happened::Nothing,
         Event::Request => Happened::Request,
-        Event::Response => Happened::Event,
-        Event::Refused {
-            fault: _,
-            discarded: _,
-        } => Happened::Event,
+        Event::Piece { .. } | Event::Message { .. } | Event::Response | Event::Refused { .. } => {
+            Happened::Event
+        }
     }
 }
 

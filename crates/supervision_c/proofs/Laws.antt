@@ -2,11 +2,11 @@
 use Prim.Native.Nat.{ℕ, ◌<◌}
 use mathlib.Core.Path.{◌≡◌, refl}
 use mathlib.Core.Bool.{Bool, true, false}
-use mathlib.Core.List.{List, [], ◌∷◌}
+use mathlib.Core.List.{List}
 use native.Mathlib.Omega.{arith}
 use borrow.Author.Tests.{eqb-true, ltb-true, lt-ltb}
 use lib.Dec.{eqb, ltb}
-use lib.ListN.{length, get_or, set}
+use lib.ListN.{length, get_or}
 use Rattle.base_choices.proofs.Laws.{pick-by}
 use Rattle.supervision.specs.declared.Happened.{Happened}
 use Rattle.supervision.specs.declared.Link.{Link}
@@ -48,12 +48,6 @@ link-length ws = pick-by (λ (b : Bool). b ≡ true → length ws ≡ 2) (eqb (l
 pub link-tick : (ws : List ℕ) → is_link ws ≡ true → get_or ws 1 0 < wrap
 unfolding is_link
 link-tick ws = pick-by (λ (b : Bool). b ≡ true → get_or ws 1 0 < wrap) (eqb (length ws) 2) (λ e h. pair-tick _ _ h) (λ e h. absurd (never h))
-
-pub set-two : (ws : List ℕ) (a b : ℕ) → length ws ≡ 2 → set (set ws 0 a) 1 b ≡ a ∷ b ∷ []
-set-two [] a b h = absurd (omega arith)
-set-two (x ∷ []) a b h = absurd (omega arith)
-set-two (x ∷ y ∷ []) a b h = refl
-set-two (x ∷ y ∷ z ∷ zs) a b h = absurd (omega arith)
 
 -- ---- calls
 

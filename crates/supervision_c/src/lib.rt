@@ -15,15 +15,14 @@ use supervision::{Answer, Happened};
 fn happened(number: u64) -> Happened
     ensures { result ≡ happened_by number }
 {
-    if number < 2 {
-        return Happened::Nothing;
+    match number {
+        0 | 1 => Happened::Nothing,
+        4 => Happened::Request,
+        _ => Happened::Event,
     }
-    if number == 4 {
-        return Happened::Request;
-    }
-    Happened::Event
 }
 
+// The numbers are those of include/supervision.h.
 fn number_of(answer: Answer) -> u64
     ensures { result ≡ number_of answer }
 {
@@ -52,15 +51,12 @@ pub extern "C" fn supervision_start(link: &mut [u64], tick: u32) -> u64
 pub extern "C" fn supervision_show(link: &mut [u64], tick: u32, number: u64) -> u64
     ensures { calls link.old tick number ≡ record { number = result; link = link.new } }
 {
-    if words::is_link(link) {
-        let before = words::link_at(link);
-        let shown = supervision::show(before, tick, happened(number));
-        let answer = shown.answer;
-        let next = shown.link;
-        words::put_link(link, next);
-        return number_of(answer);
-    }
-    1
+    let Some(before) = words::link_in(link) else {
+        return 1;
+    };
+    let shown = supervision::show(before, tick, happened(number));
+    words::put_link(link, shown.link);
+    number_of(shown.answer)
 }
 
 // The tick to show, of the latest so far and one that may be behind it.

@@ -9,7 +9,8 @@ use lib.ListN.{length}
 use Rattle.ber_integers.proofs.Radix.{Below}
 use Rattle.ber_integers.proofs.Signs.{below-take, below-drop}
 use Rattle.framing_content.specs.declared.Content.{Content}
-use Rattle.framing_content.specs.declared.Content.TheVariants.{Refused, Request, Response, Piece}
+use Rattle.framing_content.specs.declared.Content.TheVariants.{Request, Response, Piece}
+use Rattle.std.specs.Prelude.{Result, Ok, Err}
 use Rattle.framing_session.specs.declared.Event.{Event}
 use Rattle.framing_session.specs.declared.Event.TheVariants as ev
 use Rattle.framing_content.specs.declared.Fault.{Fault}
@@ -70,11 +71,11 @@ o-pieces false last p (part xs) hp hm =
     pick-by After (leb (length xs + length p) message_limit) (λ t. o-joins last false (xs ++ p) (below-append xs p hm hp))
     (λ t. o-refuses (part xs) hm Big outside tt)
 
-o-reads : (c : Content) (p : List ℕ) (m : Message) → Below 256 p → Below 256 (held m []) → After (reads c p m)
-o-reads (Refused f) p m hp hm = o-refuses m hm f outside tt
-o-reads Request p m hp hm = o-makes m hm outside 4 tt
-o-reads Response p m hp hm = o-makes m hm outside 5 tt
-o-reads (Piece first last) p m hp hm = o-pieces first last p m hp hm
+o-reads : (c : Result Content Fault) (p : List ℕ) (m : Message) → Below 256 p → Below 256 (held m []) → After (reads c p m)
+o-reads (Err f) p m hp hm = o-refuses m hm f outside tt
+o-reads (Ok Request) p m hp hm = o-makes m hm outside 4 tt
+o-reads (Ok Response) p m hp hm = o-makes m hm outside 5 tt
+o-reads (Ok (Piece first last)) p m hp hm = o-pieces first last p m hp hm
 
 o-place : (p : Place) (m : Message) (b : ℕ) → Below 256 (content p) → Below 256 (held m []) → b < 256 → After (in_place p m b)
 unfolding in_place ends

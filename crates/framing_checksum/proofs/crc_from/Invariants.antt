@@ -1,12 +1,11 @@
-use Prim.Native.Nat.{◌≤◌, ◌-◌}
 use mathlib.Core.Path.{◌≡◌}
-use lib.ListN.{length, drop}
+use lib.ListN.{length}
 use Rattle.framing_checksum.specs.Checksum.{crc_from}
 use Rattle.framing_checksum.proofs.crc_from.Given as goal
 
--- The invariant: what is left of the slice, from here, gives what the whole gives.
-abbrev pub invariant-loop-i : goal.invariant-loop-i
-invariant-loop-i l = (l.i ≤ length l.s) × (crc_from l.crc l.s ≡ crc_from l.c (drop l.i l.s))
+-- The invariant: what is left of the slice gives what the whole gives.
+abbrev pub invariant-loop-rest : goal.invariant-loop-rest
+invariant-loop-rest l = crc_from l.crc l.s ≡ crc_from l.left l.rest
 
-abbrev pub decreases-loop-i : goal.decreases-loop-i
-decreases-loop-i l = length l.s - l.i
+abbrev pub decreases-loop-rest : goal.decreases-loop-rest
+decreases-loop-rest l = length l.rest

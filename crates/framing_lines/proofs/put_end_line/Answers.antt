@@ -11,32 +11,32 @@ unfolding end_text
 returns c =
     let first : c.put_decimal-offset_end.result < last_place = omega
     (arith, c.requires, c.put_bytes-offset_at.ensures.upper_bound, c.put_decimal-offset_end.ensures.upper_bound) in
-    let second : c.put_frame-frame_end.result < last_place =
+    let second : c.put_open-frame_end.result < last_place =
     omega (
       arith,
       c.requires,
       c.put_bytes-offset_at.ensures.upper_bound,
       c.put_decimal-offset_end.ensures.upper_bound,
       c.put-frame_at.ensures.upper_bound,
-      c.put_frame-frame_end.ensures.upper_bound,
+      c.put_open-frame_end.ensures.upper_bound,
     ) in
-    let third : c.put_pending-message_end.result < last_place =
+    let third : c.put_open-message_end.result < last_place =
     omega (
       arith,
       c.requires,
       c.put_bytes-offset_at.ensures.upper_bound,
       c.put_decimal-offset_end.ensures.upper_bound,
       c.put-frame_at.ensures.upper_bound,
-      c.put_frame-frame_end.ensures.upper_bound,
+      c.put_open-frame_end.ensures.upper_bound,
       c.put-message_at.ensures.upper_bound,
-      c.put_pending-message_end.ensures.upper_bound,
+      c.put_open-message_end.ensures.upper_bound,
     ) in record {
-      session_value = wrote_then _ _ _ _ c.put_bytes-offset_at.ensures.s_value
+      session_value = rw (← c.open_length.ensures) (wrote_then _ _ _ _ c.put_bytes-offset_at.ensures.s_value
           ∙ wrote_then _ _ _ _ c.put_decimal-offset_end.ensures.n_value
           ∙ wrote_then _ _ _ _ (c.put-frame_at.ensures.b_value first)
-          ∙ wrote_then _ _ _ _ c.put_frame-frame_end.ensures.frame_value
+          ∙ wrote_then _ _ _ _ c.put_open-frame_end.ensures.size_value
           ∙ wrote_then _ _ _ _ (c.put-message_at.ensures.b_value second)
-          ∙ wrote_then _ _ _ _ c.put_pending-message_end.ensures.message_value
-          ∙ c.put.ensures.b_value third;
+          ∙ wrote_then _ _ _ _ c.put_open-message_end.ensures.size_value
+          ∙ c.put.ensures.b_value third);
       upper_bound = omega arith;
     }

@@ -6,8 +6,7 @@ use Rattle.framing_pieces.proofs.end_frame.Goals as goal
 pub ends-requires : goal.ends-requires
 ends-requires c =
     let a = c.args in
-    let l = legal-true (inside_of a.length a.message) a.store.now (sym c.is_legal.ensures ∙ c.if-is_legal.true) in
-    (l.room, (l.frame, l.message))
+    legal-true (inside_of a.length a.message) a.store.now (sym c.is_legal.ensures ∙ c.if-is_legal.true)
 
 pub returns-then-is_legal : goal.returns-then-is_legal
 unfolding unless_setup

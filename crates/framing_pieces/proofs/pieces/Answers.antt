@@ -22,9 +22,9 @@ returns-then-first c =
     let p = c.requires in
     let t = a.store.now in
     rw c.if-first.true
-    (keeps-first t p.0 a.last a.n p.1.0 a.message
+    (keeps-first t p.room a.last a.n p.frame a.message
     ∙ gives_same (sym (c.joins.ensures ∙ ap (λ (d : Bool). joining a.last d a.n)
-    c.is_part-discarded.ensures)) (sym c.copies.ensures))
+    c.is_some-discarded.ensures)) (sym c.copies.ensures))
 
 pub overflow_add-all : goal.overflow_add-all
 overflow_add-all c = omega (arith, ap message_length c.in-Some.is)
@@ -38,7 +38,7 @@ returns-then-all-gt-MESSAGE_LIMIT c =
     let e : a.message ≡ Some c.in-Some.length = c.in-Some.is in
     rw c.if-first.false
     (ap (λ (m : Option ℕ). keeps (pieces false a.last (take a.n (drop 16393 t)) (message_of m t)) t) e
-    ∙ keeps-big t p.0 a.last a.n p.1.0 c.in-Some.length (omega (arith, ap message_length e))
+    ∙ keeps-big t p.room a.last a.n p.frame c.in-Some.length (omega (arith, ap message_length e))
     c.if-all-gt-MESSAGE_LIMIT.true
     ∙ gives_same (sym c.refuses-then-all-gt-MESSAGE_LIMIT.ensures) refl)
 
@@ -51,7 +51,7 @@ returns-in-None c =
     let e : a.message ≡ None = c.in-None.is in
     rw c.if-first.false
     (ap (λ (m : Option ℕ). keeps (pieces false a.last (take a.n (drop 16393 t)) (message_of m t)) t) e
-    ∙ keeps-orphan t p.0 a.last a.n p.1.0
+    ∙ keeps-orphan t p.room a.last a.n p.frame
     ∙ gives_same (sym (c.refuses.ensures ∙ ap (refusing Orphan Outside) e)) refl)
 
 pub returns-else-all-gt-MESSAGE_LIMIT : goal.returns-else-all-gt-MESSAGE_LIMIT
@@ -64,6 +64,6 @@ returns-else-all-gt-MESSAGE_LIMIT c =
     c.in-Some.is in
     rw c.if-first.false
     (ap (λ (m : Option ℕ). keeps (pieces false a.last (take a.n (drop 16393 t)) (message_of m t)) t) e
-    ∙ keeps-later t p.0 a.last a.n p.1.0 c.in-Some.length
+    ∙ keeps-later t p.room a.last a.n p.frame c.in-Some.length
     (omega (arith, ap message_length e)) c.if-all-gt-MESSAGE_LIMIT.false
     ∙ gives_same (sym c.joins-in-Some.ensures) (sym c.copies-in-Some.ensures))

@@ -10,12 +10,12 @@ pub returns-then-length-lt-CONTENT_LIMIT : goal.returns-then-length-lt-CONTENT_L
 returns-then-length-lt-CONTENT_LIMIT c =
     let s = c.args in
     let p = c.requires in
-    keeps-adds s.store.now p.0 s.length s.x s.message p.1.0 p.1.1 c.if-length-lt-CONTENT_LIMIT.true
+    keeps-adds s.store.now p.room s.length s.x s.message p.frame p.message c.if-length-lt-CONTENT_LIMIT.true
     ∙ ap (λ (r : Stepped). gives r (set s.store.now (16384 + s.length) s.x)) (sym c.goes.ensures)
 
 pub returns : goal.returns
 returns c =
     let s = c.args in
     let p = c.requires in
-    keeps-over s.store.now p.0 s.length s.x s.message p.1.0 p.1.1 c.if-length-lt-CONTENT_LIMIT.false
+    keeps-over s.store.now p.room s.length s.x s.message p.frame p.message c.if-length-lt-CONTENT_LIMIT.false
     ∙ ap (λ (r : Stepped). gives r s.store.now) (sym c.goes-2.ensures)

@@ -18,7 +18,7 @@ returns-then-b-lt216 c =
       ne_eqb a.b 0xff (λ e. omega (arith, e, c.if-b-lt216.true)),
       lt-ltb a.b 0xd8 c.if-b-lt216.true,
     )
-    (keeps-goes t p.0 (BadByte a.length) a.message p.1.0 p.1.1 ∙ gives_same (sym c.goes.ensures) refl)
+    (keeps-goes t p.room (BadByte a.length) a.message p.frame p.message ∙ gives_same (sym c.goes.ensures) refl)
 
 pub returns-then-b-le223 : goal.returns-then-b-le223
 unfolding in_place
@@ -40,7 +40,7 @@ returns-then-b-eq-BOF c =
     let p = c.requires in
     let t = a.store.now in
     simp (eq-eqb a.b 0xfe c.if-b-eq-BOF.true)
-    (keeps-refuses t p.0 (Inside 0) a.message (omega arith) p.1.1 Cut ∙ gives_same (sym c.refuses.ensures) refl)
+    (keeps-refuses t p.room (Inside 0) a.message (omega arith) p.message Cut ∙ gives_same (sym c.refuses.ensures) refl)
 
 pub returns-then-b-eq-EOF : goal.returns-then-b-eq-EOF
 unfolding in_place
@@ -49,7 +49,7 @@ returns-then-b-eq-EOF c =
     let p = c.requires in
     let t = a.store.now in
     simp (ne_eqb a.b 0xfe c.if-b-eq-BOF.false, eq-eqb a.b 0xff c.if-b-eq-EOF.true)
-    (keeps-refuses t p.0 Outside a.message (omega arith) p.1.1 Escape ∙ gives_same (sym c.refuses-then-b-eq-EOF.ensures) refl)
+    (keeps-refuses t p.room Outside a.message (omega arith) p.message Escape ∙ gives_same (sym c.refuses-then-b-eq-EOF.ensures) refl)
 
 pub returns : goal.returns
 unfolding in_place
@@ -63,4 +63,4 @@ returns c =
       le-ltb a.b 0xd8 c.if-b-lt216.false,
       lt-ltb 0xdf a.b c.if-b-le223.false,
     )
-    (keeps-goes t p.0 (BadByte a.length) a.message p.1.0 p.1.1 ∙ gives_same (sym c.goes-2.ensures) refl)
+    (keeps-goes t p.room (BadByte a.length) a.message p.frame p.message ∙ gives_same (sym c.goes-2.ensures) refl)

@@ -33,7 +33,7 @@ returns-then-b-eq-CE c =
       ne_eqb a.b 255 (λ e. omega (arith, e, c.if-b-eq-CE.true)),
       eq-eqb a.b 0xfd c.if-b-eq-CE.true,
     )
-    (keeps-goes t p.0 (Escaped a.length) a.message p.1.0 p.1.1 ∙ ap (λ (r : Stepped). gives r t) (sym c.goes.ensures))
+    (keeps-goes t p.room (Escaped a.length) a.message p.frame p.message ∙ ap (λ (r : Stepped). gives r t) (sym c.goes.ensures))
 
 pub returns-then-b-eq-EOF : goal.returns-then-b-eq-EOF
 unfolding in_place
@@ -45,7 +45,7 @@ returns-then-b-eq-EOF c =
       ne_eqb a.b 254 (λ e. omega (arith, e, c.if-b-eq-EOF.true)),
       eq-eqb a.b 0xff c.if-b-eq-EOF.true,
     )
-    (unless-legal (inside_of a.length a.message) t (record { room = p.0; frame = p.1.0; message = p.1.1 })
+    (unless-legal (inside_of a.length a.message) t p
     c.end_frame.ensures)
 
 pub returns-then-length-eq0 : goal.returns-then-length-eq0
@@ -54,8 +54,8 @@ returns-then-length-eq0 c =
     let a = c.args in
     let p = c.requires in
     let t = a.store.now in
-    simp (eq-eqb a.b 0xfe c.if-b-eq-BOF.true, eq-eqb _ 0 (content-length t p.0 a.length p.1.0 ∙ c.if-length-eq0.true))
-    (keeps-goes t p.0 (Inside 0) a.message (omega arith) p.1.1 ∙ ap (λ (r : Stepped). gives r t) (sym c.goes-then-length-eq0.ensures))
+    simp (eq-eqb a.b 0xfe c.if-b-eq-BOF.true, eq-eqb _ 0 (content-length t p.room a.length p.frame ∙ c.if-length-eq0.true))
+    (keeps-goes t p.room (Inside 0) a.message (omega arith) p.message ∙ ap (λ (r : Stepped). gives r t) (sym c.goes-then-length-eq0.ensures))
 
 pub returns-then-b-eq-BOF : goal.returns-then-b-eq-BOF
 unfolding in_place cuts
@@ -65,9 +65,9 @@ returns-then-b-eq-BOF c =
     let t = a.store.now in
     simp (
       eq-eqb a.b 0xfe c.if-b-eq-BOF.true,
-      ne_eqb _ 0 (λ e. c.if-length-eq0.false (sym (content-length t p.0 a.length p.1.0) ∙ e)),
+      ne_eqb _ 0 (λ e. c.if-length-eq0.false (sym (content-length t p.room a.length p.frame) ∙ e)),
     )
-    (keeps-refuses t p.0 (Inside 0) a.message (omega arith) p.1.1 Cut ∙ ap (λ (r : Stepped). gives r t) (sym c.refuses.ensures))
+    (keeps-refuses t p.room (Inside 0) a.message (omega arith) p.message Cut ∙ ap (λ (r : Stepped). gives r t) (sym c.refuses.ensures))
 
 pub returns : goal.returns
 unfolding in_place
@@ -81,4 +81,4 @@ returns c =
       ne_eqb _ _ c.if-b-eq-CE.false,
       le-leb 0xf8 a.b c.if-b-lt248.false,
     )
-    (keeps-goes t p.0 (BadByte a.length) a.message p.1.0 p.1.1 ∙ ap (λ (r : Stepped). gives r t) (sym c.goes-2.ensures))
+    (keeps-goes t p.room (BadByte a.length) a.message p.frame p.message ∙ ap (λ (r : Stepped). gives r t) (sym c.goes-2.ensures))

@@ -6,8 +6,7 @@ use Rattle.framing_steps.proofs.step.Goals as goal
 pub takes-requires : goal.takes-requires
 takes-requires c =
     let a = c.args in
-    let l = legal-true a.session a.store.now (sym c.is_legal.ensures ∙ c.if-is_legal.true) in
-    (l.room, (l.frame, l.message))
+    legal-true a.session a.store.now (sym c.is_legal.ensures ∙ c.if-is_legal.true)
 
 pub returns-then-is_legal : goal.returns-then-is_legal
 unfolding unless_setup

@@ -43,7 +43,7 @@ returns-then-b-eq-BOF c =
     let t = a.store.now in
     let m = a.session.message in
     at-frame a.session Outside a.b t c.in-Outside.is
-    ∙ simp (eq-eqb a.b 0xfe c.if-b-eq-BOF.true) (keeps-goes t p.0 (Inside 0) m (omega arith) p.1.1 ∙ gives_same (sym c.goes.ensures) refl)
+    ∙ simp (eq-eqb a.b 0xfe c.if-b-eq-BOF.true) (keeps-goes t p.room (Inside 0) m (omega arith) p.message ∙ gives_same (sym c.goes.ensures) refl)
 
 pub returns-then-b-eq-BOF-2 : goal.returns-then-b-eq-BOF-2
 unfolding in_place
@@ -53,19 +53,19 @@ returns-then-b-eq-BOF-2 c =
     let t = a.store.now in
     let m = a.session.message in
     at-frame a.session Frame.Stray a.b t c.in-Stray.is
-    ∙ simp (eq-eqb a.b 0xfe c.if-b-eq-BOF-2.true) (keeps-goes t p.0 (Inside 0) m (omega arith) p.1.1 ∙ gives_same (sym c.goes-then-b-eq-BOF-2.ensures) refl)
+    ∙ simp (eq-eqb a.b 0xfe c.if-b-eq-BOF-2.true) (keeps-goes t p.room (Inside 0) m (omega arith) p.message ∙ gives_same (sym c.goes-then-b-eq-BOF-2.ensures) refl)
 
 pub inside-requires : goal.inside-requires
 inside-requires c =
     let p = c.requires in
     let e = ap frame_length c.in-Inside.is in
-    (p.0, (omega (arith, e, p.1.0), p.1.1))
+    record { room = p.room; frame = omega (arith, e, p.frame); message = p.message }
 
 pub escaped-requires : goal.escaped-requires
 escaped-requires c =
     let p = c.requires in
     let e = ap frame_length c.in-Escaped.is in
-    (p.0, (omega (arith, e, p.1.0), p.1.1))
+    record { room = p.room; frame = omega (arith, e, p.frame); message = p.message }
 
 pub returns-else-b-eq-BOF : goal.returns-else-b-eq-BOF
 unfolding in_place
@@ -76,7 +76,7 @@ returns-else-b-eq-BOF c =
     let m = a.session.message in
     at-frame a.session Outside a.b t c.in-Outside.is
     ∙ simp (ne_eqb a.b 0xfe c.if-b-eq-BOF.false)
-    (keeps-refuses t p.0 Frame.Stray m (omega arith) p.1.1 Fault.Stray ∙ gives_same (sym c.refuses.ensures) refl)
+    (keeps-refuses t p.room Frame.Stray m (omega arith) p.message Fault.Stray ∙ gives_same (sym c.refuses.ensures) refl)
 
 pub returns-else-b-eq-BOF-2 : goal.returns-else-b-eq-BOF-2
 unfolding in_place
@@ -87,7 +87,7 @@ returns-else-b-eq-BOF-2 c =
     let m = a.session.message in
     at-frame a.session Frame.Stray a.b t c.in-Stray.is
     ∙ simp (ne_eqb a.b 0xfe c.if-b-eq-BOF-2.false)
-    (keeps-goes t p.0 Frame.Stray m (omega arith) p.1.1
+    (keeps-goes t p.room Frame.Stray m (omega arith) p.message
     ∙ gives_same (sym (c.goes-in-Stray.ensures ∙ ap (λ (f : Frame). going f m) c.in-Stray.is)) refl)
 
 pub returns-in-Inside : goal.returns-in-Inside
@@ -107,7 +107,7 @@ unfolding in_place
 returns-in-BadByte c =
     let a = c.args in
     let p = c.requires in
-    at-fault a.session Byte (BadByte c.in-BadByte.length) a.b a.store.now c.faulted.result p.0 p.1.0 p.1.1
+    at-fault a.session Byte (BadByte c.in-BadByte.length) a.b a.store.now c.faulted.result p.room p.frame p.message
     c.in-BadByte.is refl c.faulted.ensures
 
 pub returns-in-TooLong : goal.returns-in-TooLong
@@ -115,5 +115,5 @@ unfolding in_place
 returns-in-TooLong c =
     let a = c.args in
     let p = c.requires in
-    at-fault a.session Long (TooLong c.in-TooLong.length) a.b a.store.now c.faulted-in-TooLong.result p.0 p.1.0 p.1.1
+    at-fault a.session Long (TooLong c.in-TooLong.length) a.b a.store.now c.faulted-in-TooLong.result p.room p.frame p.message
     c.in-TooLong.is refl c.faulted-in-TooLong.ensures

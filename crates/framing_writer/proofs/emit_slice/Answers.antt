@@ -1,39 +1,16 @@
-use mathlib.Core.Path.{refl, ◌∙◌}
+use mathlib.Core.Path.{◌∙◌}
 use native.Mathlib.Omega.{arith}
 use Rattle.base_output.proofs.Laws.{wrote_none, wrote_then}
 use Rattle.framing_packets.proofs.Laws.{escapes-more, escapes-end}
 use Rattle.framing_writer.proofs.emit_slice.Goals as goal
 
-pub loop-i-init : goal.loop-i-init
-loop-i-init c = (omega arith, (omega arith, (refl, refl)))
-
-pub bounds-s-i : goal.bounds-s-i
-bounds-s-i c = omega arith
-
-pub emit_escaped-next-requires : goal.emit_escaped-next-requires
-emit_escaped-next-requires c = omega arith
-
-pub overflow_add-i : goal.overflow_add-i
-overflow_add-i c = omega arith
-
-pub loop-i-smaller : goal.loop-i-smaller
-loop-i-smaller c = omega arith
-
-pub loop-i-preserved : goal.loop-i-preserved
-loop-i-preserved c =
-    let s = c.args.s.now in (
+pub loop-b-preserved : goal.loop-b-preserved
+loop-b-preserved c =
+    let i = c.loop-b.invariant in (
       omega arith,
-      (
-        omega arith,
-        (
-          c.emit_escaped-next.auto.out ∙ c.loop-i.invariant.1.1.0,
-          c.loop-i.invariant.1.1.1 ∙ rw (escapes-more s c.loop-i.i c.loop-i-test.true) (wrote_then _ _ _ _ c.emit_escaped-next.ensures.b_value),
-        ),
-      ),
+      c.emit_escaped-next.auto.out ∙ i.1,
+      i.2 ∙ rw (escapes-more c.args.s.now c.loop-b.b-index (omega arith)) (wrote_then _ _ _ _ c.emit_escaped-next.ensures.b_value),
     )
 
-pub shape_of-out : goal.shape_of-out
-shape_of-out c = c.loop-i.invariant.1.1.0
-
 pub returns : goal.returns
-returns c = record { s_value = c.loop-i.invariant.1.1.1 ∙ rw (escapes-end _ _ c.loop-i-test.false) (wrote_none _ _); upper_bound = omega arith }
+returns c = record { s_value = c.loop-b.invariant.2 ∙ rw (escapes-end c.args.s.now c.loop-b.b-index (omega arith)) (wrote_none _ _); upper_bound = omega arith }
