@@ -1,6 +1,6 @@
 -- Laws of digits, at plain variables.
-use Prim.Native.Nat.{ℕ, ◌+◌, ◌-◌, ◌/◌, ◌%◌, ◌≤◌, ◌<◌}
-use mathlib.Core.Path.{◌≡◌, refl}
+use Prim.Native.Nat.{ℕ, ◌+◌, ◌/◌, ◌%◌, ◌≤◌, ◌<◌}
+use mathlib.Core.Path.{◌≡◌}
 use mathlib.Core.Bool.{Bool, true, false}
 use mathlib.Core.List.{List, [], ◌∷◌, ◌++◌}
 use native.Mathlib.Numerals.{add-one}
@@ -14,50 +14,6 @@ use Rattle.base_choices.proofs.Laws.{pick-by}
 use Rattle.base_hex.specs.Digits.{digit_of, glyph_of, hex_text}
 
 -- ---- a digit read
-
-module _ (b : ℕ) where
-  pub digit-a : b < 48 → digit_of b ≡ 16
-  unfolding digit_of
-  digit-a h = simp (lt-ltb _ _ h)
-
-  pub digit-b : 48 ≤ b → b < 58 → digit_of b ≡ b - 48
-  unfolding digit_of
-  digit-b h k = simp (le-ltb _ _ h, lt-ltb _ _ k)
-
-  pub digit-c : 58 ≤ b → b < 65 → digit_of b ≡ 16
-  unfolding digit_of
-  digit-c h k = let g : 48 ≤ b = omega arith in simp (le-ltb _ _ g, le-ltb _ _ h, lt-ltb _ _ k)
-
-  pub digit-d : 65 ≤ b → b < 71 → digit_of b ≡ b - 55
-  unfolding digit_of
-  digit-d h k = let g : 48 ≤ b = omega arith in let f : 58 ≤ b = omega arith in simp (le-ltb _ _ g, le-ltb _ _ f, le-ltb _ _ h, lt-ltb _ _ k)
-
-  pub digit-e : 71 ≤ b → b < 97 → digit_of b ≡ 16
-  unfolding digit_of
-  digit-e h k =
-      let g : 48 ≤ b = omega arith in
-      let f : 58 ≤ b = omega arith in
-      let e : 65 ≤ b = omega arith in
-      rw (le-ltb _ _ g, le-ltb _ _ f, le-ltb _ _ e, le-ltb _ _ h, lt-ltb _ _ k) refl
-
-  pub digit-f : 97 ≤ b → b < 103 → digit_of b ≡ b - 87
-  unfolding digit_of
-  digit-f h k =
-      let g : 48 ≤ b = omega arith in
-      let f : 58 ≤ b = omega arith in
-      let e : 65 ≤ b = omega arith in
-      let d : 71 ≤ b = omega arith in
-      rw (le-ltb _ _ g, le-ltb _ _ f, le-ltb _ _ e, le-ltb _ _ d, le-ltb _ _ h, lt-ltb _ _ k) refl
-
-  pub digit-g : 103 ≤ b → digit_of b ≡ 16
-  unfolding digit_of
-  digit-g h =
-      let g : 48 ≤ b = omega arith in
-      let f : 58 ≤ b = omega arith in
-      let e : 65 ≤ b = omega arith in
-      let d : 71 ≤ b = omega arith in
-      let c : 97 ≤ b = omega arith in
-      rw (le-ltb _ _ g, le-ltb _ _ f, le-ltb _ _ e, le-ltb _ _ d, le-ltb _ _ c, le-ltb _ _ h) refl
 
 -- a digit, or 16
 pub digit-small : (b : ℕ) → digit_of b ≤ 16

@@ -8,29 +8,17 @@ ghost use Rattle.base_hex.specs.Digits.{digit_of, glyph_of};
 pub const NO_DIGIT: u8 = 16;
 
 // The value of a digit of either case, 16 for any other byte.
+#[tactic(auto, unfolding(crate::specs::Digits::digit_of))]
 pub fn digit(b: u8) -> u8
     ensures b_value { digit_of b ≡ result }
     ensures upper_bound { result ≤ 16 }
 {
-    if b < 48 {
-        return NO_DIGIT;
+    match b {
+        b'0'..=b'9' => b - b'0',
+        b'A'..=b'F' => b - b'A' + 10,
+        b'a'..=b'f' => b - b'a' + 10,
+        _ => NO_DIGIT,
     }
-    if b < 58 {
-        return b - 48;
-    }
-    if b < 65 {
-        return NO_DIGIT;
-    }
-    if b < 71 {
-        return b - 55;
-    }
-    if b < 97 {
-        return NO_DIGIT;
-    }
-    if b < 103 {
-        return b - 87;
-    }
-    NO_DIGIT
 }
 
 // A digit, in upper case.
