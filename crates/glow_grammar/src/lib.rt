@@ -194,7 +194,7 @@ fn among_children(number: u64) -> u64
     }
 }
 
-// The kind that an application number names in a collection, or 0.
+// The kind that an application number names in a collection, or 0: word 0 of a row, which the C interface has as a number.
 pub fn kind_in(which: u64, number: u64) -> u64
     ensures { kind_in which number ≡ result }
 {

@@ -1,4 +1,5 @@
 // What stands at a member of a row: a rule's number. Members below BODY keep one value in a cell; the others hold contents or a collection.
+// Numbers, as the definition `rule_of` has them (crates/glow_grammar/specs/Grammar.antt): glow_sizes keeps sixteen of them in one word.
 pub const NONE: u64 = 0;
 
 pub const NAME: u64 = 1;

@@ -15,7 +15,7 @@ use glow_grammar::{Leaf, rules};
 use glow_leaves::NO_WORD;
 use glow_rows::{Cell, MOST_BYTES, int_of, tags};
 
-// The octets of the longest message, and the size of what is longer or not legal.
+// The octets of the longest message, and the size of what is longer or not legal: `measure` promises this number (docs/API.md).
 pub const MESSAGE_LIMIT: u64 = MOST_BYTES as u64;
 
 pub const NO_SIZE: u64 = 65536;

@@ -1,4 +1,4 @@
-// The kinds of entry: word 0 of a row.
+// The kinds of entry: word 0 of a row. Numbers, since rows are the C interface's (crates/glow_c/include/glow.h).
 pub const PARAMETER: u64 = 1;
 
 pub const COMMAND: u64 = 2;

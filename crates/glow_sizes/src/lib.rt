@@ -407,6 +407,7 @@ fn items(
 {
     let mut i = start;
     let mut total: u64 = 0;
+    // No index is counted: each tree says where the next one begins.
     while i < count {
         if !is_next(rows, i, which, parent) {
             return Measured {

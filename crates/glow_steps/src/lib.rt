@@ -335,7 +335,7 @@ fn nested(s: &[u8], p: usize, end: usize, l: usize) -> usize
 }
 
 // What stands at a member at p, if tags and lengths take one octet each and the value fills the member;
-// NONE where that is for the general turn to say.
+// NONE where that is for the general turn to say. A number and no Option, as for NO_WORD of glow_leaves; so for the kind of an element.
 pub fn rule_at(s: &[u8], p: usize, end: usize, k: usize, row: u64, before: u64) -> u64
     ensures { (result ≡ 0 → ⊥) → MemberTold s.now p end k row before result }
 {

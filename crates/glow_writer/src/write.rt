@@ -283,6 +283,7 @@ fn put_items(
 {
     let mut i = start;
     let mut p = at;
+    // No index is counted: each tree says where the next one begins.
     while i < count {
         if word_at(rows, i, PARENT) != parent {
             return Placed { next: i, place: p };
