@@ -1,4 +1,4 @@
--- What a table says at a number, from plain facts on the number. For a table and an answer that are written out, `Says`, `Chosen` and `Empty` compute to a
+-- What a table says at a number, from plain facts on the number. For a table and an answer that are written out, `Chosen` and `Empty` compute to a
 -- product of such facts, which `omega` proves: one line serves each arm of a match.
 use Prim.Native.Nat.{ℕ, zero, suc, ◌+◌, ◌<◌, ◌≤◌}
 use mathlib.Core.Path.{◌≡◌, refl, sym, ap, ◌∙◌, subst}
@@ -13,7 +13,7 @@ use Rattle.base_choices.specs.Choices.{pick}
 use Rattle.base_choices.proofs.Laws.{pick-by}
 use Rattle.ber_integers.proofs.Radix.{lt-or-le}
 use Rattle.ber_values.specs.Value.{is_listed}
-use Rattle.glow_grammar.specs.Grammar.{applications, kind_among, holds, kind_in, members, rule_of, requirements, required, contents_rows, contents_of}
+use Rattle.glow_grammar.specs.Grammar.{applications, kind_among, holds, kind_in, members, rule_of}
 use Rattle.glow_grammar.specs.Grammar.{root_elements, streams, no_root, root_element_collection, stream_collection, root_of, root_number}
 use Rattle.glow_grammar.specs.Leaf.{expects}
 
@@ -21,41 +21,6 @@ use Rattle.glow_grammar.specs.Leaf.{expects}
 abbrev pub either : Bool → Type 0 → Type 0 → Type 0
 either true a b = a
 either false a b = b
-
--- n is no place of the list, whose first place is i, that has another entry than v
-abbrev pub Says : List ℕ → ℕ → ℕ → ℕ → Type 0
-Says [] i n v = either (eqb 0 v) (Unit {0}) (n < i)
-Says (e ∷ l) i n v = either (eqb e v) (Unit {0}) (n ≡ i → ⊥) × Says l (suc i) n v
-
-says : (l : List ℕ) (i k v : ℕ) → Says l i (i + k) v → get_or l k 0 ≡ v
-says [] i k v h = go (eqb 0 v) refl h
-  where
-    go : (b : Bool) → eqb 0 v ≡ b → either b (Unit {0}) (i + k < i) → get_or [] k 0 ≡ v
-    go true e h = eqb-true 0 v e
-    go false e h = absurd (omega arith)
-says (e ∷ l) i zero v h = go (eqb e v) refl h.0
-  where
-    go : (b : Bool) → eqb e v ≡ b → either b (Unit {0}) (i + 0 ≡ i → ⊥) → e ≡ v
-    go true q h = eqb-true e v q
-    go false q h = absurd (h (omega arith))
-says (e ∷ l) i (suc k) v h =
-    let q : i + suc k ≡ suc i + k = omega arith in
-    says l (suc i) k v (subst (λ (n : ℕ). Says l (suc i) n v) q h.1)
-
-pub table_at : (l : List ℕ) (n v : ℕ) → Says l 0 n v → get_or l n 0 ≡ v
-table_at l n v h = let q : n ≡ 0 + n = omega arith in says l 0 n v (subst (λ (m : ℕ). Says l 0 m v) q h)
-
-pub rule-at : (row n v : ℕ) → Says (get_or members row []) 0 n v → rule_of row n ≡ v
-unfolding rule_of
-rule-at row n v h = table_at (get_or members row []) n v h
-
-pub required-at : (row v : ℕ) → Says requirements 0 row v → required row ≡ v
-unfolding required
-required-at row v h = table_at requirements row v h
-
-pub contents-at : (row v : ℕ) → Says contents_rows 0 row v → contents_of row ≡ v
-unfolding contents_of
-contents-at row v h = table_at contents_rows row v h
 
 -- n is no place of the lists, whose first place is i, that has a list with an element
 abbrev pub Empty : List (List ℕ) → ℕ → ℕ → Type 0

@@ -42,6 +42,7 @@ fn of_matrix(key: u64, n: u64) -> u64
     }
 }
 
+#[tactic(auto, unfolding(crate::specs::Grammar::rule_of, crate::specs::Grammar::members))]
 fn of_command(n: u64) -> u64
     ensures { rule_of 2 n ≡ result }
 {
@@ -52,6 +53,7 @@ fn of_command(n: u64) -> u64
     }
 }
 
+#[tactic(auto, unfolding(crate::specs::Grammar::rule_of, crate::specs::Grammar::members))]
 fn of_connection(n: u64) -> u64
     ensures { rule_of 8 n ≡ result }
 {
@@ -63,6 +65,7 @@ fn of_connection(n: u64) -> u64
     }
 }
 
+#[tactic(auto, unfolding(crate::specs::Grammar::rule_of, crate::specs::Grammar::members))]
 fn of_stream_entry(n: u64) -> u64
     ensures { rule_of 9 n ≡ result }
 {
@@ -73,6 +76,7 @@ fn of_stream_entry(n: u64) -> u64
     }
 }
 
+#[tactic(auto, unfolding(crate::specs::Grammar::rule_of, crate::specs::Grammar::members))]
 fn of_parameter(n: u64) -> u64
     ensures { rule_of 10 n ≡ result }
 {
@@ -89,6 +93,7 @@ fn of_parameter(n: u64) -> u64
     }
 }
 
+#[tactic(auto, unfolding(crate::specs::Grammar::rule_of, crate::specs::Grammar::members))]
 fn of_node(n: u64) -> u64
     ensures { rule_of 11 n ≡ result }
 {
@@ -100,6 +105,7 @@ fn of_node(n: u64) -> u64
     }
 }
 
+#[tactic(auto, unfolding(crate::specs::Grammar::rule_of, crate::specs::Grammar::members))]
 fn of_matrix_contents(n: u64) -> u64
     ensures { rule_of 12 n ≡ result }
 {
@@ -135,6 +141,7 @@ pub fn rule_of(row: u64, n: u64) -> u64
 }
 
 // How many members of a row are required: its first ones.
+#[tactic(auto, unfolding(crate::specs::Grammar::required, crate::specs::Grammar::requirements))]
 pub fn required_of(row: u64) -> u64
     ensures { required row ≡ result }
 {
@@ -153,6 +160,7 @@ pub fn is_set(row: u64) -> bool
 }
 
 // The row of a kind's contents.
+#[tactic(auto, unfolding(crate::specs::Grammar::contents_of, crate::specs::Grammar::contents_rows))]
 pub fn contents_of(row: u64) -> u64
     ensures { contents_of row ≡ result }
 {
