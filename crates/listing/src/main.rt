@@ -3,40 +3,25 @@
 // count; or `bad line`, at the first such, whose pairs before the fault are taken.
 #![tactic(auto)]
 
-mod line;
-
-ghost use Rattle.std.specs.Prelude.{◌≤◌};
+ghost use Rattle.std.specs.Prelude.{◌≤◌, length};
 
 use framing::{Event, Session};
+use framing_digits::{Line, Stop};
+use framing_session::STORE_LENGTH;
 use glow_reader::Answer;
-use line::Line;
-use program_lines::print;
 use std::io;
 use std::io::Read;
 
-// What is kept from chunk to chunk: the session, the count of events, and whether all is done.
-#[derive(Clone, Copy)]
-struct Run {
-    session: Session,
-    count: u64,
-    done: bool,
+// Why a run ends: all is said, or the output cannot be written.
+#[derive(Drop)]
+enum Halt {
+    Done,
+    Failed(io::Error),
 }
 
-// .. and from block to block: the line that is open too.
-#[derive(Clone, Copy)]
-struct Progress {
-    run: Run,
-    line: Line,
-}
-
-fn start() -> Progress {
-    Progress {
-        run: Run {
-            session: framing::start(),
-            count: 0,
-            done: false,
-        },
-        line: line::start(),
+impl From<io::Error> for Halt {
+    fn from(e: io::Error) -> Halt {
+        Halt::Failed(e)
     }
 }
 
@@ -49,198 +34,122 @@ fn number(answer: Answer) -> u64 {
     }
 }
 
-// What the tree reader answers to the first n bytes of the store.
-fn tree(store: &[u8], n: usize, table: &mut [[u64; 50]]) -> u64 {
-    if n <= store.len() {
-        return number(glow_reader::read(&store[..n], table));
-    }
-    1
-}
+// The loops are those of `frames`, which keeps and says other things: a crate with a trait of three methods for both would be longer than they are.
 
-fn head(rt: &impl Print, count: u64, event: Event) -> io::Result<()> {
-    print::decimal(rt, count)?;
-    print::say(rt, b" ")?;
-    print::decimal(rt, framing_events::number(event))
-}
-
-// An event's line. Only a finished message goes on to the tree reader.
-fn show(
-    rt: &impl Print,
+// What is kept from chunk to chunk: the session with its store, a table for the tree reader, the count of events, and
+// the input line as far as it was read.
+#[derive(Drop)]
+struct Stream {
+    session: Session,
+    store: [u8; STORE_LENGTH],
+    table: [[u64; 50]; 256],
     count: u64,
-    event: Event,
-    store: &[u8],
-    table: &mut [[u64; 50]],
-) -> io::Result<()> {
-    head(rt, count, event)?;
-    let Event::Message { length, .. } = event else {
-        return print::end(rt);
-    };
-    print::say(rt, b" ")?;
-    print::decimal(rt, tree(store, length, table))?;
-    print::end(rt)
+    line: Line,
 }
 
-// No run has 2^64 events.
-fn more(count: u64) -> u64 {
-    if count == u64::MAX {
-        return count;
-    }
-    count + 1
-}
-
-// Shows an event, and answers how many there were. A call that used up its chunk without an event shows nothing.
-fn report(
-    rt: &impl Print,
-    count: u64,
-    event: Event,
-    store: &[u8],
-    table: &mut [[u64; 50]],
-) -> io::Result<u64> {
-    if let Event::More = event {
-        return Ok(count);
-    }
-    let next = more(count);
-    show(rt, next, event, store, table)?;
-    Ok(next)
-}
-
-// A call consumes no more than it is offered.
-fn least(consumed: usize, offered: usize) -> usize
-    ensures { result ≤ offered }
-{
-    if consumed < offered {
-        consumed
-    } else {
-        offered
-    }
-}
-
-// Offers a chunk until it is consumed.
-fn offer(
-    rt: &impl Print,
-    run: Run,
-    chunk: &[u8],
-    store: &mut [u8],
-    table: &mut [[u64; 50]],
-) -> io::Result<Run> {
-    let mut session = run.session;
-    let mut count = run.count;
-    let mut from = 0;
-    while from < chunk.len() {
-        let fed = framing::feed(session, store, &chunk[from..]);
-        let event = fed.event;
-        let next = fed.session;
-        let consumed = least(fed.consumed, chunk.len() - from);
-        // Only 1 SETUP consumes nothing. It does not come here, and would end the run.
-        if consumed == 0 {
-            return Ok(Run {
-                session,
-                count,
-                done: true,
-            });
+impl Stream {
+    fn new() -> Stream {
+        Stream {
+            session: framing::start(),
+            store: [0; STORE_LENGTH],
+            table: [[0; 50]; 256],
+            count: 0,
+            line: framing_digits::start(),
         }
-        from += consumed;
-        session = next;
-        count = report(rt, count, event, store, table)?;
     }
-    Ok(Run {
-        session,
-        count,
-        done: false,
-    })
-}
 
-// The run ends at a bad line.
-fn refuse(rt: &impl Print, run: Run) -> io::Result<Run> {
-    print::bad_line(rt)?;
-    let mut last = run;
-    last.done = true;
-    Ok(last)
-}
-
-// The run ends at the input's end.
-fn finish(rt: &impl Print, run: Run, line: Line) -> io::Result<Run> {
-    if line.high < 16 {
-        return refuse(rt, run);
+    // What the tree reader answers to the first bytes of the store.
+    fn tree(&mut self, length: usize) -> u64 {
+        let Some(message) = self.store.get(..length) else {
+            return 1;
+        };
+        number(glow_reader::read(message, &mut self.table))
     }
-    print::say(rt, b"end ")?;
-    print::decimal(rt, run.count)?;
-    print::end(rt)?;
-    let mut last = run;
-    last.done = true;
-    Ok(last)
-}
 
-// Takes a block of the input, line by line, and answers the run and the line that is open at the block's end.
-fn take_block(
-    rt: &impl Print,
-    progress: Progress,
-    block: &mut [u8],
-    store: &mut [u8],
-    table: &mut [[u64; 50]],
-) -> io::Result<Progress> {
-    let mut run = progress.run;
-    let mut line = progress.line;
-    let mut from = 0;
-    while from < block.len() {
-        let s = line::scan(block, from, line);
-        let end = s.end;
-        let next = s.next;
-        line = s.line;
-        run = offer(rt, run, &block[from..end], store, table)?;
-        if run.done {
-            return Ok(Progress { run, line });
+    // An event's line. Only a finished message goes on to the tree reader, and a call that used up its chunk without an
+    // event has none.
+    fn report(&mut self, rt: &impl Print, event: Event) -> io::Result<()> {
+        if let Event::More = event {
+            return Ok(());
         }
-        if s.bad {
-            let last = refuse(rt, run)?;
-            return Ok(Progress { run: last, line });
-        }
-        from = next;
+        // No run has 2^64 events.
+        self.count = self.count.saturating_add(1);
+        let count = self.count;
+        let number = framing_events::number(event);
+        let Event::Message { length, .. } = event else {
+            return println!(rt; "{count} {number}");
+        };
+        let tree = self.tree(length);
+        println!(rt; "{count} {number} {tree}")
     }
-    Ok(Progress { run, line })
-}
 
-// Reads a block and takes it.
-fn turn(
-    rt: &(impl Print + Eprint),
-    reader: &mut impl Read,
-    progress: Progress,
-    block: &mut [u8],
-    store: &mut [u8],
-    table: &mut [[u64; 50]],
-) -> io::Result<Progress> {
-    let line = progress.line;
-    let Ok(n) = reader.read(block) else {
-        rt.eprint("listing: the input cannot be read\n")?;
-        let mut run = progress.run;
-        run.done = true;
-        return Ok(Progress { run, line });
-    };
-    if n == 0 {
-        let run = finish(rt, progress.run, line)?;
-        return Ok(Progress { run, line });
+    // Offers a chunk until it is consumed.
+    fn offer(&mut self, rt: &impl Print, chunk: &[u8]) -> Result<(), Halt> {
+        let mut rest = chunk;
+        while !rest.is_empty() {
+            let fed = framing::feed(self.session, &mut self.store, rest);
+            // A call consumes no more than it is offered.
+            let consumed = fed.consumed.min(rest.len());
+            // Only 1 SETUP consumes nothing. It does not come here, and would end the run.
+            if consumed == 0 {
+                return Err(Halt::Done);
+            }
+            self.session = fed.session;
+            rest = &rest[consumed..];
+            self.report(rt, fed.event)?;
+        }
+        Ok(())
     }
-    take_block(rt, progress, &mut block[..n], store, table)
+
+    // Takes a block of the input, line by line. The run ends at a bad line.
+    fn take(&mut self, rt: &impl Print, block: &[u8], chunk: &mut [u8]) -> Result<(), Halt>
+        requires { length block.now ≤ length chunk.old }
+    {
+        let mut from = 0;
+        while from < block.len() {
+            let found = framing_digits::scan(block, from, self.line, chunk);
+            self.line = found.line;
+            from = found.next;
+            self.offer(rt, &chunk[..found.count])?;
+            if let Stop::Fault = found.stop {
+                println!(rt; "bad line")?;
+                return Err(Halt::Done);
+            }
+        }
+        Ok(())
+    }
+
+    // The run ends at the input's end.
+    fn finish(&self, rt: &impl Print) -> io::Result<()> {
+        if self.line.high != 16 {
+            return println!(rt; "bad line");
+        }
+        println!(rt; "end {}", self.count)
+    }
+
+    // Takes the input block by block.
+    fn run(&mut self, rt: &(impl Print + Eprint), input: &mut impl Read) -> Result<(), Halt> {
+        let mut block = [0; 65536];
+        let mut chunk = [0; 65536];
+        // A proved loop has to end, and nothing says that an input does: no run uses up the count.
+        for _ in 0..u64::MAX {
+            let Ok(n) = input.read(&mut block) else {
+                rt.eprint("listing: the input cannot be read\n")?;
+                return Ok(());
+            };
+            if n == 0 {
+                self.finish(rt)?;
+                return Ok(());
+            }
+            self.take(rt, &block[..n], &mut chunk)?;
+        }
+        Ok(())
+    }
 }
 
 fn main(rt: HostRuntime) -> io::Result<()> {
-    let mut input = [0u8; 65536];
-    let block: &mut [u8] = &mut input;
-    let mut bytes = [0u8; 17408];
-    let store: &mut [u8] = &mut bytes;
-    let mut rows = [[0u64; 50]; 256];
-    let table: &mut [[u64; 50]] = &mut rows;
-    let mut progress = start();
-    let mut reader = rt.stdin();
-    // A proved loop has to end: it counts down from a number that no run uses up.
-    let mut turns = u64::MAX;
-    while turns > 0 {
-        turns = turns - 1;
-        progress = turn(&rt, &mut reader, progress, block, store, table)?;
-        let run = progress.run;
-        if run.done {
-            break;
-        }
+    match Stream::new().run(&rt, &mut rt.stdin()) {
+        Ok(()) | Err(Halt::Done) => Ok(()),
+        Err(Halt::Failed(e)) => Err(e),
     }
-    Ok(())
 }

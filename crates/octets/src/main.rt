@@ -14,52 +14,38 @@
 // must be 46 and leave the output as it was, else `room` is printed), and in exactly as many: that is printed.
 #![tactic(auto)]
 
-mod ask;
-mod put;
-mod value;
+mod read;
+mod write;
 
-use program_lines::input::Input;
-use program_lines::{input, print};
+use program_lines::input;
+use program_lines::input::{Answers, Refusal};
 use std::io;
 
-// Answers the line that was found.
-fn finish(
-    rt: &impl Print,
-    found: Input,
-    line: &[u8],
-    work: &mut [u8],
-    numbers: &mut [u64],
-) -> io::Result<()> {
-    let n = found.len;
-    if found.long {
-        return print::bad_line(rt);
+// Where in the message content octets and tags are read, and where in the output they are written; what stands around
+// them is left from earlier requests.
+const AT: usize = 3;
+
+// The space for a request's octets, and for what is written.
+#[derive(Drop)]
+struct Octets {
+    work: [u8; 8192],
+    out: [u8; 8200],
+}
+
+impl Answers for Octets {
+    fn answer(&mut self, rt: &(impl Print + AllocGlobal), line: &[u8]) -> Result<(), Refusal> {
+        if let Some(words) = line.strip_prefix(b"read ") {
+            return read::answer(rt, words, &mut self.work);
+        }
+        let words = line.strip_prefix(b"write ").ok_or(Refusal::BadLine)?;
+        write::answer(rt, words, &mut self.work, &mut self.out)
     }
-    if n <= line.len() {
-        ask::answer(rt, &line[..n], work, numbers)?;
-    }
-    Ok(())
 }
 
 fn main(rt: HostRuntime) -> io::Result<()> {
-    let mut space = [0u8; 16384];
-    let line: &mut [u8] = &mut space;
-    let mut room = [0u8; 8192];
-    let work: &mut [u8] = &mut room;
-    let mut cells = [0u64; 8192];
-    let numbers: &mut [u64] = &mut cells;
-    let mut buffer = [0u8; 65536];
-    let block: &mut [u8] = &mut buffer;
-    let mut found = input::start();
-    let mut reader = rt.stdin();
-    // A proved loop has to end: it counts down from a number that no run uses up.
-    let mut turns = u64::MAX;
-    while turns > 0 {
-        turns = turns - 1;
-        found = input::next(&mut reader, found, block, line)?;
-        if found.ended {
-            break;
-        }
-        finish(&rt, found, line, work, numbers)?;
-    }
-    Ok(())
+    let mut octets = Octets {
+        work: [0; 8192],
+        out: [0; 8200],
+    };
+    input::serve(&rt, rt.stdin(), 16384, &mut octets)
 }

@@ -12,142 +12,65 @@
 // printed), and in exactly as many: that is printed.
 #![tactic(auto)]
 
-use program_lines::input::Input;
-use program_lines::text::Hex;
-use program_lines::{input, print, room, text};
+use program_lines::input::{Answers, Refusal};
+use program_lines::{input, room, text};
 use std::io;
 
-// What a request asks to be written. The bytes of a frame and of a message are handed in beside it.
+// What a request asks to be written.
 #[derive(Clone, Copy)]
-enum Asked {
-    Frame,
+enum Asked<'a> {
+    Frame(&'a [u8]),
     Request,
     Response,
-    Message,
+    Message(&'a [u8]),
 }
 
-fn write(asked: Asked, bytes: &[u8], out: &mut [u8]) -> Written {
-    match asked {
-        Asked::Frame => framing_writer::write_frame(bytes, out),
-        Asked::Request => framing_writer::write_request(out),
-        Asked::Response => framing_writer::write_response(out),
-        Asked::Message => framing_writer::write_message(bytes, out),
-    }
-}
-
-// Option<usize> to the first n bytes of an output.
-fn write_to(asked: Asked, bytes: &[u8], out: &mut [u8], n: usize) -> Written {
-    if n <= out.len() {
-        return write(asked, bytes, &mut out[..n]);
-    }
-    None
-}
-
-// Whether n bytes are too short: 46, and the output is as it was.
-fn is_short(asked: Asked, bytes: &[u8], out: &mut [u8], n: usize) -> bool {
-    match write_to(asked, bytes, out, n) {
-        Some(_) => false,
-        None => room::is_clear(out),
-    }
-}
-
-fn show(rt: &impl Print, w: Option<usize>, out: &[u8]) -> io::Result<()> {
-    match w {
-        Some(length) => print::written(rt, out, length),
-        None => print::out(rt),
-    }
-}
-
-fn exactly(rt: &impl Print, asked: Asked, bytes: &[u8], length: usize) -> io::Result<()> {
-    let mut space = [0u8; 34850];
-    let out: &mut [u8] = &mut space;
-    if length == 0 {
-        return print::say(rt, b"room\n");
-    }
-    if !is_short(asked, bytes, out, length - 1) {
-        return print::say(rt, b"room\n");
-    }
-    let w = write_to(asked, bytes, out, length);
-    show(rt, w, out)
-}
-
-// Prints what is written. 17 packets of a message, each a frame of at most 2,050 bytes, fit.
-fn put(rt: &impl Print, asked: Asked, bytes: &[u8]) -> io::Result<()> {
-    let mut space = [0u8; 34850];
-    let out: &mut [u8] = &mut space;
-    match write(asked, bytes, out) {
-        Some(length) => exactly(rt, asked, bytes, length),
-        None => print::out(rt),
-    }
-}
-
-// The frame or the message whose bytes a line has from a position on.
-fn put_bytes(
-    rt: &impl Print,
-    asked: Asked,
-    line: &[u8],
-    from: usize,
-    work: &mut [u8],
-) -> io::Result<()> {
-    let Hex::Octets(n) = text::octets(line, from, work) else {
-        return print::bad_line(rt);
-    };
-    if n <= work.len() {
-        return put(rt, asked, &work[..n]);
-    }
-    Ok(())
-}
-
-fn answer(rt: &impl Print, line: &[u8], work: &mut [u8]) -> io::Result<()> {
-    if text::starts(line, b"frame ") {
-        return put_bytes(rt, Asked::Frame, line, 6, work);
-    }
-    if text::starts(line, b"message ") {
-        return put_bytes(rt, Asked::Message, line, 8, work);
-    }
-    if text::starts(line, b"request") {
-        if line.len() == 7 {
-            return put(rt, Asked::Request, line);
+impl room::Asked for Asked<'_> {
+    fn write(self, out: &mut [u8]) -> Option<usize> {
+        match self {
+            Asked::Frame(content) => framing_writer::write_frame(content, out),
+            Asked::Request => framing_writer::write_request(out),
+            Asked::Response => framing_writer::write_response(out),
+            Asked::Message(message) => framing_writer::write_message(message, out),
         }
     }
-    if text::starts(line, b"response") {
-        if line.len() == 8 {
-            return put(rt, Asked::Response, line);
-        }
-    }
-    print::bad_line(rt)
 }
 
-// Answers the line that was found.
-fn finish(rt: &impl Print, found: Input, line: &[u8], work: &mut [u8]) -> io::Result<()> {
-    let n = found.len;
-    if found.long {
-        return print::bad_line(rt);
+// What a line asks. The bytes of a frame or of a message are put into the work space.
+fn parse<'a>(line: &[u8], work: &'a mut [u8]) -> Option<Asked<'a>> {
+    if line == b"request".as_slice() {
+        return Some(Asked::Request);
     }
-    if n <= line.len() {
-        return answer(rt, &line[..n], work);
+    if line == b"response".as_slice() {
+        return Some(Asked::Response);
     }
-    Ok(())
+    if let Some(hex) = line.strip_prefix(b"frame ") {
+        return Some(Asked::Frame(text::octets(hex, work)?));
+    }
+    let hex = line.strip_prefix(b"message ")?;
+    Some(Asked::Message(text::octets(hex, work)?))
+}
+
+// The space for a frame's content or a message, and for what is written.
+#[derive(Drop)]
+struct Packets {
+    work: [u8; 32768],
+    out: [u8; 34850],
+}
+
+impl Answers for Packets {
+    fn answer(&mut self, rt: &(impl Print + AllocGlobal), line: &[u8]) -> Result<(), Refusal> {
+        let asked = parse(line, &mut self.work).ok_or(Refusal::BadLine)?;
+        room::put(rt, asked, &mut self.out, 0)?;
+        Ok(())
+    }
 }
 
 fn main(rt: HostRuntime) -> io::Result<()> {
-    let mut space = [0u8; 65536];
-    let line: &mut [u8] = &mut space;
-    let mut room = [0u8; 32768];
-    let work: &mut [u8] = &mut room;
-    let mut buffer = [0u8; 65536];
-    let block: &mut [u8] = &mut buffer;
-    let mut found = input::start();
-    let mut reader = rt.stdin();
-    // A proved loop has to end: it counts down from a number that no run uses up.
-    let mut turns = u64::MAX;
-    while turns > 0 {
-        turns = turns - 1;
-        found = input::next(&mut reader, found, block, line)?;
-        if found.ended {
-            break;
-        }
-        finish(&rt, found, line, work)?;
-    }
-    Ok(())
+    // 17 packets of a message, each a frame of at most 2,050 bytes, fit.
+    let mut packets = Packets {
+        work: [0; 32768],
+        out: [0; 34850],
+    };
+    input::serve(&rt, rt.stdin(), 65536, &mut packets)
 }

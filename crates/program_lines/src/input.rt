@@ -1,96 +1,97 @@
 // The input, line by line: a line ends at 0A or at the input's end.
-ghost use Rattle.std.specs.Prelude.{◌≡◌, false, ◌≤◌, length, IfOk};
+ghost use Rattle.std.specs.Prelude.{◌≡◌, ◌≤◌, vec_len, IfOk};
 
 use std::io;
-use std::io::Read;
+use std::io::{BufRead, BufReader, Read};
 
-// What of the block read last is left, from `at` to `end`; and the line found: its length, whether the space for it was
-// too short, and whether the input had ended instead.
-#[derive(Clone, Copy)]
-pub struct Input {
-    pub at: usize,
-    pub end: usize,
-    pub len: usize,
-    pub long: bool,
-    pub ended: bool,
+// What the input has next: a line, one that is too long, or no more.
+#[derive(Clone, Copy, Debug, PartialEq, Eq)]
+pub enum Found {
+    Line,
+    Long,
+    End,
 }
 
-// Before the first line.
-pub fn start() -> Input
-    ensures { result ≡ record { at = 0; end = 0; len = 0; long = false; ended = false } }
+// Reads the next line, of `most` bytes at most, or fails where a read fails. No line stands after the last 0A. Of a longer one `line` has the first bytes,
+// and the others are passed over.
+pub fn next(reader: &mut impl BufRead, most: usize, line: &mut Vec<u8>) -> io::Result<Found>
+    ensures { IfOk result (λ found. found ≡ Found.Line → vec_len line.new ≤ most) }
 {
-    Input {
-        at: 0,
-        end: 0,
-        len: 0,
-        long: false,
-        ended: false,
+    line.clear();
+    let room = (most as u64).saturating_add(1);
+    if reader.by_ref().take(room).read_until(b'\n', line)? == 0 {
+        return Ok(Found::End);
+    }
+    let ended = line.pop_if(|b| *b == b'\n').is_some();
+    if most < line.len() {
+        if !ended {
+            reader.skip_until(b'\n')?;
+        }
+        return Ok(Found::Long);
+    }
+    Ok(Found::Line)
+}
+
+// Why a line is not answered: it is no request, or the answer cannot be written.
+#[derive(Drop)]
+pub enum Refusal {
+    BadLine,
+    Failed(io::Error),
+}
+
+impl From<io::Error> for Refusal {
+    fn from(e: io::Error) -> Refusal {
+        Refusal::Failed(e)
     }
 }
 
-fn at_end(len: usize, long: bool) -> Input
-    ensures { result.len ≡ len }
-{
-    Input {
-        at: 0,
-        end: 0,
-        len,
-        long,
-        ended: len == 0,
-    }
+// A program that answers a request a line.
+pub trait Answers {
+    fn answer(&mut self, rt: &(impl Print + AllocGlobal), line: &[u8]) -> Result<(), Refusal>;
 }
 
-fn refill(reader: &mut impl Read, block: &mut [u8]) -> io::Result<usize> {
-    reader.read(block)
-}
-
-// Reads the next line into `line`, or fails where a read fails. No line stands after the last 0A. What block and line hold then is the input's;
-// they keep their lengths.
-pub fn next(
-    reader: &mut impl Read,
-    input: Input,
-    block: &mut [u8],
-    line: &mut [u8],
-) -> io::Result<Input>
-    ensures len_in_bounds { IfOk result (λ found. found.len ≤ length line.new) }
-    ensures block_len_unchanged { (length block.new ≡ length block.old) × (length line.new ≡ length line.old) }
-{
-    let mut at = input.at;
-    let mut end = input.end;
-    let mut len: usize = 0;
-    let mut long = false;
-    // A proved loop has to end: it counts down from a number that no run uses up.
-    let mut turns = u64::MAX;
-    while turns > 0 {
-        turns = turns - 1;
-        if end <= at {
-            at = 0;
-            end = refill(reader, block)?;
-            if end == 0 {
-                return Ok(at_end(len, long));
-            }
-            continue;
-        }
-        if block.len() <= at {
-            return Ok(at_end(len, long));
-        }
-        let b = block[at];
-        at = at + 1;
-        if b == b'\n' {
-            return Ok(Input {
-                at,
-                end,
-                len,
-                long,
-                ended: false,
-            });
-        }
-        if len < line.len() {
-            line[len] = b;
-            len = len + 1;
-        } else {
-            long = true;
+// Answers each line of an input, of `most` bytes at most. A longer one is no request.
+pub fn serve(
+    rt: &(impl Print + AllocGlobal),
+    input: impl Read + Drop,
+    most: usize,
+    program: &mut impl Answers,
+) -> io::Result<()> {
+    let mut reader = BufReader::with_capacity(rt.alloc(), 65536, input)?;
+    let mut line = Vec::new(rt.alloc());
+    // A proved loop has to end: no run uses up the count.
+    for _ in 0..u64::MAX {
+        let answered = match next(&mut reader, most, &mut line)? {
+            Found::Line => program.answer(rt, &line),
+            Found::Long => Err(Refusal::BadLine),
+            Found::End => break,
+        };
+        match answered {
+            Ok(()) => (),
+            Err(Refusal::BadLine) => println!(rt; "bad line")?,
+            Err(Refusal::Failed(e)) => return Err(e),
         }
     }
-    Ok(at_end(len, long))
+    Ok(())
+}
+
+#[cfg(test)]
+mod tests {
+    use super::*;
+    use std::test::Fail;
+
+    #[test]
+    fn lines(rt: HostRuntime) -> Result<(), Fail> {
+        let mut input = b"ab\nabcd\n\nabc".as_slice();
+        let mut line = Vec::new(rt.alloc());
+        assert_eq!(rt; next(&mut input, 3, &mut line)?, Found::Line);
+        assert_eq!(rt; line.as_slice(), b"ab".as_slice());
+        assert_eq!(rt; next(&mut input, 3, &mut line)?, Found::Long);
+        assert_eq!(rt; next(&mut input, 3, &mut line)?, Found::Line);
+        assert_eq!(rt; line.as_slice(), b"".as_slice());
+        assert_eq!(rt; next(&mut input, 3, &mut line)?, Found::Line);
+        assert_eq!(rt; line.as_slice(), b"abc".as_slice());
+        assert_eq!(rt; next(&mut input, 3, &mut line)?, Found::End);
+        Ok(())
+    }
 }

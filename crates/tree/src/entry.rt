@@ -1,134 +1,152 @@
-// Entries by their structs: each member that is present, in the order of its number.
-use crate::members;
-use glow_entries::{Command, Connection, Matrix, Node, Parameter, Stream};
-use program_lines::print;
-use std::io;
+// Entries by their structs: each member that is present, in the order of its number, as ` NAME=VALUE`.
+use crate::value::{Any, Numbers, Quoted};
+use ber_values::Value;
+use glow_entries::{Command, Connection, Key, Matrix, Node, Parameter, Part, Stream};
+use glow_rows::{KIND, kinds};
+use program_lines::print::part;
+use std::fmt;
 
-// A row that is none of its kind's.
-fn other(rt: &impl Print) -> io::Result<()> {
-    print::say(rt, b" ?")
+// The entry of a row, and the message whose parts its members are.
+#[derive(Clone, Copy)]
+pub(crate) struct Entry<'a> {
+    pub(crate) s: &'a [u8],
+    pub(crate) row: &'a [u64; 50],
 }
 
-fn parameter_members(rt: &impl Print, s: &[u8], e: Parameter) -> io::Result<()> {
-    let key = e.key;
-    let identifier = e.identifier;
-    let description = e.description;
-    let value = e.value;
-    let minimum = e.minimum;
-    let maximum = e.maximum;
-    let access = e.access;
-    let factor = e.factor;
-    let online = e.online;
-    let step = e.step;
-    let stream = e.stream;
-    members::key(rt, s, key)?;
-    members::text(rt, b" identifier=", s, identifier)?;
-    members::text(rt, b" description=", s, description)?;
-    members::any(rt, b" value=", s, value)?;
-    members::any(rt, b" minimum=", s, minimum)?;
-    members::any(rt, b" maximum=", s, maximum)?;
-    members::number(rt, b" access=", access)?;
-    members::number(rt, b" factor=", factor)?;
-    members::flag(rt, b" online=", online)?;
-    members::number(rt, b" step=", step)?;
-    members::number(rt, b" stream=", stream)
-}
-
-pub(crate) fn parameter(rt: &impl Print, s: &[u8], row: &[u64; 50]) -> io::Result<()> {
-    match glow_entries::parameter_of(row) {
-        Some(e) => parameter_members(rt, s, e),
-        None => other(rt),
+impl fmt::Display for Entry<'_> {
+    fn fmt<W: fmt::Write>(&self, f: &mut fmt::Formatter<W>) -> fmt::Result {
+        match self.row[KIND] {
+            kinds::PARAMETER | kinds::QUALIFIED_PARAMETER => self.of_kind::<Parameter, W>(f),
+            kinds::NODE | kinds::QUALIFIED_NODE => self.of_kind::<Node, W>(f),
+            kinds::MATRIX | kinds::QUALIFIED_MATRIX => self.of_kind::<Matrix, W>(f),
+            kinds::COMMAND => self.of_kind::<Command, W>(f),
+            kinds::CONNECTION => self.of_kind::<Connection, W>(f),
+            kinds::STREAM_ENTRY => self.of_kind::<Stream, W>(f),
+            _ => write!(f, " ?"),
+        }
     }
 }
 
-fn node_members(rt: &impl Print, s: &[u8], e: Node) -> io::Result<()> {
-    let key = e.key;
-    let identifier = e.identifier;
-    let description = e.description;
-    let root = e.root;
-    let online = e.online;
-    members::key(rt, s, key)?;
-    members::text(rt, b" identifier=", s, identifier)?;
-    members::text(rt, b" description=", s, description)?;
-    members::flag(rt, b" root=", root)?;
-    members::flag(rt, b" online=", online)
-}
-
-pub(crate) fn node(rt: &impl Print, s: &[u8], row: &[u64; 50]) -> io::Result<()> {
-    match glow_entries::node_of(row) {
-        Some(e) => node_members(rt, s, e),
-        None => other(rt),
+impl Entry<'_> {
+    // A row that is none of its kind's is ` ?`.
+    fn of_kind<E: Members, W: fmt::Write>(&self, f: &mut fmt::Formatter<W>) -> fmt::Result {
+        match glow_entries::read::<E>(self.row) {
+            Some(e) => e.members(self.s, f),
+            None => write!(f, " ?"),
+        }
     }
 }
 
-fn matrix_members(rt: &impl Print, s: &[u8], e: Matrix) -> io::Result<()> {
-    let key = e.key;
-    let identifier = e.identifier;
-    let description = e.description;
-    let matrix_type = e.matrix_type;
-    let mode = e.mode;
-    let targets = e.targets;
-    let sources = e.sources;
-    let total_limit = e.total_limit;
-    let target_limit = e.target_limit;
-    members::key(rt, s, key)?;
-    members::text(rt, b" identifier=", s, identifier)?;
-    members::text(rt, b" description=", s, description)?;
-    members::number(rt, b" type=", matrix_type)?;
-    members::number(rt, b" mode=", mode)?;
-    members::number(rt, b" targets=", targets)?;
-    members::number(rt, b" sources=", sources)?;
-    members::number(rt, b" total-limit=", total_limit)?;
-    members::number(rt, b" target-limit=", target_limit)
+// A kind of entry whose members are printed.
+trait Members: glow_entries::Entry {
+    fn members<W: fmt::Write>(self, s: &[u8], f: &mut fmt::Formatter<W>) -> fmt::Result;
 }
 
-pub(crate) fn matrix(rt: &impl Print, s: &[u8], row: &[u64; 50]) -> io::Result<()> {
-    match glow_entries::matrix_of(row) {
-        Some(e) => matrix_members(rt, s, e),
-        None => other(rt),
+impl Members for Parameter {
+    fn members<W: fmt::Write>(self, s: &[u8], f: &mut fmt::Formatter<W>) -> fmt::Result {
+        key(f, s, self.key)?;
+        text(f, s, "identifier", self.identifier)?;
+        text(f, s, "description", self.description)?;
+        any(f, s, "value", self.value)?;
+        any(f, s, "minimum", self.minimum)?;
+        any(f, s, "maximum", self.maximum)?;
+        member(f, "access", self.access)?;
+        member(f, "factor", self.factor)?;
+        member(f, "online", self.online)?;
+        member(f, "step", self.step)?;
+        member(f, "stream", self.stream)
     }
 }
 
-fn command_members(rt: &impl Print, e: Command) -> io::Result<()> {
-    let number = e.number;
-    let mask = e.mask;
-    members::integer(rt, b" number=", number)?;
-    members::number(rt, b" mask=", mask)
-}
-
-pub(crate) fn command(rt: &impl Print, row: &[u64; 50]) -> io::Result<()> {
-    match glow_entries::command_of(row) {
-        Some(e) => command_members(rt, e),
-        None => other(rt),
+impl Members for Node {
+    fn members<W: fmt::Write>(self, s: &[u8], f: &mut fmt::Formatter<W>) -> fmt::Result {
+        key(f, s, self.key)?;
+        text(f, s, "identifier", self.identifier)?;
+        text(f, s, "description", self.description)?;
+        member(f, "root", self.root)?;
+        member(f, "online", self.online)
     }
 }
 
-fn connection_members(rt: &impl Print, s: &[u8], e: Connection) -> io::Result<()> {
-    let target = e.target;
-    let sources = e.sources;
-    let operation = e.operation;
-    members::integer(rt, b" target=", target)?;
-    members::list(rt, b" sources=", s, sources)?;
-    members::number(rt, b" operation=", operation)
-}
-
-pub(crate) fn connection(rt: &impl Print, s: &[u8], row: &[u64; 50]) -> io::Result<()> {
-    match glow_entries::connection_of(row) {
-        Some(e) => connection_members(rt, s, e),
-        None => other(rt),
+impl Members for Matrix {
+    fn members<W: fmt::Write>(self, s: &[u8], f: &mut fmt::Formatter<W>) -> fmt::Result {
+        key(f, s, self.key)?;
+        text(f, s, "identifier", self.identifier)?;
+        text(f, s, "description", self.description)?;
+        member(f, "type", self.matrix_type)?;
+        member(f, "mode", self.mode)?;
+        member(f, "targets", self.targets)?;
+        member(f, "sources", self.sources)?;
+        member(f, "total-limit", self.total_limit)?;
+        member(f, "target-limit", self.target_limit)
     }
 }
 
-fn stream_members(rt: &impl Print, s: &[u8], e: Stream) -> io::Result<()> {
-    let identifier = e.identifier;
-    let value = e.value;
-    members::integer(rt, b" stream=", identifier)?;
-    members::any(rt, b" value=", s, value)
+impl Members for Command {
+    fn members<W: fmt::Write>(self, _s: &[u8], f: &mut fmt::Formatter<W>) -> fmt::Result {
+        member(f, "number", Some(self.number))?;
+        member(f, "mask", self.mask)
+    }
 }
 
-pub(crate) fn stream(rt: &impl Print, s: &[u8], row: &[u64; 50]) -> io::Result<()> {
-    match glow_entries::stream_of(row) {
-        Some(e) => stream_members(rt, s, e),
-        None => other(rt),
+impl Members for Connection {
+    fn members<W: fmt::Write>(self, s: &[u8], f: &mut fmt::Formatter<W>) -> fmt::Result {
+        member(f, "target", Some(self.target))?;
+        if let Some(p) = self.sources {
+            member(f, "sources", Some(Numbers(part(s, p.start, p.len))))?;
+        }
+        member(f, "operation", self.operation)
+    }
+}
+
+impl Members for Stream {
+    fn members<W: fmt::Write>(self, s: &[u8], f: &mut fmt::Formatter<W>) -> fmt::Result {
+        member(f, "stream", Some(self.identifier))?;
+        any(f, s, "value", self.value)
+    }
+}
+
+// A member, if it is there.
+fn member<T: fmt::Display + Drop, W: fmt::Write>(
+    f: &mut fmt::Formatter<W>,
+    name: &str,
+    value: Option<T>,
+) -> fmt::Result {
+    match value {
+        Some(value) => write!(f, " {name}={value}"),
+        None => Ok(()),
+    }
+}
+
+// An element's number or path.
+fn key<W: fmt::Write>(f: &mut fmt::Formatter<W>, s: &[u8], key: Key) -> fmt::Result {
+    match key {
+        Key::Number(z) => member(f, "number", Some(z)),
+        Key::Path { start, len } => member(f, "path", Some(Numbers(part(s, start, len)))),
+    }
+}
+
+fn text<W: fmt::Write>(
+    f: &mut fmt::Formatter<W>,
+    s: &[u8],
+    name: &str,
+    text: Option<Part>,
+) -> fmt::Result {
+    match text {
+        Some(p) => member(f, name, Some(Quoted(part(s, p.start, p.len)))),
+        None => Ok(()),
+    }
+}
+
+// A member of any kind, with its kind before it.
+fn any<W: fmt::Write>(
+    f: &mut fmt::Formatter<W>,
+    s: &[u8],
+    name: &str,
+    value: Value,
+) -> fmt::Result {
+    match value {
+        Value::Absent => Ok(()),
+        _ => member(f, name, Some(Any { s, value })),
     }
 }

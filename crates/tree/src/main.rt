@@ -16,186 +16,76 @@
 #![tactic(auto)]
 
 mod entry;
-mod members;
-mod names;
 mod show;
 mod value;
 
-use base_casts::index;
 use glow_reader::Answer;
-use program_lines::input::Input;
-use program_lines::text::{Decimal, Hex};
-use program_lines::{input, print, text};
+use program_lines::input::{Answers, Refusal};
+use program_lines::print::Hex;
+use program_lines::{input, text};
 use std::io;
+
+// The space for a message read, a table and a message written.
+#[derive(Drop)]
+struct Tree {
+    work: [u8; 16385],
+    table: [[u64; 50]; 300],
+    out: [u8; 16384],
+}
 
 fn read(rt: &impl Print, s: &[u8], table: &mut [[u64; 50]]) -> io::Result<()> {
     let found = glow_reader::read(s, table);
     show::answer(rt, s, table, found)
 }
 
-// What was written, or 46.
-fn written(rt: &impl Print, w: Option<usize>, out: &[u8]) -> io::Result<()> {
-    match w {
-        Some(n) => {
-            print::say(rt, b"0 ")?;
-            if n <= out.len() {
-                print::hex(rt, &out[..n])?;
-            }
-        }
-        None => {
-            print::say(rt, b"46")?;
-        }
-    }
-    print::end(rt)
-}
-
 // Reads with the table and writes what was read.
 fn write(rt: &impl Print, s: &[u8], table: &mut [[u64; 50]], out: &mut [u8]) -> io::Result<()> {
     let found = glow_reader::read(s, table);
-    match found {
-        Answer::Read { root, count } => {
-            let w = glow_writer::write::write(table, count, root, s, out);
-            written(rt, w, out)
-        }
-        _ => show::answer(rt, s, table, found),
-    }
-}
-
-// Reads with the table's first n rows; more than there are make a bad line.
-fn read_with(rt: &impl Print, s: &[u8], n: usize, table: &mut [[u64; 50]]) -> io::Result<()> {
-    if n <= table.len() {
-        return read(rt, s, &mut table[..n]);
-    }
-    print::bad_line(rt)
-}
-
-fn write_with(
-    rt: &impl Print,
-    s: &[u8],
-    n: usize,
-    table: &mut [[u64; 50]],
-    out: &mut [u8],
-) -> io::Result<()> {
-    if n <= table.len() {
-        write(rt, s, &mut table[..n], out)?;
-    }
-    Ok(())
-}
-
-// The message whose bytes a line has from a position on.
-fn message(
-    rt: &impl Print,
-    line: &[u8],
-    from: usize,
-    n: usize,
-    work: &mut [u8],
-    table: &mut [[u64; 50]],
-) -> io::Result<()> {
-    let Hex::Octets(end) = text::octets(line, from, work) else {
-        return print::bad_line(rt);
+    let Answer::Read { root, count } = found else {
+        return show::answer(rt, s, table, found);
     };
-    if end <= work.len() {
-        read_with(rt, &work[..end], n, table)?;
+    match glow_writer::write::write(table, count, root, s, out) {
+        Some(n) => println!(rt; "0 {}", Hex(out.get(..n).unwrap_or_default())),
+        None => println!(rt; "46"),
     }
-    Ok(())
 }
 
-// The same for a message to be written again.
-fn rewrite(
-    rt: &impl Print,
-    line: &[u8],
-    from: usize,
-    work: &mut [u8],
-    table: &mut [[u64; 50]],
-    out: &mut [u8],
-) -> io::Result<()> {
-    let Hex::Octets(end) = text::octets(line, from, work) else {
-        return print::bad_line(rt);
-    };
-    if end <= work.len() {
-        write_with(rt, &work[..end], 256, table, out)?;
-    }
-    Ok(())
-}
-
-// The table's length that a line has from a position up to an end: digits, the first of several not 0. The largest for none.
-fn length_of(line: &[u8], from: usize, end: usize) -> usize {
-    if line.len() <= from {
-        return usize::MAX;
-    }
-    if line[from] == b'0' {
-        if from + 1 == end {
-            return 0;
+// HEX or N HEX: the table's length and the message's digits.
+fn asked(words: &[u8]) -> Option<(usize, &[u8])> {
+    let mut parts = words.splitn(2, |b| *b == b' ');
+    let first = parts.next()?;
+    match parts.next() {
+        None => Some((256, first)),
+        Some(hex) => {
+            let n = text::plain_number(first)?;
+            Some((usize::try_from(n).ok()?, hex))
         }
-        return usize::MAX;
-    }
-    match text::number(line, from, end) {
-        Decimal::Number(n) => index(n),
-        Decimal::Bad => usize::MAX,
     }
 }
 
-fn answer(
-    rt: &impl Print,
-    line: &[u8],
-    work: &mut [u8],
-    table: &mut [[u64; 50]],
-    out: &mut [u8],
-) -> io::Result<()> {
-    if text::starts(line, b"write ") {
-        return rewrite(rt, line, 6, work, table, out);
+impl Answers for Tree {
+    fn answer(&mut self, rt: &(impl Print + AllocGlobal), line: &[u8]) -> Result<(), Refusal> {
+        let table: &mut [[u64; 50]] = &mut self.table;
+        if let Some(hex) = line.strip_prefix(b"write ") {
+            let s = text::octets(hex, &mut self.work).ok_or(Refusal::BadLine)?;
+            let table = table.get_mut(..256).ok_or(Refusal::BadLine)?;
+            write(rt, s, table, &mut self.out)?;
+            return Ok(());
+        }
+        let words = line.strip_prefix(b"read ").ok_or(Refusal::BadLine)?;
+        let (n, hex) = asked(words).ok_or(Refusal::BadLine)?;
+        let s = text::octets(hex, &mut self.work).ok_or(Refusal::BadLine)?;
+        let table = table.get_mut(..n).ok_or(Refusal::BadLine)?;
+        read(rt, s, table)?;
+        Ok(())
     }
-    if !text::starts(line, b"read ") {
-        return print::bad_line(rt);
-    }
-    let space = text::find(line, 5, b' ');
-    if line.len() <= space {
-        return message(rt, line, 5, 256, work, table);
-    }
-    message(rt, line, space + 1, length_of(line, 5, space), work, table)
-}
-
-// Answers the line that was found.
-fn finish(
-    rt: &impl Print,
-    found: Input,
-    line: &[u8],
-    work: &mut [u8],
-    table: &mut [[u64; 50]],
-    out: &mut [u8],
-) -> io::Result<()> {
-    let n = found.len;
-    if found.long {
-        return print::bad_line(rt);
-    }
-    if n <= line.len() {
-        answer(rt, &line[..n], work, table, out)?;
-    }
-    Ok(())
 }
 
 fn main(rt: HostRuntime) -> io::Result<()> {
-    let mut space = [0u8; 32790];
-    let line: &mut [u8] = &mut space;
-    let mut room = [0u8; 16385];
-    let work: &mut [u8] = &mut room;
-    let mut rows = [[0u64; 50]; 300];
-    let table: &mut [[u64; 50]] = &mut rows;
-    let mut message = [0u8; 16384];
-    let out: &mut [u8] = &mut message;
-    let mut buffer = [0u8; 65536];
-    let block: &mut [u8] = &mut buffer;
-    let mut found = input::start();
-    let mut reader = rt.stdin();
-    // A proved loop has to end: it counts down from a number that no run uses up.
-    let mut turns = u64::MAX;
-    while turns > 0 {
-        turns = turns - 1;
-        found = input::next(&mut reader, found, block, line)?;
-        if found.ended {
-            break;
-        }
-        finish(&rt, found, line, work, table, out)?;
-    }
-    Ok(())
+    let mut tree = Tree {
+        work: [0; 16385],
+        table: [[0; 50]; 300],
+        out: [0; 16384],
+    };
+    input::serve(&rt, rt.stdin(), 32790, &mut tree)
 }

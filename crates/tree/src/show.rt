@@ -1,80 +1,59 @@
 // Answers: the first line, and a line for each entry.
-use crate::{entry, names};
-use base_casts::word;
+use crate::entry::Entry;
 use glow_reader::Answer;
-use glow_rows::{KIND, PARENT, kinds, word_at};
-use program_lines::print;
-use std::io;
+use glow_rows::{KIND, PARENT, kinds};
+use std::{fmt, io};
 
-fn space(rt: &impl Print) -> io::Result<()> {
-    print::say(rt, b" ")
-}
+// The parent's place, `-` for none; a row has it and 1.
+#[derive(Clone, Copy)]
+struct Parent(u64);
 
-// The parent's place; a row has it and 1.
-fn parent(rt: &impl Print, x: u64) -> io::Result<()> {
-    if x == 0 {
-        return print::say(rt, b"-");
-    }
-    print::decimal(rt, x - 1)
-}
-
-// The entry of a row, by the struct of its kind.
-fn of_kind(rt: &impl Print, s: &[u8], row: &[u64; 50]) -> io::Result<()> {
-    match row[KIND] {
-        kinds::PARAMETER => entry::parameter(rt, s, row),
-        kinds::QUALIFIED_PARAMETER => entry::parameter(rt, s, row),
-        kinds::NODE => entry::node(rt, s, row),
-        kinds::QUALIFIED_NODE => entry::node(rt, s, row),
-        kinds::MATRIX => entry::matrix(rt, s, row),
-        kinds::QUALIFIED_MATRIX => entry::matrix(rt, s, row),
-        kinds::COMMAND => entry::command(rt, row),
-        kinds::CONNECTION => entry::connection(rt, s, row),
-        kinds::STREAM_ENTRY => entry::stream(rt, s, row),
-        _ => print::say(rt, b" ?"),
+impl fmt::Display for Parent {
+    fn fmt<W: fmt::Write>(&self, f: &mut fmt::Formatter<W>) -> fmt::Result {
+        match self.0.checked_sub(1) {
+            Some(place) => write!(f, "{place}"),
+            None => write!(f, "-"),
+        }
     }
 }
 
-// The line of the entry i.
-fn line(rt: &impl Print, s: &[u8], table: &[[u64; 50]], i: usize) -> io::Result<()> {
-    if table.len() <= i {
-        return Ok(());
+fn kind(kind: u64) -> &'static str {
+    match kind {
+        kinds::PARAMETER => "parameter",
+        kinds::COMMAND => "command",
+        kinds::NODE => "node",
+        kinds::MATRIX => "matrix",
+        kinds::QUALIFIED_PARAMETER => "qualified-parameter",
+        kinds::QUALIFIED_NODE => "qualified-node",
+        kinds::QUALIFIED_MATRIX => "qualified-matrix",
+        kinds::CONNECTION => "connection",
+        kinds::STREAM_ENTRY => "stream",
+        _ => "?",
     }
-    print::decimal(rt, word(i))?;
-    space(rt)?;
-    parent(rt, word_at(table, i, PARENT))?;
-    space(rt)?;
-    names::kind(rt, word_at(table, i, KIND))?;
-    of_kind(rt, s, &table[i])?;
-    print::end(rt)
 }
 
-fn entries(rt: &impl Print, s: &[u8], table: &[[u64; 50]], count: usize) -> io::Result<()> {
-    let mut i: usize = 0;
-    while i < count {
-        line(rt, s, table, i)?;
-        i = i + 1;
-    }
-    Ok(())
-}
-
-// Two numbers, a line.
-fn two(rt: &impl Print, a: u64, b: usize) -> io::Result<()> {
-    print::decimal(rt, a)?;
-    space(rt)?;
-    print::decimal(rt, word(b))?;
-    print::end(rt)
-}
-
-pub(crate) fn answer(rt: &impl Print, s: &[u8], table: &[[u64; 50]], a: Answer) -> io::Result<()> {
-    match a {
-        Answer::Setup => print::say(rt, b"1\n"),
-        Answer::Refused { number, place } => two(rt, number, place),
-        Answer::Room { count } => two(rt, 38, count),
+pub(crate) fn answer(
+    rt: &impl Print,
+    s: &[u8],
+    table: &[[u64; 50]],
+    answer: Answer,
+) -> io::Result<()> {
+    match answer {
+        Answer::Setup => println!(rt; "1"),
+        Answer::Refused { number, place } => println!(rt; "{number} {place}"),
+        Answer::Room { count } => println!(rt; "38 {count}"),
         Answer::Read { root, count } => {
-            names::root(rt, root)?;
-            print::decimal(rt, word(count))?;
-            print::end(rt)?;
-            entries(rt, s, table, count)
+            let root = if root == 0 { "elements" } else { "streams" };
+            println!(rt; "0 {root} {count}")?;
+            for (i, row) in table.iter().take(count).enumerate() {
+                println!(rt;
+                    "{i} {} {}{}",
+                    Parent(row[PARENT]),
+                    kind(row[KIND]),
+                    Entry { s, row }
+                )?;
+            }
+            Ok(())
         }
     }
 }

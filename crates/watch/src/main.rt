@@ -9,178 +9,71 @@
 // `bad line`, and so are one before the start and a second start.
 #![tactic(auto)]
 
-use program_lines::input::Input;
-use program_lines::text::Decimal;
-use program_lines::{input, print, text};
+use program_lines::input::{Answers, Refusal};
+use program_lines::{input, text};
 use std::io;
 use supervision::{Answer, Happened, Link};
-
-#[derive(Clone, Copy)]
-enum Tick {
-    At(u32),
-    Bad,
-}
 
 #[derive(Clone, Copy)]
 enum Line {
     Start(u32),
     Showing(u32, Happened),
-    Bad,
 }
 
-// Whether there was a start, and the supervisor since then.
-#[derive(Clone, Copy)]
-enum Watch {
-    Before,
-    Since(Link),
+fn tick(word: &[u8]) -> Option<u32> {
+    u32::try_from(text::plain_number(word)?).ok()
 }
 
-fn narrow(n: u64) -> Tick {
-    if n < 4294967296 {
-        return Tick::At(n as u32);
+fn read(line: &[u8]) -> Option<Line> {
+    if let Some(word) = line.strip_prefix(b"start ") {
+        return Some(Line::Start(tick(word)?));
     }
-    Tick::Bad
+    let mut words = line.splitn(2, |b| *b == b' ');
+    let tick = tick(words.next()?)?;
+    let happened = match words.next() {
+        None => Happened::Nothing,
+        Some(b"event") => Happened::Event,
+        Some(b"request") => Happened::Request,
+        Some(_) => return None,
+    };
+    Some(Line::Showing(tick, happened))
 }
 
-// Whether a number from a position up to an end starts with 0 and goes on.
-fn is_padded(line: &[u8], from: usize, end: usize) -> bool {
-    if line.len() <= from {
-        return false;
-    }
-    if end <= from {
-        return false;
-    }
-    if end - from == 1 {
-        return false;
-    }
-    line[from] == b'0'
-}
-
-fn tick_at(line: &[u8], from: usize, end: usize) -> Tick {
-    if is_padded(line, from, end) {
-        return Tick::Bad;
-    }
-    match text::number(line, from, end) {
-        Decimal::Number(n) => narrow(n),
-        Decimal::Bad => Tick::Bad,
-    }
-}
-
-fn start_at(tick: Tick) -> Line {
-    match tick {
-        Tick::At(t) => Line::Start(t),
-        Tick::Bad => Line::Bad,
-    }
-}
-
-fn showing_at(tick: Tick, happened: Happened) -> Line {
-    match tick {
-        Tick::At(t) => Line::Showing(t, happened),
-        Tick::Bad => Line::Bad,
-    }
-}
-
-// A line whose tick ends where the rest of it begins.
-fn with_rest(tick: Tick, rest: &[u8]) -> Line {
-    if rest.len() == 0 {
-        return showing_at(tick, Happened::Nothing);
-    }
-    if rest.len() == 6 {
-        if text::starts(rest, b" event") {
-            return showing_at(tick, Happened::Event);
-        }
-    }
-    if rest.len() == 8 {
-        if text::starts(rest, b" request") {
-            return showing_at(tick, Happened::Request);
-        }
-    }
-    Line::Bad
-}
-
-fn read(line: &[u8]) -> Line {
-    if text::starts(line, b"start ") {
-        return start_at(tick_at(line, 6, line.len()));
-    }
-    let space = text::find(line, 0, b' ');
-    if space <= line.len() {
-        return with_rest(tick_at(line, 0, space), &line[space..]);
-    }
-    Line::Bad
-}
-
-fn say(rt: &impl Print, answer: Answer) -> io::Result<()> {
+fn word(answer: Answer) -> &'static str {
     match answer {
-        Answer::Nothing => print::say(rt, b"-\n"),
-        Answer::Ask => print::say(rt, b"ask\n"),
-        Answer::Respond => print::say(rt, b"answer\n"),
-        Answer::Dead => print::say(rt, b"dead\n"),
+        Answer::Nothing => "-",
+        Answer::Ask => "ask",
+        Answer::Respond => "answer",
+        Answer::Dead => "dead",
     }
 }
 
-fn refuse(rt: &impl Print, watch: Watch) -> io::Result<Watch> {
-    print::bad_line(rt)?;
-    Ok(watch)
+// The supervisor since the start, if there was one.
+#[derive(Drop)]
+struct Watch {
+    link: Option<Link>,
 }
 
-fn begin(rt: &impl Print, watch: Watch, tick: u32) -> io::Result<Watch> {
-    match watch {
-        Watch::Before => Ok(Watch::Since(supervision::start(tick))),
-        Watch::Since(_) => refuse(rt, watch),
-    }
-}
-
-fn show(rt: &impl Print, watch: Watch, tick: u32, happened: Happened) -> io::Result<Watch> {
-    match watch {
-        Watch::Before => refuse(rt, watch),
-        Watch::Since(link) => {
-            let shown = supervision::show(link, tick, happened);
-            let answer = shown.answer;
-            let next = shown.link;
-            say(rt, answer)?;
-            Ok(Watch::Since(next))
+impl Answers for Watch {
+    fn answer(&mut self, rt: &(impl Print + AllocGlobal), line: &[u8]) -> Result<(), Refusal> {
+        let line = read(line).ok_or(Refusal::BadLine)?;
+        match (line, self.link) {
+            (Line::Start(tick), None) => {
+                self.link = Some(supervision::start(tick));
+                Ok(())
+            }
+            (Line::Showing(tick, happened), Some(link)) => {
+                let shown = supervision::show(link, tick, happened);
+                self.link = Some(shown.link);
+                println!(rt; "{}", word(shown.answer))?;
+                Ok(())
+            }
+            (Line::Start(_), Some(_)) | (Line::Showing(_, _), None) => Err(Refusal::BadLine),
         }
     }
-}
-
-fn answer(rt: &impl Print, watch: Watch, line: Line) -> io::Result<Watch> {
-    match line {
-        Line::Start(tick) => begin(rt, watch, tick),
-        Line::Showing(tick, happened) => show(rt, watch, tick, happened),
-        Line::Bad => refuse(rt, watch),
-    }
-}
-
-// Answers the line that was found.
-fn finish(rt: &impl Print, watch: Watch, found: Input, line: &[u8]) -> io::Result<Watch> {
-    let n = found.len;
-    if found.long {
-        return refuse(rt, watch);
-    }
-    if n <= line.len() {
-        return answer(rt, watch, read(&line[..n]));
-    }
-    Ok(watch)
 }
 
 fn main(rt: HostRuntime) -> io::Result<()> {
     // No line that is taken is longer.
-    let mut space = [0u8; 64];
-    let line: &mut [u8] = &mut space;
-    let mut buffer = [0u8; 65536];
-    let block: &mut [u8] = &mut buffer;
-    let mut found = input::start();
-    let mut reader = rt.stdin();
-    let mut watch = Watch::Before;
-    // A proved loop has to end: it counts down from a number that no run uses up.
-    let mut turns = u64::MAX;
-    while turns > 0 {
-        turns = turns - 1;
-        found = input::next(&mut reader, found, block, line)?;
-        if found.ended {
-            break;
-        }
-        watch = finish(&rt, watch, found, line)?;
-    }
-    Ok(())
+    input::serve(&rt, rt.stdin(), 64, &mut Watch { link: None })
 }

@@ -1,27 +1,11 @@
-use Rattle.program_lines.proofs.Laws.{clear-end, clear-no, clear-more}
-use native.Mathlib.Omega.{arith}
-use mathlib.Core.Path.{refl}
+use Rattle.std.proofs.Common.{rules, ◌∙◌, sym, tests}
+use Rattle.std.proofs.lemmas.Iterator.{YieldsList-from_slice}
+use Rattle.std.proofs.lemmas.Iterator.Search.{all_from_yields_List}
+use lib.Dec.{eqb}
+use Rattle.program_lines.proofs.Laws.{clear-all}
 use Rattle.program_lines.proofs.room.is_clear.Goals as goal
-
-pub loop-i-init : goal.loop-i-init
-loop-i-init c = (omega arith, refl)
-
-pub returns-then-out-i-ne0 : goal.returns-then-out-i-ne0
-returns-then-out-i-ne0 c =
-    let the-loop = c.loop-i in
-    let the-loop-test = c.loop-i-test in
-    let the-if1 = c.if-out-i-ne0 in
-    clear-no _ _ the-loop.invariant.1 the-loop-test.true the-if1.true
-
-pub loop-i-preserved : goal.loop-i-preserved
-loop-i-preserved c =
-    let the-loop = c.loop-i in
-    let the-loop-test = c.loop-i-test in
-    let the-if1 = c.if-out-i-ne0 in
-    (omega arith, clear-more _ _ the-loop.invariant.1 the-loop-test.true the-if1.false)
 
 pub returns : goal.returns
 returns c =
-    let the-loop = c.loop-i in
-    let the-loop-test = c.loop-i-test in
-    clear-end _ _ the-loop.invariant.1 the-loop-test.false
+    clear-all _
+    ∙ sym (all_from_yields_List (λ b. eqb b 0) _ _ _ c.all.ensures.ran (YieldsList-from_slice c.args.out.now cc) (λ x b q k. search (rules, tests)))
