@@ -32,10 +32,8 @@ fn emit_lines(out: &mut [u8], at: usize, s: &[u8]) -> usize
     ensures upper_bound { result ≤ at + 3 * length s.now }
 {
     let mut next = at;
-    let mut i = 0;
-    while i < s.len() {
-        next = emit_byte(out, next, s[i]);
-        i += 1;
+    for b in s {
+        next = emit_byte(out, next, *b);
     }
     next
 }
@@ -92,13 +90,11 @@ pub fn has_bad_line(text: &[u8]) -> bool
     ensures { is_bad (lines_in text.now) ≡ result }
 {
     let mut k = FRESH;
-    let mut i = 0;
-    while i < text.len() {
-        k = step_line(k, text[i]);
+    for b in text {
+        k = step_line(k, *b);
         if k == BAD {
             return true;
         }
-        i += 1;
     }
     k == HALF
 }

@@ -119,10 +119,8 @@ fn take_text(text: &[u8], store: &mut [u8]) -> Tally
         refused: 0,
     };
     let mut first = NO_DIGIT;
-    let mut i = 0;
-    while i < text.len() {
-        let d = base_hex::digit(text[i]);
-        i += 1;
+    for b in text {
+        let d = base_hex::digit(*b);
         if d == NO_DIGIT {
             continue;
         }

@@ -1,4 +1,4 @@
-use Prim.Native.Nat.{◌≤◌, ◌+◌, ◌-◌, ◌*◌}
+use Prim.Native.Nat.{◌≤◌, ◌+◌, ◌*◌}
 use mathlib.Core.Path.{◌≡◌}
 use lib.ListN.{length, drop}
 use Rattle.sheet_rules.specs.Sheet.{breaks}
@@ -6,10 +6,7 @@ use Rattle.base_output.specs.Output.{wrote}
 use Rattle.sheet_rules.proofs.emit_lines.Given as goal
 
 -- The invariant: what is left of the slice, written from here, leaves what the whole leaves.
-abbrev pub invariant-loop-i : goal.invariant-loop-i
-invariant-loop-i l =
-    (l.i ≤ length l.s) × ((l.next ≤ l.at + 3 * l.i) × ((length l.out ≡ length l.initial.out) ×
-    (wrote l.initial.out l.at (breaks l.s) ≡ wrote l.out l.next (breaks (drop l.i l.s)))))
-
-abbrev pub decreases-loop-i : goal.decreases-loop-i
-decreases-loop-i l = length l.s - l.i
+abbrev pub invariant-loop-b : goal.invariant-loop-b
+invariant-loop-b l =
+    (l.next ≤ l.at + 3 * l.b-index) × ((length l.out ≡ length l.initial.out) ×
+    (wrote l.initial.out l.at (breaks l.s) ≡ wrote l.out l.next (breaks (drop l.b-index l.s))))

@@ -3,27 +3,14 @@ use native.Mathlib.Omega.{arith}
 use Rattle.sheet_rules.proofs.Laws.{bad-start, bad-yes, bad-on, bad-end}
 use Rattle.sheet_rules.proofs.has_bad_line.Goals as goal
 
-pub loop-i-init : goal.loop-i-init
-loop-i-init c = (omega arith, bad-start _)
-
-pub bounds-text-i : goal.bounds-text-i
-bounds-text-i c = omega arith
+pub loop-b-init : goal.loop-b-init
+loop-b-init c = bad-start _
 
 pub returns-then-k-eq-BAD : goal.returns-then-k-eq-BAD
-returns-then-k-eq-BAD c =
-    let the-loop = c.loop-i in
-    the-loop.invariant.1 ∙ bad-yes _ _ _ _ c.loop-i-test.true c.step_line-k.ensures c.if-k-eq-BAD.true
+returns-then-k-eq-BAD c = c.loop-b.invariant ∙ bad-yes c.args.text.now c.loop-b.b-index _ _ (omega arith) c.step_line-k.ensures c.if-k-eq-BAD.true
 
-pub overflow_add-i : goal.overflow_add-i
-overflow_add-i c = omega arith
-
-pub loop-i-smaller : goal.loop-i-smaller
-loop-i-smaller c = omega arith
-
-pub loop-i-preserved : goal.loop-i-preserved
-loop-i-preserved c =
-    let the-loop = c.loop-i in
-    (omega arith, the-loop.invariant.1 ∙ bad-on _ _ _ _ c.loop-i-test.true c.step_line-k.ensures c.if-k-eq-BAD.false)
+pub loop-b-preserved : goal.loop-b-preserved
+loop-b-preserved c = c.loop-b.invariant ∙ bad-on c.args.text.now c.loop-b.b-index _ _ (omega arith) c.step_line-k.ensures c.if-k-eq-BAD.false
 
 pub returns : goal.returns
-returns c = c.loop-i.invariant.1 ∙ bad-end _ _ _ c.loop-i-test.false
+returns c = c.loop-b.invariant ∙ bad-end c.args.text.now c.loop-b.b-index _ (omega arith)

@@ -2,12 +2,9 @@ use Rattle.sheet_stream.proofs.Steps.{Goes}
 use Rattle.sheet_stream.specs.Steps.{bytes_from, Sound}
 use lib.ListN.{length, drop}
 use mathlib.Core.Path.{◌≡◌}
-use Prim.Native.Nat.{◌≤◌, ◌-◌}
+use Prim.Native.Nat.{◌≤◌}
 use Rattle.sheet_stream.proofs.take_text.Given as goal
 
-abbrev pub invariant-loop-i : goal.invariant-loop-i
-invariant-loop-i l = (l.i ≤ length l.text) × ((l.first ≤ 16) × ((length l.store ≡ length l.initial.store) × (Sound l.tally l.store × ((l.tally.refused ≡ 0)
-    × Goes (bytes_from 16 l.text) l.initial.store l.tally l.store (bytes_from l.first (drop l.i l.text))))))
-
-abbrev pub decreases-loop-i : goal.decreases-loop-i
-decreases-loop-i l = length l.text - l.i
+abbrev pub invariant-loop-b : goal.invariant-loop-b
+invariant-loop-b l = (l.first ≤ 16) × ((length l.store ≡ length l.initial.store) × (Sound l.tally l.store × ((l.tally.refused ≡ 0)
+    × Goes (bytes_from 16 l.text) l.initial.store l.tally l.store (bytes_from l.first (drop l.b-index l.text)))))
