@@ -111,7 +111,7 @@ impl Stream {
 
     // The run ends at the input's end.
     fn finish(&mut self, out: &mut impl Write) -> Result<(), Halt> {
-        if self.line.high != 16 {
+        if self.line.high.is_some() {
             return self.refuse(out);
         }
         let n = put_end(&mut self.text, self.offset, self.session);

@@ -121,7 +121,7 @@ impl Stream {
 
     // The run ends at the input's end.
     fn finish(&self, rt: &impl Print) -> io::Result<()> {
-        if self.line.high != 16 {
+        if self.line.high.is_some() {
             return println!(rt; "bad line");
         }
         println!(rt; "end {}", self.count)
