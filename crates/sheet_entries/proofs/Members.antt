@@ -1,16 +1,18 @@
 -- What the rows say: limits, figures, and which entries they are.
 use Rattle.std.specs.Prelude.{Option, Some, None}
-use Prim.Native.Nat.{ℕ, suc, ◌+◌, ◌≤◌, ◌<◌, ◌^◌}
+use Prim.Native.Nat.{ℕ, zero, suc, ◌-◌, ◌+◌, ◌≤◌, ◌<◌, ◌^◌}
 use mathlib.Core.Path.{◌≡◌, refl, sym, ap, subst, ◌∙◌}
 use mathlib.Core.List.{List, [], ◌∷◌}
 use mathlib.Core.Bool.{Bool, true, false, true≢false}
+use mathlib.Core.Logic.{◌↔◌}
 use native.Mathlib.Omega.{arith}
 use borrow.Author.Tests.{eq-eqb, ne_eqb, eqb-true, eqb-false, lt-ltb}
-use lib.ListN.{length, drop, get_or, drop_of_length-le}
+use Rattle.std.proofs.lemmas.Grind.{get_or_after_one}
+use lib.ListN.{length, drop, get_or, length-drop}
 use lib.Seq.{drop-cons}
 use lib.Dec.{eqb}
 use lib.IntN.{ℤ}
-use Rattle.base_choices.specs.Choices.{pick}
+use Rattle.base_choices.specs.Choices.{pick, both}
 use Rattle.glow_rows.specs.Entry.{Rows}
 use Rattle.glow_rows.specs.declared.Cell.{Cell}
 use Rattle.glow_rows.specs.Cell.{int_of, number_in}
@@ -98,13 +100,29 @@ module _ (s : List ℕ) (rows : Rows) (n : ℕ) where
       go true q = absurd (true≢false (sym e ∙ sheet-none (eqb-true n 0 q)))
       go false q = let z = eqb-false n 0 q in omega arith
 
+pub some-row : (n : ℕ) → (n ≡ 0 → ⊥) → 0 < n
+some-row n h = omega (arith, h)
+
+links-tell : (xs : List Item) → all_links xs ≡ true → (k : ℕ) → k < length xs → (get_or xs k nobody).kind ≡ 8
+unfolding all_links
+links-tell [] h k q = absurd (omega (arith, q))
+links-tell (x ∷ xs) h k q = go (eqb x.kind 8) refl h (λ (e : all_links xs ≡ true) (j : ℕ) (r : j < length xs). links-tell xs e j r) k q
+  where
+    go : (u : Bool) → eqb x.kind 8 ≡ u → both u (all_links xs) ≡ true
+        → (all_links xs ≡ true → (j : ℕ) → j < length xs → (get_or xs j nobody).kind ≡ 8)
+        → (k : ℕ) → k < length (x ∷ xs) → (get_or (x ∷ xs) k nobody).kind ≡ 8
+    go true e r f zero q = eqb-true x.kind 8 e
+    go true e r f (suc j) q = f r j (omega (arith, q))
+    go false e r f k q = absurd (true≢false (sym r))
+
+links-from : (xs : List Item) → ((k : ℕ) → k < length xs → (get_or xs k nobody).kind ≡ 8) → all_links xs ≡ true
+unfolding all_links
+links-from [] h = refl
+links-from (x ∷ xs) h = simp (eq-eqb x.kind 8 (h 0 (omega arith))) (links-from xs (λ k q. h (suc k) (omega (arith, q))))
+
 module _ (s : List ℕ) (rows : Rows) where
   abbrev es : List Item
   es = items_in s rows (length rows)
-
-  pub links_end : (i : ℕ) → length rows ≤ i → all_links (drop i es) ≡ true
-  unfolding all_links
-  links_end i k = let l = in-length s rows (length rows) (omega arith) in let m : length es ≤ i = omega arith in rw (drop_of_length-le es m)
 
   module _ (i : ℕ) (k : i < length rows) where
     from : drop i es ≡ get_or es i nobody ∷ drop (i + 1) es
@@ -116,14 +134,6 @@ module _ (s : List ℕ) (rows : Rows) where
     kind_at : (get_or es i nobody).kind ≡ get_or (get_or rows i []) 0 0
     kind_at = in-kind s rows (length rows) (omega arith) i k
 
-    pub links-other : (get_or (get_or rows i []) 0 0 ≡ 8 → ⊥) → all_links (drop i es) ≡ false
-    unfolding all_links
-    links-other q = rw (from, kind_at, ne_eqb _ _ q)
-
-    pub links-more : get_or (get_or rows i []) 0 0 ≡ 8 → all_links (drop i es) ≡ all_links (drop (i + 1) es)
-    unfolding all_links
-    links-more q = rw (from, kind_at, eq-eqb _ _ q)
-
   module _ (k : 0 < length rows) where
     first : es ≡ get_or es 0 nobody ∷ drop 1 es
     first = from 0 k
@@ -133,3 +143,26 @@ module _ (s : List ℕ) (rows : Rows) where
 
     pub sheet-links : get_or (get_or rows 0 []) 0 0 ≡ 7 → is_sheet es ≡ all_links (drop 1 es)
     sheet-links q = ap is_sheet first ∙ rw (kind_at 0 k, eq-eqb _ _ q)
+
+  -- the entries after the first are connections: by the test of the rows after the first, and at each place
+  pub links-is : (b : Bool) → (b ≡ true ↔ ((k : ℕ) → k < length rows → 1 ≤ k → get_or (get_or rows k []) 0 0 ≡ 8)) → all_links (drop 1 es) ≡ b
+  links-is true h = links-from (drop 1 es) from-rows
+    where
+      from-rows : (k : ℕ) → k < length (drop 1 es) → (get_or (drop 1 es) k nobody).kind ≡ 8
+      from-rows k q =
+          let l = in-length s rows (length rows) (omega arith) in
+          let i : 1 + k < length rows = omega (arith, length-drop 1 es, q) in
+          ap (λ (e : Item). e.kind) (get_or_after_one es k nobody) ∙ kind_at (1 + k) i ∙ h.0 refl (1 + k) i (omega arith)
+  links-is false h = go (all_links (drop 1 es)) refl
+    where
+      go : (u : Bool) → all_links (drop 1 es) ≡ u → all_links (drop 1 es) ≡ false
+      go true e = absurd (true≢false (sym (h.1 to-rows)))
+        where
+          to-rows : (k : ℕ) → k < length rows → 1 ≤ k → get_or (get_or rows k []) 0 0 ≡ 8
+          to-rows k q p =
+              let l = in-length s rows (length rows) (omega arith) in
+              let i : k - 1 < length (drop 1 es) = omega (arith, length-drop 1 es, q, p) in
+              let j : 1 + (k - 1) ≡ k = omega (arith, p) in
+              sym (kind_at k q) ∙ ap (λ (n : ℕ). (get_or es n nobody).kind) (sym j)
+              ∙ ap (λ (e : Item). e.kind) (sym (get_or_after_one es (k - 1) nobody)) ∙ links-tell (drop 1 es) e (k - 1) i
+      go false e = e

@@ -11,7 +11,6 @@ ghost use Rattle.glow_paths.specs.Paths.{octets_of, numbers_in};
 ghost use Rattle.sheet_rules.specs.Reading.{first_refused, figures_in};
 ghost use Rattle.sheet_entries.specs.Entries.{limit_from, is_sheet, Taken};
 
-use base_casts::wide;
 use desk_crosspoints::Figures;
 use glow_rows::{Cell, KIND, kinds};
 
@@ -58,14 +57,9 @@ pub fn is_sheet(rows: &[[u64; 50]]) -> bool
     if rows[0][KIND] != kinds::QUALIFIED_MATRIX {
         return false;
     }
-    let mut i: usize = 1;
-    while i < rows.len() {
-        if rows[i][KIND] != kinds::CONNECTION {
-            return false;
-        }
-        i += 1;
-    }
-    true
+    rows.iter()
+        .skip(1)
+        .all(|row| row[KIND] == kinds::CONNECTION)
 }
 
 // The numbers of an identifier, at the start of `list`: how many; 17 where there are more than 16.
@@ -76,6 +70,7 @@ fn numbers_of(octets: &[u8], list: &mut [u64]) -> usize
     let end = glow_paths::list_end(octets);
     let mut p: usize = 0;
     let mut k: usize = 0;
+    // No index is counted: each number says where the next one begins.
     while p < end {
         let x = glow_paths::next_number(octets, p, end);
         if 16 <= k {
@@ -103,12 +98,10 @@ pub fn path_of(s: &[u8], v: Cell, list: &mut [u64; 16]) -> usize
 pub fn first_refused(answers: &[u8]) -> u64
     ensures { first_refused answers.now ≡ result }
 {
-    let mut j: usize = 0;
-    while j < answers.len() {
+    for j in 0..answers.len() {
         if answers[j] != 0 {
-            return wide(answers[j]);
+            return u64::from(answers[j]);
         }
-        j += 1;
     }
     0
 }

@@ -76,10 +76,8 @@ fn put_links(
         ≡ filled rows.new octets.new result }
 {
     let mut next = at;
-    let mut t = 0;
-    while t < targets {
+    for t in 0..targets {
         next = put_link(cells, w, t, rows, octets, next);
-        t += 1;
     }
     next
 }

@@ -1,4 +1,3 @@
-use native.Mathlib.Omega.{arith}
 use mathlib.Core.Path.{refl, sym, ◌∙◌}
 use Rattle.sheet_entries.proofs.Numbers.{refused_none, refused-one, refused-more}
 use Rattle.sheet_entries.proofs.first_refused.Goals as goal
@@ -8,21 +7,10 @@ loop-j-init c = refl
 
 pub returns-then-answers-j-ne0 : goal.returns-then-answers-j-ne0
 returns-then-answers-j-ne0 c =
-    let the-loop = c.loop-j in
-    the-loop.invariant ∙ refused-one _ _ c.loop-j-test.true c.if-answers-j-ne0.true ∙ sym c.wide.ensures.value
-
-pub overflow_add-j : goal.overflow_add-j
-overflow_add-j c = omega arith
-
-pub loop-j-smaller : goal.loop-j-smaller
-loop-j-smaller c = omega arith
+    c.loop-j.invariant ∙ refused-one _ _ c.loop-j-test.true c.if-answers-j-ne0.true ∙ sym c.from.ensures
 
 pub loop-j-preserved : goal.loop-j-preserved
-loop-j-preserved c =
-    let the-loop = c.loop-j in
-    the-loop.invariant ∙ refused-more _ _ c.loop-j-test.true c.if-answers-j-ne0.false
+loop-j-preserved c = c.loop-j.invariant ∙ refused-more _ _ c.loop-j-test.true c.if-answers-j-ne0.false
 
 pub returns : goal.returns
-returns c =
-    let the-loop = c.loop-j in
-    the-loop.invariant ∙ refused_none _ _ c.loop-j-test.false
+returns c = c.loop-j.invariant ∙ refused_none _ _ c.loop-j-test.false

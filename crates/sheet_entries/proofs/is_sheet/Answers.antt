@@ -1,4 +1,6 @@
-use Rattle.sheet_entries.proofs.Members.{sheet-none, sheet-other, sheet-links, links_end, links-other, links-more}
+use Rattle.std.proofs.Common.{rules, ◌≡◌, ◌≤◌, ◌↔◌, [], get_or}
+use Rattle.std.specs.Prelude.{IsTrue, EachIndex}
+use Rattle.sheet_entries.proofs.Members.{some-row, sheet-none, sheet-other, sheet-links, links-is}
 use mathlib.Core.Path.{◌∙◌}
 use native.Mathlib.Omega.{arith}
 use Rattle.sheet_entries.proofs.is_sheet.Goals as goal
@@ -9,26 +11,7 @@ returns-then-rows-eq0 c = λ s. sheet-none s _ _ c.if-rows-eq0.true
 pub returns-then-rows-ne-QUALIFIED_MATRIX : goal.returns-then-rows-ne-QUALIFIED_MATRIX
 returns-then-rows-ne-QUALIFIED_MATRIX c = λ s. sheet-other s _ (omega arith) c.if-rows-ne-QUALIFIED_MATRIX.true
 
-pub loop-i-init : goal.loop-i-init
-loop-i-init c = λ s. sheet-links s _ (omega arith) c.if-rows-ne-QUALIFIED_MATRIX.false
-
-pub returns-then-rows-i-ne-CONNECTION : goal.returns-then-rows-i-ne-CONNECTION
-returns-then-rows-i-ne-CONNECTION c =
-    let the-loop = c.loop-i in
-    λ s. the-loop.invariant s ∙ links-other s _ _ c.loop-i-test.true c.if-rows-i-ne-CONNECTION.true
-
-pub overflow_add-i : goal.overflow_add-i
-overflow_add-i c = omega arith
-
-pub loop-i-smaller : goal.loop-i-smaller
-loop-i-smaller c = omega arith
-
-pub loop-i-preserved : goal.loop-i-preserved
-loop-i-preserved c =
-    let the-loop = c.loop-i in
-    λ s. the-loop.invariant s ∙ links-more s _ _ c.loop-i-test.true c.if-rows-i-ne-CONNECTION.false
-
 pub returns : goal.returns
 returns c =
-    let the-loop = c.loop-i in
-    λ s. the-loop.invariant s ∙ links_end s _ _ c.loop-i-test.false
+    let e : IsTrue c.all.result ↔ EachIndex c.args.rows.now (λ k. 1 ≤ k → get_or (get_or c.args.rows.now k []) 0 0 ≡ 8) = search rules in
+    λ s. sheet-links s _ (some-row _ c.if-rows-eq0.false) c.if-rows-ne-QUALIFIED_MATRIX.false ∙ links-is s c.args.rows.now c.all.result e
