@@ -1,23 +1,19 @@
 // Hexadecimal digits: one read, and the two of a byte.
 #![tactic(auto)]
 
-ghost use Rattle.std.specs.Prelude.{◌≡◌, ◌/◌, ◌%◌, ◌≤◌, ◌<◌};
+ghost use Rattle.std.specs.Prelude.{◌≡◌, ◌/◌, ◌%◌, ◌<◌, MatchOption};
 ghost use Rattle.base_hex.specs.Digits.{digit_of, glyph_of};
 
-// What is no digit.
-pub const NO_DIGIT: u8 = 16;
-
-// The value of a digit of either case, 16 for any other byte.
+// The value of a digit of either case, none for any other byte.
 #[tactic(auto, unfolding(crate::specs::Digits::digit_of))]
-pub fn digit(b: u8) -> u8
-    ensures b_value { digit_of b ≡ result }
-    ensures upper_bound { result ≤ 16 }
+pub fn digit(b: u8) -> Option<u8>
+    ensures { MatchOption result (digit_of b ≡ 16) (λ d. (digit_of b ≡ d) × (d < 16)) }
 {
     match b {
-        b'0'..=b'9' => b - b'0',
-        b'A'..=b'F' => b - b'A' + 10,
-        b'a'..=b'f' => b - b'a' + 10,
-        _ => NO_DIGIT,
+        b'0'..=b'9' => Some(b - b'0'),
+        b'A'..=b'F' => Some(b - b'A' + 10),
+        b'a'..=b'f' => Some(b - b'a' + 10),
+        _ => None,
     }
 }
 

@@ -4,8 +4,6 @@
 ghost use Rattle.std.specs.Prelude.{◌≡◌, false, ◌≤◌, ◌<◌, None, IfSome, length, drop};
 ghost use Rattle.framing_digits.specs.Lines.{stops, line_ends, digit_in, scanned};
 
-use base_hex::NO_DIGIT;
-
 // `high` is the first digit of a pair that is not whole yet. `begun`: the line has a digit.
 #[derive(Clone, Copy)]
 pub struct Line {
@@ -88,10 +86,9 @@ pub fn scan(block: &[u8], from: usize, line: Line, chunk: &mut [u8]) -> Scanned
         if b == b'\n' {
             return end_line(i + 1, high, begun, count);
         }
-        let digit = base_hex::digit(b);
-        if digit == NO_DIGIT {
+        let Some(digit) = base_hex::digit(b) else {
             return stop_at(Stop::Fault, i + 1, count);
-        }
+        };
         begun = true;
         if let Some(first) = high {
             count = base_output::put(chunk, count, first * 16 + digit);

@@ -36,31 +36,6 @@ module _ (s : List ℕ) (i : ℕ) where
 
 -- ---- lines
 
-module _ (k b d : ℕ) (e : digit_of b ≡ d) where
-  pub step_end : k ≡ 1 → b ≡ 10 → step_line k b ≡ 0
-  unfolding step_line
-  step_end h g = simp (eq-eqb _ _ h, eq-eqb _ _ g)
-
-  pub step-bad : k ≡ 1 → (b ≡ 10 → ⊥) → d ≡ 16 → step_line k b ≡ 3
-  unfolding step_line
-  step-bad h g q = rw (eq-eqb _ _ h, ne_eqb _ _ g, e, q) refl
-
-  pub step-first : k ≡ 1 → (b ≡ 10 → ⊥) → (d ≡ 16 → ⊥) → step_line k b ≡ 2
-  unfolding step_line
-  step-first h g q = rw (eq-eqb _ _ h, ne_eqb _ _ g, e, ne_eqb _ _ q) refl
-
-  pub step-no : (k ≡ 1 → ⊥) → d ≡ 16 → step_line k b ≡ 3
-  unfolding step_line
-  step-no h q = rw (ne_eqb _ _ h, e, q) refl
-
-  pub step-fresh : (k ≡ 1 → ⊥) → (d ≡ 16 → ⊥) → k ≡ 0 → step_line k b ≡ 2
-  unfolding step_line
-  step-fresh h q z = rw (ne_eqb _ _ h, e, ne_eqb _ _ q, eq-eqb _ _ z) refl
-
-  pub step-pair : (k ≡ 1 → ⊥) → (d ≡ 16 → ⊥) → (k ≡ 0 → ⊥) → step_line k b ≡ 1
-  unfolding step_line
-  step-pair h q z = rw (ne_eqb _ _ h, e, ne_eqb _ _ q, ne_eqb _ _ z) refl
-
 push-bad : (b : ℕ) (x : Stream) → is_bad (push b x) ≡ is_bad x
 push-bad b bad = refl
 push-bad b (stream bs) = refl

@@ -9,7 +9,6 @@ ghost use Rattle.sheet_rules.specs.Sheet.{broken, breaks, breaks_into};
 ghost use Rattle.sheet_rules.specs.Lines.{lines_in, is_bad};
 ghost use Rattle.sheet_rules.specs.Steps.{room, step_line};
 
-use base_hex::NO_DIGIT;
 use base_output::put;
 
 // A byte in two digits, and 0A after the one that ends a frame. Over an output of no bytes it counts (`put`).
@@ -63,26 +62,18 @@ const HALF: u8 = 2;
 const BAD: u8 = 3;
 
 // What has come of a line with one more byte.
+#[tactic(auto, unfolding(crate::specs::Steps::step_line))]
 fn step_line(k: u8, b: u8) -> u8
     ensures { step_line k b ≡ result }
 {
-    let d = base_hex::digit(b);
-    if k == PAIRS {
-        if b == 10 {
-            return FRESH;
-        }
-        if d == NO_DIGIT {
-            return BAD;
-        }
-        return HALF;
+    if k == PAIRS && b == b'\n' {
+        return FRESH;
     }
-    if d == NO_DIGIT {
-        return BAD;
+    match base_hex::digit(b) {
+        None => BAD,
+        Some(_) if k == PAIRS || k == FRESH => HALF,
+        Some(_) => PAIRS,
     }
-    if k == FRESH {
-        return HALF;
-    }
-    PAIRS
 }
 
 // Whether a line is bad: 12.

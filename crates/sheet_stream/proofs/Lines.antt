@@ -8,6 +8,7 @@ use borrow.Author.Tests.{eqb-true, eq-eqb, ne_eqb}
 use lib.ListN.{length, drop, get_or, drop_of_length-le}
 use lib.Seq.{drop-cons}
 use lib.Dec.{eqb}
+use Rattle.std.specs.Prelude.{Option, None, Some}
 use Rattle.base_choices.specs.Choices.{pick}
 use Rattle.base_hex.specs.Digits.{digit_of}
 use Rattle.sheet_rules.specs.Lines.{Stream, bad, stream, push, Come, fresh, pairs, half, lines_from, lines_in}
@@ -72,6 +73,11 @@ lines-bytes text h = lines-from fresh text tt h
 pub lines-bad : (x : Stream) → is_bad x ≡ true → x ≡ bad
 lines-bad bad h = refl
 lines-bad (stream bs) h = absurd (true≢false (sym h))
+
+-- a first digit as a number, 16 if there is none
+abbrev pub number : Option ℕ → ℕ
+number None = 16
+number (Some h) = h
 
 -- a turn of the loop
 module _ (s : List ℕ) (i f d : ℕ) (h : i < length s) (e : digit_of (get_or s i 0) ≡ d) where

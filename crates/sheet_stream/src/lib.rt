@@ -8,7 +8,6 @@ ghost use Rattle.sheet_rules.specs.Reading.{of_events};
 ghost use Rattle.sheet_stream.specs.Finding.{store_from, finds, found_by, holds};
 ghost use Rattle.sheet_stream.specs.Steps.{frame_open, part_open, open_in, another as another_of, bytes_from, left, Sound, Taken};
 
-use base_hex::NO_DIGIT;
 use framing::{Event, Frame, Session};
 
 // What the text of a sheet holds. Of a message the bytes are the store's first `length`.
@@ -118,21 +117,20 @@ fn take_text(text: &[u8], store: &mut [u8]) -> Tally
         length: 0,
         refused: 0,
     };
-    let mut first = NO_DIGIT;
+    let mut first = None;
     for b in text {
-        let d = base_hex::digit(*b);
-        if d == NO_DIGIT {
+        let Some(digit) = base_hex::digit(*b) else {
             continue;
-        }
-        if first == NO_DIGIT {
-            first = d;
+        };
+        let Some(high) = first else {
+            first = Some(digit);
             continue;
-        }
-        tally = take_byte(tally, store, first * 16 + d);
+        };
+        tally = take_byte(tally, store, high * 16 + digit);
         if tally.refused != 0 {
             return tally;
         }
-        first = NO_DIGIT;
+        first = None;
     }
     tally
 }

@@ -1,4 +1,4 @@
-use Prim.Native.Nat.{ℕ, ◌<◌}
+use Prim.Native.Nat.{ℕ}
 use mathlib.Core.Path.{◌≡◌, refl, sym, ap, ◌∙◌}
 use native.Mathlib.Omega.{arith}
 use Rattle.std.proofs.Common.{rules}
@@ -6,7 +6,7 @@ use Rattle.framing_digits.specs.declared.Scanned.{Scanned}
 use Rattle.framing_digits.specs.declared.Stop.TheVariants.{Input}
 use Rattle.framing_digits.specs.Lines.{Whole, stops}
 use Rattle.framing_digits.proofs.Laws.{scan-first, scan-end, scan-line, scan-fault, scan-high, scan-pair}
-use Rattle.framing_digits.proofs.scan.Goals.{in-Some, in_default}
+use Rattle.framing_digits.proofs.scan.Goals.{in-Some-high, in_default-high}
 use Rattle.framing_digits.proofs.scan.Goals as goal
 
 pub returns-then-b-eq10-clause-chunk_value : goal.returns-then-b-eq10-clause-chunk_value
@@ -16,37 +16,36 @@ returns-then-b-eq10-clause-chunk_value c =
     let told = ap {B = Whole} (λ (r : Scanned). record { answer = r; chunk = l.chunk }) (sym c.end_line.ensures.value) in
     scan-first _ _ c.args.line.high _ _ _ c.first_digit-high.ensures (l.invariant.4 ∙ on ∙ told)
 
-pub returns-then-digit-eq-NO_DIGIT-clause-chunk_value : goal.returns-then-digit-eq-NO_DIGIT-clause-chunk_value
-returns-then-digit-eq-NO_DIGIT-clause-chunk_value c =
+pub returns-in_default-clause-chunk_value : goal.returns-in_default-clause-chunk_value
+returns-in_default-clause-chunk_value c =
     let l = c.loop-i in
-    let on = scan-fault c.args.block.now l.i l.begun l.chunk l.count c.loop-i-test.true c.if-b-eq10.false l.high (c.digit-digit.ensures.b_value ∙ c.if-digit-eq-NO_DIGIT.true) in
+    let on = scan-fault c.args.block.now l.i l.begun l.chunk l.count c.loop-i-test.true c.if-b-eq10.false l.high c.in_default.ensures in
     let told = ap {B = Whole} (λ (r : Scanned). record { answer = r; chunk = l.chunk }) (sym c.stop_at.ensures.value) in
     scan-first _ _ c.args.line.high _ _ _ c.first_digit-high.ensures (l.invariant.4 ∙ on ∙ told)
 
 pub loop-i-preserved : goal.loop-i-preserved
 loop-i-preserved c =
     let l = c.loop-i in
-    let d = c.digit-digit.ensures in
-    let small : c.digit-digit.result < 16 = omega (arith, d.upper_bound, c.if-digit-eq-NO_DIGIT.false) in
+    let d = c.in-Some.ensures in
     elim c.match-high.branch [
-      | in-Some w ↦ (
+      | in-Some-high w ↦ (
         omega arith,
         omega arith,
         search rules,
         search rules,
         l.invariant.4
-            ∙ scan-pair c.args.block.now l.i l.begun l.chunk l.count c.loop-i-test.true c.if-b-eq10.false c.digit-digit.result d.b_value small w.in-Some.first w.in-Some.is
+            ∙ scan-pair c.args.block.now l.i l.begun l.chunk l.count c.loop-i-test.true c.if-b-eq10.false c.in-Some.digit d.0 d.1 w.in-Some-high.first w.in-Some-high.is
             (w.put-count.ensures.b_value (omega arith))
             ∙ (rw (w.high-is, w.chunk-is, w.count-is) refl),
         λ h. omega arith,
       )
-      | in_default w ↦ (
+      | in_default-high w ↦ (
         omega arith,
         omega arith,
         search rules,
         search rules,
         l.invariant.4
-            ∙ scan-high c.args.block.now l.i l.begun l.chunk l.count c.loop-i-test.true c.if-b-eq10.false c.digit-digit.result d.b_value small (search rules)
+            ∙ scan-high c.args.block.now l.i l.begun l.chunk l.count c.loop-i-test.true c.if-b-eq10.false c.in-Some.digit d.0 d.1 (search rules)
             ∙ (rw (w.high-is, w.chunk-is, w.count-is) refl),
         λ h. omega arith,
       )
