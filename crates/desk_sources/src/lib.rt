@@ -38,6 +38,7 @@ fn gather(octets: &[u8], sources: u64, list: &mut [u64], marks: &mut [u8]) -> us
     let end = glow_paths::list_end(octets);
     let mut p: usize = 0;
     let mut k: usize = 0;
+    // No index is counted: each number says where the next one begins.
     while p < end {
         let x = glow_paths::next_number(octets, p, end);
         if sources <= x.number {

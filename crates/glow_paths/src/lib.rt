@@ -94,6 +94,7 @@ fn climbs(path: &[u64], rows: &[[u64; 50]], count: usize, s: &[u8], entry: u64) 
 {
     let mut left = path;
     let mut p = entry;
+    // No index is counted: each entry says which one holds it.
     while 0 < p && p <= word(count) {
         let i = index(p - 1);
         let v = cell_at(rows, i, places::KEY);
