@@ -70,7 +70,7 @@ fn numbers_of(octets: &[u8], list: &mut [u64]) -> usize
     let end = glow_paths::list_end(octets);
     let mut p: usize = 0;
     let mut k: usize = 0;
-    // No index is counted: each number says where the next one begins.
+    // No place in the octets is counted: each number says where the next one begins.
     while p < end {
         let x = glow_paths::next_number(octets, p, end);
         if 16 <= k {

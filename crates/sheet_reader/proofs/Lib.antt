@@ -1,4 +1,3 @@
-pub mod Copies
 pub mod Desks
 pub mod Messages
 pub mod Whole

@@ -51,30 +51,6 @@ fn apply(
     sheet_entries::first_refused(&answers[..n])
 }
 
-// The words of one list over the first of another.
-fn copy_words(from: &[u64], to: &mut [u64])
-    requires { length from.now ≤ length to.old }
-    ensures { to.new ≡ from.now ++ drop (length from.now) to.old }
-{
-    let mut i: usize = 0;
-    while i < from.len() {
-        to[i] = from[i];
-        i += 1;
-    }
-}
-
-// The same of bytes.
-fn copy_bytes(from: &[u8], to: &mut [u8])
-    requires { length from.now ≤ length to.old }
-    ensures { to.new ≡ from.now ++ drop (length from.now) to.old }
-{
-    let mut i: usize = 0;
-    while i < from.len() {
-        to[i] = from[i];
-        i += 1;
-    }
-}
-
 // The answer: a desk where the number is 0, with its path and crosspoints handed over; else a refusal.
 fn hand_over(
     number: u64,
@@ -91,8 +67,8 @@ fn hand_over(
     if number != 0 {
         return Sheet::Refused { number };
     }
-    copy_words(numbers, path);
-    copy_bytes(cells, crosspoints);
+    path[..numbers.len()].copy_from_slice(numbers);
+    crosspoints[..cells.len()].copy_from_slice(cells);
     Sheet::Read {
         figures: f,
         length: numbers.len(),
