@@ -94,4 +94,27 @@ mod tests {
         assert_eq!(rt; next(&mut input, 3, &mut line)?, Found::End);
         Ok(())
     }
+
+    // A program that answers every line but an empty one, and counts them.
+    #[derive(Drop)]
+    struct Count(u32);
+
+    impl Answers for Count {
+        fn answer(&mut self, _rt: &(impl Print + AllocGlobal), line: &[u8]) -> Result<(), Refusal> {
+            if line.is_empty() {
+                return Err(Refusal::BadLine);
+            }
+            self.0 = self.0.saturating_add(1);
+            Ok(())
+        }
+    }
+
+    // A line that is too long is not answered, and the lines after one that is refused are.
+    #[test]
+    fn served(rt: HostRuntime) -> Result<(), Fail> {
+        let mut count = Count(0);
+        serve(&rt, b"ab\nabcd\n\nabc\na".as_slice(), 3, &mut count)?;
+        assert_eq!(rt; count.0, 3);
+        Ok(())
+    }
 }

@@ -37,3 +37,32 @@ pub fn put(rt: &impl Print, asked: impl Asked, out: &mut [u8], from: usize) -> i
     };
     println!(rt; "{}", Hex(out.get(from..end).unwrap_or_default()))
 }
+
+#[cfg(test)]
+mod tests {
+    use super::*;
+    use std::test::Fail;
+
+    #[derive(Clone, Copy)]
+    struct Two;
+
+    impl Asked for Two {
+        fn write(self, out: &mut [u8]) -> Option<usize> {
+            if out.len() < 2 {
+                return None;
+            }
+            out[0] = 7;
+            out[1] = 8;
+            Some(2)
+        }
+    }
+
+    // After the trial in one byte less, the output has what was written in exactly as many, and nothing else.
+    #[test]
+    fn written_again(rt: HostRuntime) -> Result<(), Fail> {
+        let mut out = [9u8; 4];
+        put(&rt, Two, &mut out, 0)?;
+        assert_eq!(rt; out.as_slice(), [7u8, 8, 0, 0].as_slice());
+        Ok(())
+    }
+}
