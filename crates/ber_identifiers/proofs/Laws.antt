@@ -11,7 +11,8 @@ use borrow.Author.Tests.{le-leb, lt-leb, lt-ltb, le-ltb, eq-eqb, ne_eqb}
 use lib.ListN.{length, take, drop, get_or, length-append, drop_of_length-le}
 use Rattle.ber_tags.specs.Write.{septets}
 use lib.ListN.{take-append-drop}
-use Rattle.ber_integers.proofs.Laws.{put_in}
+use Rattle.ber_integers.proofs.Laws.{put_in, length_part}
+use Rattle.std.proofs.lemmas.List.{get_or-take, get_or-drop}
 use Rattle.ber_integers.proofs.Radix.{lt-or-le}
 use lib.Seq.{drop-cons}
 use Rattle.std.specs.List.{list_all}
@@ -157,6 +158,32 @@ tally-bad count b = refl
 pub tally-done : (count : ℕ) (b : Bool) → tally count b (numbers []) ≡ pick b Range (Numbers count)
 unfolding tally
 tally-done count b = let e : count + 0 ≡ count = omega arith in ap (λ (i : ℕ). pick b Range (Numbers i)) e
+
+-- octets that are a number each
+pub arcs-short : (s : List ℕ) (end : ℕ) → end ≤ length s → (f p : ℕ) → end - p ≤ f → ((i : ℕ) → p ≤ i → i < end → get_or s i 0 < 128)
+    → (ns : List ℕ) × ((arcs_from s f p end ≡ numbers ns) × (length ns ≡ end - p))
+unfolding arcs_from
+arcs-short s end h zero p k short = ([], (refl, omega arith))
+arcs-short s end h (suc f) p k short =
+    ⊎_elim (λ (l : p < end). let r = arcs-short s end h f (p + 1) (omega arith) (λ i m q. short i (omega arith) q) in
+    let e = arc-short s end p l (short p (omega arith) l) h in
+    (get_or s p 0 ∷ r.0, (simp (lt-ltb _ _ l, e, r.1.0), omega (arith, r.1.1))))
+    (λ (l : end ≤ p). ([], (simp (le-ltb _ _ l), omega arith))) (lt-or-le p end)
+
+-- .. as the k octets at a position, k being n
+pub oid-short : (s : List ℕ) (at n k : ℕ) → k ≡ n → at + n ≤ length s
+    → ((i : ℕ) → i < length (take k (drop at s)) → get_or (take k (drop at s)) i 0 < 128) → Numbers n ≡ oid_at s at n
+oid-short s at n k z h short =
+    let all : (i : ℕ) → at ≤ i → i < at + n → get_or s i 0 < 128 =
+    λ i l q. let e : at + (i - at) ≡ i = omega arith in
+    let m : i - at < length (take k (drop at s)) = omega (arith, length_part s at k (omega arith)) in
+    let g : get_or (take k (drop at s)) (i - at) 0 ≡ get_or s i 0 =
+    get_or-take k (drop at s) (i - at) 0 (omega arith) ∙ get_or-drop at s (i - at) 0 ∙ rw e in
+    omega (arith, g, short (i - at) m) in
+    go (arcs-short s (at + n) h n at (omega arith) all)
+  where
+    go : (ns : List ℕ) × ((arcs_from s n at (at + n) ≡ numbers ns) × (length ns ≡ at + n - at)) → Numbers n ≡ oid_at s at n
+    go (ns, (e, l)) = let m : n ≡ length ns = omega arith in ap Numbers m ∙ sym (ap judged e) ∙ oid-within s at n h
 
 -- numbers to be written
 pub range-all : (ns : List ℕ) → in_range ns ≡ list_all (λ (n : ℕ). leb n 2147483647) ns

@@ -1,7 +1,7 @@
 // Relative identifiers: numbers in groups of seven bits, one after another.
 #![tactic(auto)]
 
-ghost use Rattle.std.specs.Prelude.{◌≡◌, ◌+◌, ◌-◌, ◌≤◌, ◌<◌, length, take, drop, get_or};
+ghost use Rattle.std.specs.Prelude.{◌≡◌, ◌+◌, ◌-◌, ◌≤◌, ◌<◌, ℕ, true, length, take, drop, get_or};
 ghost use Rattle.ber_integers.specs.Digits.{put, outcome};
 ghost use Rattle.ber_integers.specs.Readings.{Promised};
 ghost use Rattle.ber_identifiers.specs.Identifier.{arc_is, arc_at, oid_at, arc_says, arc_or, oid_says, oid_or, ArcWithin, in_range, oid_octets, put_oid};
@@ -59,6 +59,17 @@ pub fn read_number(s: &[u8], p: usize, end: usize) -> Arc
     Arc::Refused
 }
 
+// Whether each octet is a number of its own: whether the largest is below 128. No octet ends the loop, so that a processor compares many at a time.
+fn all_short(octets: &[u8]) -> bool
+    ensures { result ≡ true → (i : ℕ) → i < length octets.now → get_or octets.now i 0 < 128 }
+{
+    let mut most: u8 = 0;
+    for b in octets {
+        most = most.max(*b);
+    }
+    most < 128
+}
+
 // The identifier whose content octets are the n octets at a position.
 pub fn read_oid(s: &[u8], at: usize, n: usize) -> Oid
     ensures { Promised oid_says (oid_or 30) (oid_at s.now at n) result }
@@ -70,6 +81,10 @@ pub fn read_oid(s: &[u8], at: usize, n: usize) -> Oid
         return Oid::Refused;
     }
     let end = at + n;
+    // Most numbers are below 128. Octet by octet they take up to three times as long, by where the linker puts the loop below.
+    if all_short(&s[at..end]) {
+        return Oid::Numbers(n);
+    }
     let mut p = at;
     let mut count: usize = 0;
     let mut over = false;

@@ -1,9 +1,10 @@
 use Rattle.ber_integers.proofs.Promises.{promised}
+use Prim.Native.Nat.{◌+◌, ◌-◌}
 use mathlib.Core.Path.{sym, ap, subst, ◌∙◌}
 use native.Mathlib.Omega.{arith}
 use Rattle.ber_identifiers.specs.Identifier.{ArcWithin}
 use Rattle.ber_identifiers.proofs.Laws.{arc-short, oid-row, tally, tally-start, tally-push, tally-pass, tally-bad, tally-done, arcs-done}
-use Rattle.ber_identifiers.proofs.Laws.{arcs-number, arcs-over, arcs-bad, oid-out, oid-within}
+use Rattle.ber_identifiers.proofs.Laws.{arcs-number, arcs-over, arcs-bad, oid-out, oid-within, oid-short}
 use Rattle.ber_identifiers.proofs.read_oid.Goals as goal
 
 pub returns-then-s-n : goal.returns-then-s-n
@@ -117,3 +118,6 @@ returns c =
     promised oid-row (let q = arcs-done _ _ c.loop-p.p c.loop-p.invariant.1.1.0 c.loop-p-test.false in
     sym (tally-done c.loop-p.count c.loop-p.over ∙ rw c.if-over.false) ∙ ap (tally c.loop-p.count c.loop-p.over) (sym q) ∙ c.loop-p.invariant.1.1.1.1
     ∙ oid-within _ _ _ (omega arith))
+
+pub returns-then-all_short : goal.returns-then-all_short
+returns-then-all_short c = promised oid-row (oid-short c.args.s.now c.args.at c.args.n (c.args.at + c.args.n - c.args.at) (omega arith) (omega arith) (c.all_short.ensures c.if-all_short.true))
