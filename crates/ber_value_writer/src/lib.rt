@@ -56,9 +56,12 @@ fn write_flag(b: bool, out: &mut [u8], at: usize) -> Option<usize>
 pub fn write_part(src: &[u8], start: usize, len: usize, out: &mut [u8], at: usize) -> Option<usize>
     ensures { put_part src.now start len out.old at ≡ outcome result out.new }
 {
-    let part = ber_integers::held(src, start, len)?;
+    ber_integers::held(src, start, len)?;
     ber_integers::held(out, at, len)?;
-    out[at..at + len].copy_from_slice(part);
+    // By `copy_from_slice` the C archives would need memmove from outside.
+    for i in (0..len).rev() {
+        out[at + i] = src[start + i];
+    }
     Some(at + len)
 }
 
