@@ -1,7 +1,7 @@
 // The kinds of entry of the Glow tree, by value: each is made from a row of the lent table and put into one.
 #![tactic(auto)]
 
-ghost use Rattle.std.specs.Prelude.{◌≡◌, ◌-◌, ◌≤◌, List, ℕ, length, take, drop, Some, None};
+ghost use Rattle.std.specs.Prelude.{◌≡◌, ◌-◌, ◌≤◌, List, ℕ, Option, length, take, drop, Some, None};
 ghost use Rattle.glow_rows.specs.Cell.{numbers, cell_of, word_of, int_of, value_of, number_in, octets_in};
 ghost use Rattle.glow_rows.specs.Row.{cell_in};
 ghost use Rattle.glow_entries.specs.Member.{number_cell, int_in, number_of, flag_cell, flag_of, part_cell, part_of, parent_word, parent_of};
@@ -213,7 +213,18 @@ pub trait Entry: Copy {
         ensures { result ≡ entry_of row.now };
 }
 
-// The entry of a row, or that the row is none of this kind: it is one's exactly if it is the row of the entry that it stands for.
+// A kind of entry that rows are read as.
+pub trait FromRow: Entry {
+    // What a row is read as.
+    ghost read_of: { List ℕ → Option Self };
+
+    // The entry of a row, or that the row is none of this kind.
+    fn of(row: &[u64; 50]) -> Option<Self>
+        ensures { result ≡ read_of row.now };
+}
+
+// The entry that a row stands for, where it is the row of that entry. That makes a row one of its kind, but for a stream entry, whose value is never absent:
+// `FromRow::of` asks that too.
 pub fn read<E: Entry>(row: &[u64; 50]) -> Option<E>
     ensures { result ≡ read_as E.entry_of E.row_of Some None row.now }
 {
@@ -305,6 +316,14 @@ pub fn parameter_of(row: &[u64; 50]) -> Option<Parameter>
     read(row)
 }
 
+impl FromRow for Parameter {
+    ghost read_of = { parameter_read };
+
+    fn of(row: &[u64; 50]) -> Option<Parameter> {
+        parameter_of(row)
+    }
+}
+
 // A node.
 #[derive(Clone, Copy)]
 pub struct Node {
@@ -368,6 +387,14 @@ pub fn node_of(row: &[u64; 50]) -> Option<Node>
     ensures { result ≡ node_read row.now }
 {
     read(row)
+}
+
+impl FromRow for Node {
+    ghost read_of = { node_read };
+
+    fn of(row: &[u64; 50]) -> Option<Node> {
+        node_of(row)
+    }
 }
 
 // A matrix.
@@ -459,6 +486,14 @@ pub fn matrix_of(row: &[u64; 50]) -> Option<Matrix>
     read(row)
 }
 
+impl FromRow for Matrix {
+    ghost read_of = { matrix_read };
+
+    fn of(row: &[u64; 50]) -> Option<Matrix> {
+        matrix_of(row)
+    }
+}
+
 // A command.
 #[derive(Clone, Copy)]
 pub struct Command {
@@ -506,6 +541,14 @@ pub fn command_of(row: &[u64; 50]) -> Option<Command>
     ensures { result ≡ command_read row.now }
 {
     read(row)
+}
+
+impl FromRow for Command {
+    ghost read_of = { command_read };
+
+    fn of(row: &[u64; 50]) -> Option<Command> {
+        command_of(row)
+    }
 }
 
 // A connection of a matrix.
@@ -568,6 +611,14 @@ pub fn connection_of(row: &[u64; 50]) -> Option<Connection>
     read(row)
 }
 
+impl FromRow for Connection {
+    ghost read_of = { connection_read };
+
+    fn of(row: &[u64; 50]) -> Option<Connection> {
+        connection_of(row)
+    }
+}
+
 // A stream entry.
 #[derive(Clone, Copy)]
 pub struct Stream {
@@ -617,4 +668,12 @@ pub fn stream_of(row: &[u64; 50]) -> Option<Stream>
         return None;
     }
     read(row)
+}
+
+impl FromRow for Stream {
+    ghost read_of = { stream_read };
+
+    fn of(row: &[u64; 50]) -> Option<Stream> {
+        stream_of(row)
+    }
 }

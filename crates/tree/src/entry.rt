@@ -30,7 +30,7 @@ impl fmt::Display for Entry<'_> {
 impl Entry<'_> {
     // A row that is none of its kind's is ` ?`.
     fn of_kind<E: Members, W: fmt::Write>(&self, f: &mut fmt::Formatter<W>) -> fmt::Result {
-        match glow_entries::read::<E>(self.row) {
+        match E::of(self.row) {
             Some(e) => e.members(self.s, f),
             None => write!(f, " ?"),
         }
@@ -38,7 +38,7 @@ impl Entry<'_> {
 }
 
 // A kind of entry whose members are printed.
-trait Members: glow_entries::Entry {
+trait Members: glow_entries::FromRow {
     fn members<W: fmt::Write>(self, s: &[u8], f: &mut fmt::Formatter<W>) -> fmt::Result;
 }
 
