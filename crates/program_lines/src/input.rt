@@ -1,5 +1,5 @@
 // The input, line by line: a line ends at 0A or at the input's end.
-ghost use Rattle.std.specs.Prelude.{◌≡◌, ◌≤◌, vec_len, IfOk};
+ghost use Rattle.std.specs.Prelude.{◌≤◌, vec_len};
 
 use std::io;
 use std::io::{BufRead, BufReader, Read};
@@ -13,17 +13,20 @@ pub enum Found {
 }
 
 // Reads the next line, of `most` bytes at most, or fails where a read fails. No line stands after the last 0A. Of a longer one `line` has the first bytes,
-// and the others are passed over.
+// and the others are passed over. Whatever is answered, `line` has `most` bytes at most.
 pub fn next(reader: &mut impl BufRead, most: usize, line: &mut Vec<u8>) -> io::Result<Found>
-    ensures { IfOk result (λ found. found ≡ Found.Line → vec_len line.new ≤ most) }
+    ensures { vec_len line.new ≤ most }
 {
     line.clear();
     let room = (most as u64).saturating_add(1);
-    if reader.by_ref().take(room).read_until(b'\n', line)? == 0 {
-        return Ok(Found::End);
+    let read = reader.by_ref().take(room).read_until(b'\n', line);
+    if !matches!(read, Ok(1..)) {
+        line.clear();
+        return read.map(|_| Found::End);
     }
     let ended = line.pop_if(|b| *b == b'\n').is_some();
     if most < line.len() {
+        line.truncate(most);
         if !ended {
             reader.skip_until(b'\n')?;
         }
@@ -68,7 +71,7 @@ pub fn serve(
         };
         match answered {
             Ok(()) => (),
-            Err(Refusal::BadLine) => println!(rt; "bad line")?,
+            Err(Refusal::BadLine) => rt.write_all(b"bad line\n")?,
             Err(Refusal::Failed(e)) => return Err(e),
         }
     }

@@ -20,8 +20,14 @@ impl fmt::Display for Hex<'_> {
         if self.0.is_empty() {
             return write!(f, "-");
         }
-        for b in self.0 {
-            write!(f, "{b:02X}")?;
+        // Many digits at a time: by `{b:02X}` for each octet the programs took twice as long.
+        for part in self.0.chunks(128) {
+            let mut digits = [0; 256];
+            for (pair, b) in digits.as_chunks_mut::<2>().0.iter_mut().zip(part) {
+                *pair = [base_hex::high(*b), base_hex::low(*b)];
+            }
+            let text = digits.get(..2 * part.len()).unwrap_or_default();
+            f.write_str(str::from_utf8(text).map_err(|_| fmt::Error)?)?;
         }
         Ok(())
     }
