@@ -14,6 +14,9 @@ use framing_session::STORE_LENGTH;
 use std::io;
 use std::io::{BufWriter, Read, Write};
 
+// As many bytes of output wait for another line, and no more.
+const MOST_WAITING: usize = 30000;
+
 // Why a run ends: all is said, or the output cannot be written.
 #[derive(Drop)]
 enum Halt {
@@ -52,6 +55,14 @@ fn put_end(text: &mut [u8], offset: u64, session: Session) -> usize
     framing_lines::put_end(text, 0, offset, session)
 }
 
+// Puts a line to the output that waits.
+fn say(out: &mut BufWriter<impl Write + Drop>, line: &[u8]) -> io::Result<()> {
+    if MOST_WAITING < out.buffer().len() {
+        out.flush()?;
+    }
+    out.write_all(line)
+}
+
 // What is kept from chunk to chunk: the session with its store, the count of bytes consumed, the input line as far as it
 // was read, and room for a line of the output.
 #[derive(Drop)]
@@ -75,16 +86,16 @@ impl Stream {
     }
 
     // An event's line. A call that used up its chunk without an event has none.
-    fn report(&mut self, out: &mut impl Write, event: Event) -> io::Result<()> {
+    fn report(&mut self, out: &mut BufWriter<impl Write + Drop>, event: Event) -> io::Result<()> {
         if let Event::More = event {
             return Ok(());
         }
         let n = put_event(&mut self.text, self.offset, event, &self.store);
-        out.write_all(&self.text[..n])
+        say(out, &self.text[..n])
     }
 
     // Offers a chunk until it is consumed.
-    fn offer(&mut self, out: &mut impl Write, chunk: &[u8]) -> Result<(), Halt> {
+    fn offer(&mut self, out: &mut BufWriter<impl Write + Drop>, chunk: &[u8]) -> Result<(), Halt> {
         let mut rest = chunk;
         while !rest.is_empty() {
             let fed = framing::feed(self.session, &mut self.store, rest);
@@ -103,24 +114,29 @@ impl Stream {
     }
 
     // The run ends at a bad line.
-    fn refuse(&mut self, out: &mut impl Write) -> Result<(), Halt> {
+    fn refuse(&mut self, out: &mut BufWriter<impl Write + Drop>) -> Result<(), Halt> {
         let n = put_bad_line(&mut self.text);
-        out.write_all(&self.text[..n])?;
+        say(out, &self.text[..n])?;
         Err(Halt::Done)
     }
 
     // The run ends at the input's end.
-    fn finish(&mut self, out: &mut impl Write) -> Result<(), Halt> {
+    fn finish(&mut self, out: &mut BufWriter<impl Write + Drop>) -> Result<(), Halt> {
         if self.line.high.is_some() {
             return self.refuse(out);
         }
         let n = put_end(&mut self.text, self.offset, self.session);
-        out.write_all(&self.text[..n])?;
+        say(out, &self.text[..n])?;
         Err(Halt::Done)
     }
 
     // Takes a block of the input, line by line.
-    fn take(&mut self, out: &mut impl Write, block: &[u8], chunk: &mut [u8]) -> Result<(), Halt>
+    fn take(
+        &mut self,
+        out: &mut BufWriter<impl Write + Drop>,
+        block: &[u8],
+        chunk: &mut [u8],
+    ) -> Result<(), Halt>
         requires { length block.now ≤ length chunk.old }
     {
         let mut from = 0;
@@ -141,7 +157,7 @@ impl Stream {
         &mut self,
         rt: &impl Eprint,
         input: &mut impl Read,
-        out: &mut impl Write,
+        out: &mut BufWriter<impl Write + Drop>,
     ) -> Result<(), Halt> {
         let mut block = [0; 65536];
         let mut chunk = [0; 65536];
@@ -162,8 +178,11 @@ impl Stream {
 
 fn main(rt: HostRuntime) -> io::Result<()> {
     let mut out = BufWriter::with_capacity(rt.alloc(), 65536, io::writer(&rt))?;
-    match Stream::new().run(&rt, &mut rt.stdin(), &mut out) {
+    let ended = match Stream::new().run(&rt, &mut rt.stdin(), &mut out) {
         Ok(()) | Err(Halt::Done) => out.flush(),
         Err(Halt::Failed(e)) => Err(e),
-    }
+    };
+    // What could not be written is not tried again.
+    let (_output, _waiting) = out.into_parts();
+    ended
 }
