@@ -69,12 +69,16 @@ impl fmt::Display for Grid<'_> {
         }
         writeln!(f)?;
         for (target, row) in desk.cells.chunks(sources.max(1)).enumerate() {
-            write!(f, "{target:02} ")?;
-            for cell in row {
-                let mark = if *cell == 0 { "." } else { "#" };
-                write!(f, "{mark}")?;
+            // A line at once: mark by mark the picture took longer.
+            let mut marks = [b'.'; SIDE];
+            for (mark, cell) in marks.iter_mut().zip(row) {
+                if *cell != 0 {
+                    *mark = b'#';
+                }
             }
-            writeln!(f)?;
+            let line = marks.get(..row.len()).unwrap_or_default();
+            let line = str::from_utf8(line).map_err(|_| fmt::Error)?;
+            writeln!(f, "{target:02} {line}")?;
         }
         Ok(())
     }

@@ -39,12 +39,12 @@ fn read(line: &[u8]) -> Option<Line> {
     Some(Line::Showing(tick, happened))
 }
 
-fn word(answer: Answer) -> &'static str {
+fn word(answer: Answer) -> &'static [u8] {
     match answer {
-        Answer::Nothing => "-",
-        Answer::Ask => "ask",
-        Answer::Respond => "answer",
-        Answer::Dead => "dead",
+        Answer::Nothing => b"-\n",
+        Answer::Ask => b"ask\n",
+        Answer::Respond => b"answer\n",
+        Answer::Dead => b"dead\n",
     }
 }
 
@@ -65,7 +65,7 @@ impl Answers for Watch {
             (Line::Showing(tick, happened), Some(link)) => {
                 let shown = supervision::show(link, tick, happened);
                 self.link = Some(shown.link);
-                println!(rt; "{}", word(shown.answer))?;
+                rt.write_all(word(shown.answer))?;
                 Ok(())
             }
             (Line::Start(_), Some(_)) | (Line::Showing(_, _), None) => Err(Refusal::BadLine),
