@@ -118,7 +118,10 @@ pub fn rebuilt(session: Session) -> Session
 {
     Session {
         frame: rebuilt_frame(session.frame),
-        message: session.message,
+        message: match session.message {
+            None => None,
+            Some(length) => Some(length),
+        },
     }
 }
 

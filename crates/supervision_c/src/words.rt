@@ -32,10 +32,12 @@ pub(crate) fn put_link(words: &mut [u64], link: Link)
     requires { length words.old ≡ 2 }
     ensures { words.new ≡ words_of link }
 {
-    let pair = match link {
-        Link::Silent { since } => [0, u64::from(since)],
-        Link::Asked { since } => [1, u64::from(since)],
-        Link::Dead => [2, 0],
+    let (place, tick) = match link {
+        Link::Silent { since } => (0, u64::from(since)),
+        Link::Asked { since } => (1, u64::from(since)),
+        Link::Dead => (2, 0),
     };
-    words.copy_from_slice(&pair);
+    // One by one: by `copy_from_slice` a showing took a third longer.
+    words[0] = place;
+    words[1] = tick;
 }
