@@ -8,7 +8,7 @@ use borrow.Author.Rules.{rules}
 use Rattle.glow_rows.proofs.value_of.Goals as goal
 
 pub float_from_bits-result : goal.float_from_bits-result
-float_from_bits-result c = no_nan c.args.v.first c.if-v-gt9218868437227405312.false
+float_from_bits-result c = no_nan c.args.v.first (omega arith)
 
 pub returns-in-2 : goal.returns-in-2
 returns-in-2 c =
