@@ -1,12 +1,12 @@
 -- One law for each answer of the definitions, at plain variables.
 use Rattle.std.specs.Prelude.{Some}
-use Prim.Native.Nat.{ℕ, zero, suc, min, ◌+◌, ◌-◌, ◌*◌, ◌%◌, ◌≤◌, ◌<◌}
+use Prim.Native.Nat.{ℕ, zero, suc, min, max, ◌+◌, ◌-◌, ◌*◌, ◌%◌, ◌≤◌, ◌<◌}
 use mathlib.Core.Path.{◌≡◌, refl, sym, ap, ◌∙◌}
 use mathlib.Core.List.{List, [], ◌∷◌, ◌++◌}
 use mathlib.Core.Bool.{Bool, true, false, ◌&&◌}
 use mathlib.Core.Logic.{⊎_elim}
 use native.Mathlib.Omega.{arith}
-use lib.Dec.{leb}
+use lib.Dec.{leb, ltb}
 use borrow.Author.Tests.{le-leb, lt-leb, lt-ltb, le-ltb, eq-eqb, ne_eqb}
 use lib.ListN.{length, take, drop, get_or, length-append, drop_of_length-le}
 use Rattle.ber_tags.specs.Write.{septets}
@@ -16,6 +16,9 @@ use Rattle.std.proofs.lemmas.List.{get_or-take, get_or-drop}
 use Rattle.ber_integers.proofs.Radix.{lt-or-le}
 use lib.Seq.{drop-cons}
 use Rattle.std.specs.List.{list_all}
+use Rattle.std.proofs.lemmas.Bool.{ltb-true}
+use Rattle.std.proofs.lemmas.List.Elements.{All-get_or}
+use Rattle.std.proofs.lemmas.List.Sums.{AllPass-from_list_all}
 use Rattle.base_choices.specs.Choices.{pick}
 use Rattle.ber_integers.specs.Digits.{put, unchanged, outcome}
 use Rattle.ber_identifiers.specs.declared.Arc.{Arc}
@@ -170,10 +173,22 @@ arcs-short s end h (suc f) p k short =
     (get_or s p 0 ∷ r.0, (simp (lt-ltb _ _ l, e, r.1.0), omega (arith, r.1.1))))
     (λ (l : end ≤ p). ([], (simp (le-ltb _ _ l), omega arith))) (lt-or-le p end)
 
+-- the largest octet so far, and one more
+pub largest-short : (t : Bool) (a b m : ℕ) → t ≡ ltb a 128 → m ≡ max a b → (t && ltb b 128) ≡ ltb m 128
+largest-short t a b m e h =
+    ⊎_elim (λ (l : a < 128). ⊎_elim (λ (k : b < 128). simp (e, lt-ltb _ _ l, lt-ltb _ _ k, lt-ltb m 128 (omega (arith, h))))
+    (λ (k : 128 ≤ b). simp (e, lt-ltb _ _ l, le-ltb _ _ k, le-ltb m 128 (omega (arith, h)))) (lt-or-le b 128))
+    (λ (l : 128 ≤ a). simp (e, le-ltb _ _ l, le-ltb m 128 (omega (arith, h)))) (lt-or-le a 128)
+
+short-at : (bs : List ℕ) → list_all (λ (b : ℕ). ltb b 128) bs ≡ true → (i : ℕ) → i < length bs → get_or bs i 0 < 128
+short-at bs e i h =
+    ltb-true _ _ (All-get_or (λ (b : ℕ). ltb b 128 ≡ true) bs i 0 h (AllPass-from_list_all (λ (b : ℕ). ltb b 128) bs e))
+
 -- .. as the k octets at a position, k being n
-pub oid-short : (s : List ℕ) (at n k : ℕ) → k ≡ n → at + n ≤ length s
-    → ((i : ℕ) → i < length (take k (drop at s)) → get_or (take k (drop at s)) i 0 < 128) → Numbers n ≡ oid_at s at n
-oid-short s at n k z h short =
+pub oid-short : (s : List ℕ) (at n k : ℕ) → k ≡ n → at + n ≤ length s → list_all (λ (b : ℕ). ltb b 128) (take k (drop at s)) ≡ true
+    → Numbers n ≡ oid_at s at n
+oid-short s at n k z h t =
+    let short = short-at (take k (drop at s)) t in
     let all : (i : ℕ) → at ≤ i → i < at + n → get_or s i 0 < 128 =
     λ i l q. let e : at + (i - at) ≡ i = omega arith in
     let m : i - at < length (take k (drop at s)) = omega (arith, length_part s at k (omega arith)) in

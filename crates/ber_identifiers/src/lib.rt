@@ -1,7 +1,8 @@
 // Relative identifiers: numbers in groups of seven bits, one after another.
 #![tactic(auto)]
 
-ghost use Rattle.std.specs.Prelude.{◌≡◌, ◌+◌, ◌-◌, ◌≤◌, ◌<◌, ℕ, true, length, take, drop, get_or};
+ghost use Rattle.std.specs.Prelude.{◌≡◌, ◌+◌, ◌-◌, ◌≤◌, ◌<◌, ℕ, length, take, drop, get_or, ltb};
+ghost use Rattle.std.specs.List.{list_all};
 ghost use Rattle.ber_integers.specs.Digits.{put, outcome};
 ghost use Rattle.ber_integers.specs.Readings.{Promised};
 ghost use Rattle.ber_identifiers.specs.Identifier.{arc_is, arc_at, oid_at, arc_says, arc_or, oid_says, oid_or, ArcWithin, in_range, oid_octets, put_oid};
@@ -61,7 +62,7 @@ pub fn read_number(s: &[u8], p: usize, end: usize) -> Arc
 
 // Whether each octet is a number of its own: whether the largest is below 128. No octet ends the loop, so that a processor compares many at a time.
 fn all_short(octets: &[u8]) -> bool
-    ensures { result ≡ true → (i : ℕ) → i < length octets.now → get_or octets.now i 0 < 128 }
+    ensures { list_all (λ (b : ℕ). ltb b 128) octets.now ≡ result }
 {
     let mut most: u8 = 0;
     for b in octets {
@@ -81,8 +82,8 @@ pub fn read_oid(s: &[u8], at: usize, n: usize) -> Oid
         return Oid::Refused;
     }
     let end = at + n;
-    // Most numbers are below 128. Octet by octet they take up to three times as long, by where the linker puts the loop below.
-    if all_short(&s[at..end]) {
+    // Most numbers are below 128. Octet by octet a long list takes up to three times as long, by where the linker puts the loop below.
+    if 16 <= n && all_short(&s[at..end]) {
         return Oid::Numbers(n);
     }
     let mut p = at;

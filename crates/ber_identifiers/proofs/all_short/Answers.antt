@@ -1,20 +1,19 @@
-use Prim.Native.Nat.{ℕ, ◌+◌, ◌≤◌, ◌<◌}
-use mathlib.Core.Path.{◌≡◌, subst, sym}
-use mathlib.Core.Logic.{⊎_elim}
-use native.Mathlib.Omega.{arith}
-use lib.ListN.{get_or}
-use Rattle.ber_integers.proofs.Radix.{lt-or-le}
-use Rattle.std.proofs.lemmas.Bool.{ltb-true}
+use Prim.Native.Nat.{ℕ}
+use mathlib.Core.Path.{refl, sym, ap, ◌∙◌}
+use lib.Dec.{ltb}
+use lib.Seq.{take_all}
+use Rattle.std.specs.List.{list_all}
+use Rattle.std.proofs.lemmas.List.Folds.{list_all_more}
+use Rattle.ber_identifiers.proofs.Laws.{largest-short}
 use Rattle.ber_identifiers.proofs.all_short.Goals as goal
 
 pub loop-b-init : goal.loop-b-init
-loop-b-init c = λ i h. absurd (omega arith)
+loop-b-init c = refl
 
 pub loop-b-preserved : goal.loop-b-preserved
 loop-b-preserved c =
-    λ i h. ⊎_elim (λ (k : i < c.loop-b.b-index). let e = c.loop-b.invariant i k in omega (arith, e, c.max-most.ensures))
-    (λ (k : c.loop-b.b-index ≤ i). let e : c.loop-b.b-index ≡ i = omega arith in
-    subst (λ (j : ℕ). get_or c.args.octets.now j 0 ≤ c.max-most.result) e (omega (arith, c.max-most.ensures))) (lt-or-le i c.loop-b.b-index)
+    list_all_more (λ (b : ℕ). ltb b 128) c.args.octets.now c.loop-b.b-index 0 c.loop-b-test.true
+    ∙ largest-short _ _ _ _ c.loop-b.invariant c.max-most.ensures
 
 pub returns : goal.returns
-returns c = λ t i h. let e = c.loop-b.invariant i (omega (arith, h)) in omega (arith, e, ltb-true _ _ t)
+returns c = ap (list_all (λ (b : ℕ). ltb b 128)) (sym (take_all _ _ c.loop-b-test.false)) ∙ c.loop-b.invariant

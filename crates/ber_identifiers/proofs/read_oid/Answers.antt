@@ -120,4 +120,6 @@ returns c =
     ∙ oid-within _ _ _ (omega arith))
 
 pub returns-then-all_short : goal.returns-then-all_short
-returns-then-all_short c = promised oid-row (oid-short c.args.s.now c.args.at c.args.n (c.args.at + c.args.n - c.args.at) (omega arith) (omega arith) (c.all_short.ensures c.if-all_short.true))
+returns-then-all_short c =
+    promised oid-row (oid-short c.args.s.now c.args.at c.args.n (c.args.at + c.args.n - c.args.at) (omega arith) (omega arith)
+    (c.all_short.ensures ∙ c.if-all_short.true))
