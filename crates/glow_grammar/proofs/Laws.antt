@@ -148,7 +148,7 @@ module _ (b : ℕ) where
       simp (le-leb _ _ m, lt-leb _ _ l, ne_eqb _ _ d))
       h.1
 
-slash-any : (bs : List ℕ) → no_slash bs ≡ not (list_any (λ (y : ℕ). eqb y 47) bs)
+pub slash-any : (bs : List ℕ) → no_slash bs ≡ not (list_any (λ (y : ℕ). eqb y 47) bs)
 unfolding no_slash
 slash-any [] = refl
 slash-any (b ∷ bs) = go (eqb b 47) _ _ (slash-any bs)
@@ -157,7 +157,6 @@ slash-any (b ∷ bs) = go (eqb b 47) _ _ (slash-any bs)
     go true n a e = refl
     go false n a e = e
 
--- a text that the message cuts off
 -- a text, as far as the message holds it
 pub name-cut : (s : List ℕ) (start len m : ℕ) → m ≡ min len (length s - start)
     → take m (take (length s - start) (drop start s)) ≡ take len (drop start s)
@@ -181,7 +180,7 @@ unfolding is_name
 name-letter [] e = refl
 name-letter (b ∷ bs) e = rw e
 
-pub name-rest : (bs : List ℕ) → 1 ≤ length bs → is_letter (get_or bs 0 0) ≡ true → is_name bs ≡ not (list_any (λ (y : ℕ). eqb y 47) bs)
+pub name-rest : (bs : List ℕ) → 1 ≤ length bs → is_letter (get_or bs 0 0) ≡ true → is_name bs ≡ no_slash bs
 unfolding is_name
 name-rest [] h e = absurd (omega (arith, h))
-name-rest (b ∷ bs) h e = rw e (slash-any (b ∷ bs))
+name-rest (b ∷ bs) h e = rw e

@@ -9,7 +9,7 @@ pub mod tags;
 ghost use Rattle.std.specs.Prelude.{◌≡◌, [], ◌∷◌, get_or, take, drop};
 ghost use Rattle.glow_grammar.specs.Grammar.{no, body, kids, links, rule_of, required, is_set, contents_of, kind_in};
 ghost use Rattle.ber_values.specs.Value.{is_listed};
-ghost use Rattle.glow_grammar.specs.Leaf.{expects, least, most, word_in, is_letter, is_name};
+ghost use Rattle.glow_grammar.specs.Leaf.{expects, least, most, word_in, is_letter, no_slash, is_name};
 
 use glow_rows::{Cell, kinds, tags as universal};
 
@@ -296,6 +296,17 @@ fn is_letter(b: u8) -> bool
     b.is_ascii_alphabetic() || b == b'_'
 }
 
+// Whether no octet is "/". No octet ends the loop, so that a processor compares many at a time, wherever the loop lies.
+fn no_slash(text: &[u8]) -> bool
+    ensures { no_slash text.now ≡ result }
+{
+    let mut slash = false;
+    for b in text {
+        slash |= *b == b'/';
+    }
+    !slash
+}
+
 // Whether a text is an identifier.
 pub fn is_name(s: &[u8], start: usize, len: usize) -> bool
     ensures { is_name (take len (drop start s.now)) ≡ result }
@@ -307,5 +318,5 @@ pub fn is_name(s: &[u8], start: usize, len: usize) -> bool
     let [first, ..] = name else {
         return false;
     };
-    is_letter(*first) && !name.contains(&b'/')
+    is_letter(*first) && no_slash(name)
 }

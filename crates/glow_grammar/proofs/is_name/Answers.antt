@@ -1,5 +1,4 @@
 use mathlib.Core.Path.{sym, ap, ◌∙◌}
-use mathlib.Core.Bool.{not}
 use Rattle.glow_grammar.specs.Leaf.{is_name}
 use Rattle.glow_grammar.proofs.Laws.{name-cut, name-none, name-end, name-letter, name-rest}
 use Rattle.glow_grammar.proofs.is_name.Goals as goal
@@ -13,7 +12,7 @@ returns-in_default c = ap is_name (sym (name-cut _ _ _ _ c.min.ensures)) ∙ nam
 pub returns-then-is_letter : goal.returns-then-is_letter
 returns-then-is_letter c =
     ap is_name (sym (name-cut _ _ _ _ c.min.ensures)) ∙ name-rest _ c.in-len1-up.len_at_least (c.is_letter.ensures ∙ c.if-is_letter.true)
-    ∙ ap not (sym c.contains.ensures.value)
+    ∙ c.no_slash.ensures
 
 pub returns-else-is_letter : goal.returns-else-is_letter
 returns-else-is_letter c =
