@@ -1,4 +1,4 @@
-use Prim.Native.Nat.{◌-◌}
+use Prim.Native.Nat.{◌+◌, ◌-◌, ◌≤◌}
 use lib.ListN.{length}
 use Rattle.framing_session.specs.Steps.{Reaches}
 use Rattle.framing_strides.specs.Strides.{arriving}
@@ -10,3 +10,14 @@ invariant-loop-i l = Reaches l.chunk l.from (arriving l.length l.message l.from)
 
 abbrev pub decreases-loop-i : goal.decreases-loop-i
 decreases-loop-i l = lib.ListN.length l.chunk - l.i
+
+-- The same while there is room for what is left before `most`.
+abbrev pub invariant-loop-i-2 : goal.invariant-loop-i-2
+invariant-loop-i-2 l = record {
+  come : Reaches l.chunk l.from (arriving l.length l.message l.from).session l.fn.store l.i (arriving l.n l.message l.i).session l.store;
+  inside : l.most ≤ lib.ListN.length l.chunk;
+  room : l.n + (l.most - l.i) ≤ 1024;
+}
+
+abbrev pub decreases-loop-i-2 : goal.decreases-loop-i-2
+decreases-loop-i-2 l = l.most - l.i
