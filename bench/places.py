@@ -1,6 +1,6 @@
 """Puts each function of the libraries at a place of its own in a line of 64 bytes, so that `bench all` can be run at many.
 
-    python3 bench/places.py FOLDER OUT SEED     # FOLDER: libframing_c.a, libglow_c.a, libember.a; OUT: the same, placed
+    python3 bench/places.py target/staticlib OUT SEED       # OUT, by its whole path, gets the same archives, placed
     cd bench; FRAMING_LIB=OUT cargo run --release --offline -- all --csv
 
 The place, 0, 16, 32 or 48, is drawn by SEED and the function's name; with p0, p16, p32 or p48 for SEED it is that one
